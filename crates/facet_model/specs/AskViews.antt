@@ -1,0 +1,7 @@
+-- The plain data of asks.
+use Rattle.facet_model.specs.declared.ask.Ask.{Ask}
+use Rattle.facet_model.specs.declared.ask.Ask.TheVariants as asks
+use Rattle.facet_model.specs.Asks.{Asked, top}
+
+abbrev pub ask_view : Ask → Asked
+ask_view (asks.Top path n) = top path n

@@ -1,0 +1,13 @@
+pub mod Listing
+pub mod Documents
+pub mod Flags
+pub mod Accepts
+pub mod Words
+pub mod Results
+pub mod Asks
+pub mod ResultViews
+pub mod AskViews
+pub mod Shapes
+pub mod Histories
+pub mod Core
+pub mod CoreStates

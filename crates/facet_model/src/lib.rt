@@ -1,0 +1,14 @@
+//! Documents and what is counted of them: the types that the crates share, and the definitions that their contracts cite.
+#![tactic(auto)]
+
+mod ask;
+mod document;
+mod flags;
+mod result;
+mod word;
+
+pub use ask::Ask;
+pub use document::{DocShape, Document};
+pub use flags::DimFlags;
+pub use result::{Child, FacetResult};
+pub use word::Word;

@@ -1,0 +1,91 @@
+-- Comparing texts one by one, and walking over the parts of a path.
+use Rattle.std.proofs.Common.{◌≡◌, ℕ, ◌+◌, ◌<◌, ◌≤◌, Bool, List, [], ◌∷◌, map, length, String, string_bytes, refl, ap, sym, subst, ◌∙◌, arith, rules, ◌-◌}
+use Rattle.std.proofs.lemmas.Bool.Decides.{nat_tests}
+use Rattle.std.specs.declared.alloc.Global.{Global}
+use Rattle.std.specs.declared.cmp.Ordering.{Ordering}
+use Rattle.std.specs.Ordering.{ordering_then}
+use Rattle.std.specs.Prelude.{◌&&◌, ◌==◌, nat_lt, nat_le, Option, Some, None, zero, suc, take, true, false, cond}
+use Rattle.std.specs.List.{flat_map}
+use Rattle.std.specs.Hash.{slice, str, usize}
+use Rattle.std.proofs.Common.{◌++◌}
+use Rattle.std.proofs.lemmas.List.{length-map, length-take-le, take-map}
+use Rattle.std.specs.List.{starts_with}
+use Rattle.std.specs.String.{string_eq}
+use Rattle.std.proofs.Common.{nat_eq}
+use Rattle.facet_names.specs.Paths.{texts, is_under, parent_of, path_eq}
+use Rattle.std.proofs.lemmas.List.Concat.{flat_map-cons}
+use Rattle.facet_names.specs.Faults.{part_fault, IsPath}
+use Rattle.facet_names.specs.declared.fault.PathFault.{PathFault}
+use Rattle.facet_names.specs.declared.fault.PathFault.TheVariants.{NoPart, EmptyPart, PartTooLong, TooManyParts}
+use Rattle.std.specs.Cmp.Lexicographic.{slice_cmp, pointwise}
+
+-- a comparison of images is one of the originals
+pub pointwise_images : {X Y : Type 0} (E : Y → Y → Bool) (f : X → Y) (xs ys : List X) → pointwise (λ x y. E (f x) (f y)) xs ys ≡ pointwise E (map f xs) (map f ys)
+pointwise_images E f [] [] = refl
+pointwise_images E f [] (y ∷ ys) = refl
+pointwise_images E f (x ∷ xs) [] = refl
+pointwise_images E f (x ∷ xs) (y ∷ ys) = ap (λ b. E (f x) (f y) && b) (pointwise_images E f xs ys)
+
+pub slice_cmp_images : {X Y : Type 0} (R : Y → Y → Ordering) (f : X → Y) (xs ys : List X) → slice_cmp (λ x y. R (f x) (f y)) xs ys ≡ slice_cmp R (map f xs) (map f ys)
+slice_cmp_images R f [] [] = refl
+slice_cmp_images R f [] (y ∷ ys) = refl
+slice_cmp_images R f (x ∷ xs) [] = refl
+slice_cmp_images R f (x ∷ xs) (y ∷ ys) = ap (λ o. ordering_then (R (f x) (f y)) o) (slice_cmp_images R f xs ys)
+
+-- the hash of texts is that of their bytes
+pub hash_images : (parts : List (String Global)) → slice (λ s. str (string_bytes s)) parts ≡ slice str (map string_bytes parts)
+hash_images parts = λ i. usize (sym (length-map parts string_bytes) i) ++ images parts i
+  where
+    images : (parts : List (String Global)) → flat_map (λ s. str (string_bytes s)) parts ≡ flat_map str (map string_bytes parts)
+    images [] = refl
+    images (p ∷ parts) = flat_map-cons (λ s. str (string_bytes s)) p parts ∙ ap (λ t. str (string_bytes p) ++ t) (images parts) ∙ sym (flat_map-cons str (string_bytes p) (map string_bytes parts))
+
+-- ---- a front of a path
+
+no_fault : (at : ℕ) (p : List ℕ) (rest : Option PathFault) → cond (length p == 0) (Some (EmptyPart at)) (cond (nat_lt 1024 (length p)) (Some (PartTooLong at (length p))) rest) ≡ None
+    → (rest ≡ None) × (length p == 0 ≡ false) × (nat_lt 1024 (length p) ≡ false)
+no_fault at p rest e = by (length p == 0) (nat_lt 1024 (length p)) e
+  where
+    by : (a b : Bool) → cond a (Some (EmptyPart at)) (cond b (Some (PartTooLong at (length p))) rest) ≡ None → (rest ≡ None) × (a ≡ false) × (b ≡ false)
+    by true b e = absurd cc
+    by false true e = absurd cc
+    by false false e = (e, refl, refl)
+
+part_fault_front : (n at : ℕ) (ps : List (List ℕ)) → part_fault at ps ≡ None → part_fault at (take n ps) ≡ None
+part_fault_front zero at ps e = refl
+part_fault_front (suc n) at [] e = refl
+part_fault_front (suc n) at (p ∷ ps) e =
+    let parts = no_fault at p (part_fault (at + 1) ps) e in
+    rw (parts.1, parts.2) (part_fault_front n (at + 1) ps parts.0)
+
+part_of_path : (ps : List (List ℕ)) → IsPath ps → (part_fault 0 ps ≡ None) × (nat_lt 32 (length ps) ≡ false)
+part_of_path ps fits = by (length ps == 0) (nat_lt 32 (length ps)) fits
+  where
+    by : (a b : Bool) → cond a (Some NoPart) (cond b (Some (TooManyParts (length ps))) (part_fault 0 ps)) ≡ None → (part_fault 0 ps ≡ None) × (b ≡ false)
+    by true b e = absurd cc
+    by false true e = absurd cc
+    by false false e = (e, refl)
+
+front_fits : (n : ℕ) (ps : List (List ℕ)) → 0 < n → n ≤ length ps → IsPath ps → IsPath (take n ps)
+front_fits n ps some within fits =
+    let parts = part_of_path ps fits in
+    let size : length (take n ps) ≡ n = length-take-le n ps within in
+    let front : part_fault 0 (take n ps) ≡ None = part_fault_front n 0 ps parts.0 in
+    let not_empty : (length (take n ps) == 0) ≡ false = ap (λ k. k == 0) size ∙ grind (arith, some) in
+    let not_many : nat_lt 32 (length (take n ps)) ≡ false = ap (nat_lt 32) size ∙ search (rules, nat_tests, parts.1, within) in
+    rw (not_empty, not_many) front
+
+-- the texts before the last are the parent
+pub front_is_parent : (n : ℕ) (xs : List (String Global)) → n ≡ length xs → 1 < n → IsPath (texts xs) → IsPath (texts (take (n - 1) xs)) × (Some (texts (take (n - 1) xs)) ≡ parent_of (texts xs))
+front_is_parent n xs is many fits =
+    let same : texts (take (n - 1) xs) ≡ take (n - 1) (texts xs) = sym (take-map string_bytes (n - 1) xs) in
+    let size : length (texts xs) ≡ n = length-map xs string_bytes ∙ sym is in
+    let below : nat_le (length (texts xs)) 1 ≡ false = ap (λ k. nat_le k 1) size ∙ grind (arith, many) in (
+      subst IsPath (sym same) (front_fits (n - 1) (texts xs) (grind (arith, many)) (grind (arith, many, size)) fits),
+      ap Some same ∙ ap (λ k. Some (take (k - 1) (texts xs))) (sym size) ∙ rw below refl,
+    )
+
+pub under_images : (xs ys : List (String Global)) → starts_with string_eq xs ys ≡ is_under (map string_bytes xs) (map string_bytes ys)
+under_images xs ys =
+    pointwise_images (pointwise nat_eq) string_bytes ys (take (length ys) xs)
+    ∙ ap (λ t. path_eq (map string_bytes ys) t) (sym (take-map string_bytes (length ys) xs) ∙ ap (λ n. take n (map string_bytes xs)) (sym (length-map ys string_bytes)))

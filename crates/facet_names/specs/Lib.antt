@@ -1,0 +1,4 @@
+pub mod Paths
+pub mod Faults
+pub mod Labels
+pub mod Arrays

@@ -1,0 +1,8 @@
+//! Category paths, as Lucene's `FacetLabel`: their shape, order and hash, and the definitions of a label list and of its arrays.
+#![tactic(auto)]
+
+mod fault;
+mod path;
+
+pub use fault::{NoMemory, PathFault};
+pub use path::Path;

@@ -1,0 +1,203 @@
+ghost use Rattle.std.specs.Prelude.{◌≡◌, ◌≢◌, ◌<◌, ◌++◌, [], ◌∷◌, Some, None, length, slice_get, IfOk, IfErr, IsOk};
+ghost use Rattle.facet_names.specs.Paths.{texts, is_under, parent_of};
+ghost use Rattle.facet_names.specs.Faults.{path_fault, part_fault};
+
+use crate::fault::{NoMemory, PathFault};
+use std::alloc::Global;
+use std::cmp::Ordering;
+use std::hash::{Hash, Hasher};
+use std::marker::Model;
+
+/// A category: 1 to 32 components, each of 1 to 1,024 bytes. The first is the dimension. As Lucene's `FacetLabel`; the root, which has no
+/// component, is no `Path`.
+///
+/// Paths are equal where their components are, and are ordered component by component, by bytes.
+#[derive(Debug, Drop)]
+pub struct Path {
+    parts: Vec<String>,
+}
+
+impl Model for Path {
+    ghost use Rattle.std.specs.Prelude.{List, ℕ};
+    ghost use Rattle.facet_names.specs.Paths.{texts};
+    ghost use Rattle.facet_names.specs.Faults.{IsPath};
+
+    ghost Value = { List (List ℕ) };
+
+    ghost view = { λ p. texts p.parts.items };
+
+    ghost invariant = { λ p. IsPath (texts p.parts.items) };
+}
+
+fn check_each(parts: &[String]) -> Result<(), PathFault>
+    ensures ok { IsOk result → part_fault 0 (texts parts.now) ≡ None }
+    ensures err { IfErr result (λ e. part_fault 0 (texts parts.now) ≡ Some e) }
+{
+    for (at, part) in parts.iter().enumerate() {
+        if part.is_empty() {
+            return Err(PathFault::EmptyPart { at: at as u64 });
+        }
+        if part.len() > 1024 {
+            return Err(PathFault::PartTooLong {
+                at: at as u64,
+                len: part.len() as u64,
+            });
+        }
+    }
+    Ok(())
+}
+
+fn check(parts: &[String]) -> Result<(), PathFault>
+    ensures ok { IsOk result → path_fault (texts parts.now) ≡ None }
+    ensures err { IfErr result (λ e. path_fault (texts parts.now) ≡ Some e) }
+{
+    if parts.is_empty() {
+        return Err(PathFault::NoPart);
+    }
+    if parts.len() > 32 {
+        return Err(PathFault::TooManyParts {
+            len: parts.len() as u64,
+        });
+    }
+    check_each(parts)
+}
+
+fn copied(alloc: Global, parts: &[String]) -> Result<Vec<String>, NoMemory>
+    ensures { IfOk result (λ v. texts v.items ≡ texts parts.now) }
+{
+    let mut copy = Vec::with_capacity(alloc, parts.len())?;
+    for part in parts {
+        copy.push(String::from_str(alloc, part.as_str())?)?;
+    }
+    Ok(copy)
+}
+
+impl Path {
+    ghost use Rattle.facet_names.specs.declared.fault.PathFault.TheVariants.{NoMemory as Memory};
+
+    /// The path of these components. The number of components is looked at first, and then each of them in order.
+    pub fn new(alloc: Global, parts: &[String]) -> Result<Path, PathFault>
+        ensures ok { IfOk result (λ p. p ≡ texts parts.now) }
+        ensures fits { IsOk result → path_fault (texts parts.now) ≡ None }
+        ensures err { IfErr result (λ e. e ≢ Memory → path_fault (texts parts.now) ≡ Some e) }
+    {
+        check(parts)?;
+        let parts = copied(alloc, parts)?;
+        Ok(Path { parts })
+    }
+
+    /// The number of components, from 1 to 32.
+    pub fn len(&self) -> usize
+        ensures { result ≡ length self.now }
+    {
+        self.parts.len()
+    }
+
+    /// The component at a place, from 0, which is the dimension.
+    pub fn part(&self, at: usize) -> &str
+        requires { at < length self.now }
+        ensures { slice_get self.now at ≡ Some result.now }
+    {
+        self.parts[at].as_str()
+    }
+
+    #[tactic(auto, using(crate::proofs::Parts::front_is_parent))]
+    /// The path without its last component; None where it has one component alone, since the root is no `Path`.
+    pub fn parent(&self, alloc: Global) -> Result<Option<Path>, NoMemory>
+        ensures { IfOk result (λ o. o ≡ parent_of self.now) }
+    {
+        let last = self.parts.len() - 1;
+        if last == 0 {
+            return Ok(None);
+        }
+        let parts = copied(alloc, &self.parts[..last])?;
+        Ok(Some(Path { parts }))
+    }
+
+    /// The path with one more component. It is refused as `new` refuses the longer list.
+    pub fn child(&self, alloc: Global, part: &str) -> Result<Path, PathFault>
+        ensures ok { IfOk result (λ p. p ≡ self.now ++ part.now ∷ []) }
+        ensures fits { IsOk result → path_fault (self.now ++ part.now ∷ []) ≡ None }
+        ensures err { IfErr result (λ e. e ≢ Memory → path_fault (self.now ++ part.now ∷ []) ≡ Some e) }
+    {
+        let mut parts = copied(alloc, &self.parts)?;
+        parts.push(String::from_str(alloc, part)?)?;
+        check(&parts)?;
+        Ok(Path { parts })
+    }
+
+    /// Whether the other path is a prefix of this one. Every path is under itself. It takes no memory.
+    pub fn is_under(&self, other: &Path) -> bool
+        ensures { result ≡ is_under self.now other.now }
+    {
+        self.parts.starts_with(&other.parts)
+    }
+
+    /// An equal path with memory of its own.
+    pub fn dup(&self, alloc: Global) -> Result<Path, NoMemory>
+        ensures { IfOk result (λ p. p ≡ self.now) }
+    {
+        let parts = copied(alloc, &self.parts)?;
+        Ok(Path { parts })
+    }
+}
+
+impl PartialEq for Path {
+    ghost use Rattle.facet_names.specs.Paths.{path_eq, path_eq_equiv};
+    ghost use Rattle.std.specs.Cmp.{partial_equiv_from_equiv};
+
+    ghost eq = { path_eq };
+
+    ghost laws = { partial_equiv_from_equiv path_eq_equiv };
+
+    fn eq(&self, other: &Path) -> bool {
+        self.parts == other.parts
+    }
+}
+
+impl Eq for Path {
+    ghost use Rattle.facet_names.specs.Paths.{path_eq_equiv};
+
+    ghost laws = { path_eq_equiv };
+}
+
+impl PartialOrd for Path {
+    ghost use Rattle.facet_names.specs.Paths.{path_cmp, path_order};
+
+    ghost partial_cmp = { λ x y. Some (path_cmp x y) };
+
+    ghost laws = { path_order };
+
+    fn partial_cmp(&self, other: &Path) -> Option<Ordering> {
+        Some(self.cmp(other))
+    }
+}
+
+impl Ord for Path {
+    ghost use Rattle.std.specs.Prelude.{refl};
+    ghost use Rattle.facet_names.specs.Paths.{path_cmp, path_cmp_total, path_ties};
+
+    ghost cmp = { path_cmp };
+
+    ghost total = { path_cmp_total };
+
+    ghost matches_partial_cmp = { λ x y. refl };
+
+    ghost matches_eq = { path_ties };
+
+    fn cmp(&self, other: &Path) -> Ordering {
+        self.parts.cmp(&other.parts)
+    }
+}
+
+impl Hash for Path {
+    ghost use Rattle.facet_names.specs.Paths.{path_hash, path_hash_alike};
+
+    ghost hash_input = { path_hash };
+
+    ghost respects_eq = { path_hash_alike.fed };
+
+    fn hash<H: Hasher>(&self, state: &mut H) {
+        self.parts.hash(state);
+    }
+}
