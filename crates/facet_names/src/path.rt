@@ -93,12 +93,19 @@ impl Path {
         self.parts.len()
     }
 
-    /// The component at a place, from 0, which is the dimension.
+    /// The component at a place, from 0.
     pub fn part(&self, at: usize) -> &str
         requires { at < length self.now }
         ensures { slice_get self.now at ≡ Some result.now }
     {
         self.parts[at].as_str()
+    }
+
+    /// The first component, the dimension.
+    pub fn dim(&self) -> &str
+        ensures { slice_get self.now 0 ≡ Some result.now }
+    {
+        self.parts[0].as_str()
     }
 
     #[tactic(auto, using(crate::proofs::Parts::front_is_parent))]
