@@ -1,0 +1,56 @@
+-- Looking a dimension up in the map, and in the list of declarations.
+use Rattle.std.proofs.Common.{◌≡◌, ℕ, Bool, true, false, List, [], ◌∷◌, ◌++◌, Option, Some, None, String, string_bytes, Global, is_some, refl, ap, ◌∙◌}
+use Rattle.std.specs.Map.{lookup}
+use Rattle.std.specs.List.{list_any, AllZip}
+use Rattle.std.specs.Option.{option_map_or}
+use Rattle.std.specs.Str.{bytes_eq}
+use Rattle.facet_model.specs.declared.flags.DimFlags.{DimFlags}
+use Rattle.facet_model.specs.Flags.{Config, flags, no_flags}
+use Rattle.facet_config.specs.Declarations.{declarations}
+
+abbrev Entry : Type 0
+Entry = String Global × DimFlags
+
+abbrev pub is_dim : List ℕ → String Global → Bool
+is_dim dim key = bytes_eq dim (string_bytes key)
+
+abbrev pub or_default : Option DimFlags → DimFlags
+or_default o = option_map_or (λ f. f) o no_flags
+
+pub lookup_is_flags : (dim : List ℕ) (es : List Entry) → or_default (lookup (is_dim dim) es) ≡ flags (declarations es) dim
+lookup_is_flags dim [] = refl
+lookup_is_flags dim (e ∷ es) = by (is_dim dim e.0) refl (lookup_is_flags dim es)
+  where
+    by : (b : Bool) → is_dim dim e.0 ≡ b → or_default (lookup (is_dim dim) es) ≡ flags (declarations es) dim → or_default (lookup (is_dim dim) (e ∷ es)) ≡ flags (declarations (e ∷ es)) dim
+    by true h rest = rw h refl
+    by false h rest = rw h rest
+
+pub lookup_is_any : (dim : List ℕ) (es : List Entry) → is_some (lookup (is_dim dim) es) ≡ list_any (λ d. bytes_eq dim d.0) (declarations es)
+lookup_is_any dim [] = refl
+lookup_is_any dim (e ∷ es) = by (is_dim dim e.0) refl (lookup_is_any dim es)
+  where
+    by : (b : Bool) → is_dim dim e.0 ≡ b → is_some (lookup (is_dim dim) es) ≡ list_any (λ d. bytes_eq dim d.0) (declarations es) → is_some (lookup (is_dim dim) (e ∷ es)) ≡ list_any (λ d. bytes_eq dim d.0) (declarations (e ∷ es))
+    by true h rest = rw h refl
+    by false h rest = rw h rest
+
+-- one more declaration goes last
+pub one_more : (es new : List Entry) (key : String Global) (f : DimFlags) (dim : List ℕ) → string_bytes key ≡ dim → new ≡ es ++ (key, f) ∷ [] → declarations new ≡ declarations es ++ (dim, f) ∷ []
+one_more es new key f dim is made = ap declarations made ∙ by es
+  where
+    by : (es : List Entry) → declarations (es ++ (key, f) ∷ []) ≡ declarations es ++ (dim, f) ∷ []
+    by [] = λ i. (is i, f) ∷ []
+    by (e ∷ es) = ap (λ (xs : Config). (string_bytes e.0, e.1) ∷ xs) (by es)
+
+pub not_there : (dim : List ℕ) (es : List Entry) → list_any (λ d. bytes_eq dim d.0) (declarations es) ≡ false → lookup (is_dim dim) es ≡ None
+not_there dim es none = by (lookup (is_dim dim) es) (lookup_is_any dim es ∙ none)
+  where
+    by : (o : Option DimFlags) → is_some o ≡ false → o ≡ None
+    by None e = refl
+    by (Some f) e = absurd cc
+
+-- a map's clone has the same declarations
+pub same_in_clone : (es fs : List Entry) → AllZip (λ p q. (string_bytes q.0 ≡ string_bytes p.0) × (q.1 ≡ p.1)) es fs → declarations fs ≡ declarations es
+same_in_clone [] [] all = refl
+same_in_clone [] (f ∷ fs) all = absurd all
+same_in_clone (e ∷ es) [] all = absurd all
+same_in_clone (e ∷ es) (f ∷ fs) all = λ i. (all.0.0 i, all.0.1 i) ∷ same_in_clone es fs all.1 i

@@ -1,0 +1,6 @@
+use Rattle.std.proofs.Common.{◌∙◌}
+use Rattle.facet_config.proofs.Lookups.{same_in_clone}
+use Rattle.facet_config.proofs.config.FacetsConfig.dup.Goals as goal
+
+pub returns : goal.returns
+returns c = same_in_clone c.self.inside.dims.entries c.in_ok-dims.dims.entries c.in_ok-dims.ensures.cases ∙ c.self.view_is

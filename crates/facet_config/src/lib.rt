@@ -1,0 +1,10 @@
+//! How each dimension takes labels, as Lucene's `FacetsConfig`: its flags, and which documents they let in.
+#![tactic(auto)]
+
+mod config;
+mod fault;
+#[cfg(test)]
+mod tests;
+
+pub use config::FacetsConfig;
+pub use fault::{DeclareFault, DocFault};
