@@ -1,1 +1,4 @@
 pub mod Unique
+pub mod Made
+pub mod Below
+pub mod Tops

@@ -1,23 +1,19 @@
 -- Children with their counts, and their order.
-use Rattle.std.specs.Prelude.{◌≡◌, ℕ, nat_lt, if◌then◌else◌, List, count_by, All, String, string_bytes}
+use Rattle.std.specs.Prelude.{◌≡◌, ℕ, nat_lt, if◌then◌else◌, List, count_by, All}
 use Rattle.std.specs.List.Sorted.{IsSorted}
 use Rattle.std.specs.declared.cmp.Ordering.{Ordering}
 use Rattle.std.specs.Ordering.{nat_cmp, on, flip_args, then_cmp}
 use Rattle.std.specs.Cmp.Lexicographic.{slice_cmp}
 use Rattle.std.specs.Str.{bytes_eq}
-use Rattle.std.specs.declared.alloc.Global.{Global}
 use Rattle.facet_model.specs.declared.result.Child.{Child}
 
 -- a component and its count
 abbrev pub Counted : Type 0
 Counted = List ℕ × ℕ
 
--- a child, and a map's entry, as these
+-- a child as such a pair
 abbrev pub counted_child : Child → Counted
 counted_child c = (c.part, c.count)
-
-abbrev pub counted_entry : String Global × ℕ → Counted
-counted_entry e = (string_bytes e.0, e.1)
 
 -- by count falling, ties by the component's bytes rising
 abbrev pub listing_cmp : Counted → Counted → Ordering

@@ -3,6 +3,6 @@ use facet_names::Path;
 /// What a search asks to be counted.
 #[derive(Debug, Drop)]
 pub enum Ask {
-    /// The `n` children of a path that have the most documents.
+    /// The `n` children of a path that the most documents have, as Lucene's `Facets.getTopChildren`.
     Top { path: Path, n: u32 },
 }

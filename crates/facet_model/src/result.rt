@@ -47,9 +47,10 @@ impl PartialOrd for Child {
 #[derive(Debug, Drop)]
 pub struct FacetResult {
     pub path: Path,
-    /// The documents under the path, or -1 where their number is not kept.
+    /// In a dimension that is not multi-valued the sum of all children's counts, those that are not shown among them. Else the number of
+    /// documents that have the path where that is kept, and -1 where not.
     pub value: i64,
-    /// The greatest children, as many as were asked for.
+    /// The children with the greatest counts, at most as many as were asked for.
     pub children: Vec<Child>,
     /// The number of all children with a document.
     pub child_count: u32,

@@ -1,4 +1,4 @@
-ghost use Rattle.std.specs.Prelude.{◌≡◌, IfOk};
+ghost use Rattle.std.specs.Prelude.{◌≡◌, ◌<◌, ◌≤◌, IfOk, length};
 
 use facet_names::NoMemory;
 use std::alloc::Global;
@@ -25,7 +25,7 @@ impl Model for Word {
 impl Word {
     ghost use Rattle.facet_model.specs.Words.{word_of};
 
-    /// None exactly where the text is empty or has more than 65,536 bytes.
+    /// The word of a text, which is copied. None exactly where the text is empty or has more than 65,536 bytes.
     pub fn new(alloc: Global, text: &str) -> Result<Option<Word>, NoMemory>
         ensures { IfOk result (λ o. o ≡ word_of text.now) }
     {
@@ -36,11 +36,28 @@ impl Word {
         Ok(Some(Word { text }))
     }
 
+    pub(crate) fn copied(alloc: Global, text: &str) -> Result<Word, NoMemory>
+        requires some { 0 < length text.now }
+        requires short { length text.now ≤ 65536 }
+        ensures { IfOk result (λ w. w ≡ text.now) }
+    {
+        let text = String::from_str(alloc, text)?;
+        Ok(Word { text })
+    }
+
     /// The text itself.
     pub fn text(&self) -> &str
         ensures { result.now ≡ self.now }
     {
         self.text.as_str()
+    }
+
+    /// An equal word with memory of its own.
+    pub fn dup(&self, alloc: Global) -> Result<Word, NoMemory>
+        ensures { IfOk result (λ w. w ≡ self.now) }
+    {
+        let text = String::from_str(alloc, self.text.as_str())?;
+        Ok(Word { text })
     }
 }
 

@@ -1,14 +1,15 @@
 -- Comparing texts one by one, and walking over the parts of a path.
-use Rattle.std.proofs.Common.{◌≡◌, ℕ, ◌+◌, ◌<◌, ◌≤◌, Bool, List, [], ◌∷◌, map, length, String, string_bytes, refl, ap, sym, subst, ◌∙◌, arith, rules, ◌-◌}
+use Rattle.std.proofs.Common.{◌≡◌, ℕ, ◌+◌, ◌<◌, ◌≤◌, Bool, get_or, List, [], ◌∷◌, map, length, String, string_bytes, refl, ap, sym, subst, ◌∙◌, arith, rules, ◌-◌}
 use Rattle.std.proofs.lemmas.Bool.Decides.{nat_tests}
 use Rattle.std.specs.declared.alloc.Global.{Global}
 use Rattle.std.specs.declared.cmp.Ordering.{Ordering}
 use Rattle.std.specs.Ordering.{ordering_then}
-use Rattle.std.specs.Prelude.{◌&&◌, ◌==◌, nat_lt, nat_le, Option, Some, None, zero, suc, take, true, false, cond}
+use Rattle.std.specs.Prelude.{◌&&◌, ◌==◌, nat_lt, nat_le, Option, Some, None, zero, suc, take, true, false, cond, slice_get}
 use Rattle.std.specs.List.{flat_map}
 use Rattle.std.specs.Hash.{slice, str, usize}
 use Rattle.std.proofs.Common.{◌++◌}
-use Rattle.std.proofs.lemmas.List.{length-map, length-take-le, take-map}
+use Rattle.std.proofs.lemmas.List.{length-map, length-take-le, take-map, get_or-map}
+use Rattle.std.proofs.lemmas.Option.{slice_get-get_or}
 use Rattle.std.specs.List.{starts_with}
 use Rattle.std.specs.String.{string_eq}
 use Rattle.std.proofs.Common.{nat_eq}
@@ -89,3 +90,27 @@ pub under_images : (xs ys : List (String Global)) → starts_with string_eq xs y
 under_images xs ys =
     pointwise_images (pointwise nat_eq) string_bytes ys (take (length ys) xs)
     ∙ ap (λ t. path_eq (map string_bytes ys) t) (sym (take-map string_bytes (length ys) xs) ∙ ap (λ n. take n (map string_bytes xs)) (sym (length-map ys string_bytes)))
+
+-- ---- the parts of a path have 1 to 1,024 bytes
+
+record IsSized (p : List ℕ) : Type 0 where
+  some : 0 < length p
+  short : length p ≤ 1024
+
+sized : (at : ℕ) (ps : List (List ℕ)) → part_fault at ps ≡ None → (i : ℕ) (p : List ℕ) → slice_get ps i ≡ Some p → IsSized p
+sized at [] e i p is = absurd cc
+sized at (q ∷ ps) e zero p is =
+    let parts = no_fault at q (part_fault (at + 1) ps) e in
+    let same : q ≡ p = cc in
+    let here : IsSized q = record { some = grind (arith, nat_tests, parts.1); short = grind (arith, nat_tests, parts.2) } in
+    subst IsSized same here
+sized at (q ∷ ps) e (suc i) p is = sized (at + 1) ps (no_fault at q (part_fault (at + 1) ps) e).0 i p is
+
+text_at : (xs : List (String Global)) (i : ℕ) (s : String Global) (p : List ℕ) → i < length xs → s ≡ get_or xs i s → p ≡ string_bytes s → slice_get (texts xs) i ≡ Some p
+text_at xs i s p lt is text = slice_get-get_or (texts xs) i [] (omega (arith, length-map xs string_bytes)) ∙ ap Some (get_or-map string_bytes xs i s [] lt ∙ ap string_bytes (sym is) ∙ sym text)
+
+pub part_has_bytes : (xs : List (String Global)) (i : ℕ) (s : String Global) (p : List ℕ) → IsPath (texts xs) → i < length xs → s ≡ get_or xs i s → p ≡ string_bytes s → 0 < length p
+part_has_bytes xs i s p fits lt is text = (sized 0 (texts xs) (part_of_path (texts xs) fits).0 i p (text_at xs i s p lt is text)).some
+
+pub part_is_short : (xs : List (String Global)) (i : ℕ) (s : String Global) (p : List ℕ) → IsPath (texts xs) → i < length xs → s ≡ get_or xs i s → p ≡ string_bytes s → length p ≤ 1024
+part_is_short xs i s p fits lt is text = (sized 0 (texts xs) (part_of_path (texts xs) fits).0 i p (text_at xs i s p lt is text)).short

@@ -1,4 +1,4 @@
-ghost use Rattle.std.specs.Prelude.{◌≡◌, ◌≢◌, ◌<◌, ◌++◌, [], ◌∷◌, Some, None, length, slice_get, IfOk, IfErr, IsOk};
+ghost use Rattle.std.specs.Prelude.{◌≡◌, ◌≢◌, ◌<◌, ◌≤◌, ◌++◌, [], ◌∷◌, Some, None, length, slice_get, IfOk, IfErr, IsOk};
 ghost use Rattle.facet_names.specs.Paths.{texts, is_under, parent_of};
 ghost use Rattle.facet_names.specs.Faults.{path_fault, part_fault};
 
@@ -93,10 +93,12 @@ impl Path {
         self.parts.len()
     }
 
-    /// The component at a place, from 0.
+    /// The component at a place, from 0. It has 1 to 1,024 bytes.
     pub fn part(&self, at: usize) -> &str
         requires { at < length self.now }
-        ensures { slice_get self.now at ≡ Some result.now }
+        ensures part { slice_get self.now at ≡ Some result.now }
+        ensures some { 0 < length result.now }
+        ensures short { length result.now ≤ 1024 }
     {
         self.parts[at].as_str()
     }

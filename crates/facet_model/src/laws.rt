@@ -1,0 +1,11 @@
+ghost use Rattle.facet_model.specs.Laws.{OneListing, OneTop};
+
+/// Two listings of one count of components are the same list: the order of a listing leaves no tie.
+pub fn one_listing()
+    ensures { OneListing }
+{}
+
+/// Two results of one path over the same documents are the same.
+pub fn one_top()
+    ensures { OneTop }
+{}
