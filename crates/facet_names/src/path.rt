@@ -1,6 +1,6 @@
 ghost use Rattle.std.specs.Prelude.{◌≡◌, ◌≢◌, ◌<◌, ◌≤◌, ◌++◌, [], ◌∷◌, Some, None, length, slice_get, IfOk, IfErr, IsOk};
 ghost use Rattle.facet_names.specs.Paths.{texts, is_under, parent_of};
-ghost use Rattle.facet_names.specs.Faults.{path_fault, part_fault};
+ghost use Rattle.facet_names.specs.Faults.{IsPath, path_fault, part_fault};
 
 use crate::fault::{NoMemory, PathFault};
 use std::alloc::Global;
@@ -88,7 +88,8 @@ impl Path {
 
     /// The number of components, from 1 to 32.
     pub fn len(&self) -> usize
-        ensures { result ≡ length self.now }
+        ensures len { result ≡ length self.now }
+        ensures fits { IsPath self.now }
     {
         self.parts.len()
     }
