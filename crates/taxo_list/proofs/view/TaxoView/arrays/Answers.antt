@@ -1,0 +1,6 @@
+use Rattle.std.proofs.Common.{◌∙◌, ap}
+use Rattle.taxo_list.specs.ArrayLists.{arrays_of}
+use Rattle.taxo_list.proofs.view.TaxoView.arrays.Goals as goal
+
+pub returns : goal.returns
+returns c = c.self.invariant.each_array ∙ ap arrays_of c.self.view_is

@@ -1,0 +1,4 @@
+pub mod Growth
+pub mod ArrayLists
+pub mod Links
+pub mod Kept

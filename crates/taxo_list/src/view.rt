@@ -1,0 +1,87 @@
+ghost use Rattle.std.specs.Prelude.{◌≡◌, ◌<◌, ◌≤◌, [], ◌∷◌, Some, length, slice_get, is_some, IfOk};
+ghost use Rattle.facet_names.specs.Labels.{IsLabelList, place, stands};
+ghost use Rattle.taxo_list.specs.ArrayLists.{arrays_of};
+
+use crate::arrays::Arrays;
+use crate::stored::{copied, ordinal_in};
+use facet_names::{NoMemory, Path};
+use indexmap::IndexSet;
+use std::alloc::Global;
+use std::marker::Model;
+
+/// The list of labels as it stood when the view was made, as Lucene's `TaxonomyReader`. It owns a copy of the labels, and their arrays.
+///
+/// It never changes, so threads may share it. No call of it takes memory.
+#[derive(Drop)]
+pub struct TaxoView {
+    labels: IndexSet<Path>,
+    arrays: Arrays,
+}
+
+impl Model for TaxoView {
+    ghost use Rattle.std.specs.Prelude.{ℕ, List, [], ◌∷◌};
+    ghost use Rattle.taxo_list.specs.Kept.{IsView};
+
+    ghost Value = { List (List (List ℕ)) };
+
+    ghost view = { λ v. [] ∷ v.labels.keys };
+
+    ghost invariant = { λ v. IsView v.labels.keys v.arrays };
+}
+
+impl TaxoView {
+    // The view of these labels, whose parents these are.
+    pub(crate) fn of(alloc: Global, labels: &IndexSet<Path>, parents: &[i32]) -> Result<TaxoView, NoMemory>
+        requires list { IsLabelList ([] ∷ labels.now.keys) }
+        requires few { length labels.now.keys < 1000000 }
+        requires parents { parents.now ≡ (arrays_of ([] ∷ labels.now.keys)).parents }
+        ensures { IfOk result (λ v. v ≡ [] ∷ labels.now.keys) }
+    {
+        let labels = copied(alloc, labels)?;
+        let mut arrays = Arrays::new(alloc);
+        arrays.grow(parents)?;
+        Ok(TaxoView { labels, arrays })
+    }
+
+    // The parents of all labels.
+    pub(crate) fn parents(&self) -> &[i32]
+        ensures parents { result.now ≡ (arrays_of self.now).parents }
+        ensures list { IsLabelList self.now }
+        ensures few { length self.now ≤ 1000000 }
+    {
+        self.arrays.parents()
+    }
+
+    /// The number of labels, with the root: 1 to 1,000,000.
+    pub fn size(&self) -> u32
+        ensures size { result ≡ length self.now }
+        ensures list { IsLabelList self.now }
+        ensures few { length self.now ≤ 1000000 }
+    {
+        self.labels.len() as u32 + 1
+    }
+
+    /// The ordinal of a path, where the path is in the view. By one look-up in a hash table.
+    pub fn ordinal_of(&self, path: &Path) -> Option<u32>
+        ensures ordinal { result ≡ place self.now path.now }
+        ensures there { is_some result ≡ stands self.now path.now }
+    {
+        ordinal_in(&self.labels, path)
+    }
+
+    /// The path at an ordinal. The root has none.
+    pub fn path_of(&self, ord: u32) -> &Path
+        requires some { 0 < ord }
+        requires within { ord < length self.now }
+        ensures { slice_get self.now ord ≡ Some result.now }
+    {
+        &self.labels.as_slice()[ord as usize - 1]
+    }
+
+    /// The parents, children and siblings of the labels.
+    pub fn arrays(&self) -> &Arrays
+        ensures { result.now ≡ arrays_of self.now }
+    {
+        &self.arrays
+    }
+}
