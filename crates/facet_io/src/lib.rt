@@ -1,0 +1,18 @@
+//! Where a program reads from and writes to: sources and sinks of bytes, each with a count of its faults.
+#![tactic(auto)]
+
+mod calls;
+mod failed;
+mod memory;
+mod sink;
+mod source;
+mod standard;
+
+pub use failed::Failed;
+pub use memory::{MemorySink, MemorySource};
+pub use sink::{Sink, write_all};
+pub use source::{ReadFault, Source, read_to_end};
+pub use standard::{StdSink, StdSource};
+
+#[cfg(test)]
+mod tests;
