@@ -1,0 +1,5 @@
+pub mod Traversals
+pub mod FirstLines
+pub mod Members
+pub mod Orders
+pub mod Floats

@@ -1,0 +1,20 @@
+-- The plain data of commands.
+use Rattle.std.specs.Prelude.{map}
+use Rattle.facet_model.specs.AskViews.{ask_view}
+use Rattle.facet_words.specs.Commands as plain
+use Rattle.facet_words.specs.declared.command.Command.{Command}
+use Rattle.facet_words.specs.declared.command.Command.TheVariants as commands
+use Rattle.facet_words.specs.declared.command.Order.{Order}
+use Rattle.facet_words.specs.declared.command.Script.{Script}
+
+abbrev pub command_view : Command → plain.Command
+command_view (commands.Add doc) = plain.add doc
+command_view commands.Refresh = plain.refresh
+command_view (commands.Search asks) = plain.search (record { asks = map ask_view asks.items })
+
+abbrev pub order_view : Order → plain.Order
+order_view o = record { session = o.session; line = o.line; command = command_view o.command }
+
+-- no config line sets anything yet
+abbrev pub script_view : Script → plain.Script
+script_view s = record { settings = plain.no_settings; orders = map order_view s.orders.items }

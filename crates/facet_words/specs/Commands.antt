@@ -1,0 +1,32 @@
+-- Scripts, as plain data.
+use Rattle.std.specs.Prelude.{ℕ, List, []}
+use Rattle.facet_model.specs.Flags.{Config}
+use Rattle.facet_model.specs.Documents.{Doc}
+use Rattle.facet_model.specs.Asks.{Asked}
+
+-- what the config line sets
+pub record Settings : Type 0 where
+  pub config : Config
+
+-- no dimension is declared
+abbrev pub no_settings : Settings
+no_settings = record { config = [] }
+
+-- what a search asks to be counted
+pub record Search : Type 0 where
+  pub asks : List Asked
+
+pub data Command : Type 0 where
+  add : Doc → Command
+  refresh : Command
+  search : Search → Command
+
+-- a command with its session and its line
+pub record Order : Type 0 where
+  pub session : ℕ
+  pub line : ℕ
+  pub command : Command
+
+pub record Script : Type 0 where
+  pub settings : Settings
+  pub orders : List Order

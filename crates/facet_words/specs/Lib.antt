@@ -1,0 +1,10 @@
+pub mod Lines
+pub mod Shapes
+pub mod Commands
+pub mod Orders
+pub mod Scripts
+pub mod CommandViews
+pub mod Replies
+pub mod ReplyLines
+pub mod ReplyViews
+pub mod Answers

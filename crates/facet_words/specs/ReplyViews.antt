@@ -1,0 +1,22 @@
+-- The plain data of replies.
+use Rattle.std.specs.Prelude.{map, option_map}
+use Rattle.facet_model.specs.ResultViews.{result_view}
+use Rattle.facet_words.specs.Replies as plain
+use Rattle.facet_words.specs.declared.reply.FacetAnswer.{FacetAnswer}
+use Rattle.facet_words.specs.declared.reply.FacetAnswer.TheVariants as answers
+use Rattle.facet_words.specs.declared.reply.Refusal.{Refusal}
+use Rattle.facet_words.specs.declared.reply.Refusal.TheVariants as refusals
+use Rattle.facet_words.specs.declared.reply.Reply.{Reply}
+use Rattle.facet_words.specs.declared.reply.Reply.TheVariants as replies
+
+abbrev pub answer_view : FacetAnswer → plain.Answer
+answer_view (answers.Top r) = plain.top_answer (option_map result_view r)
+
+abbrev pub refusal_view : Refusal → plain.Refusal
+refusal_view refusals.NoMemory = plain.no_memory
+
+abbrev pub reply_view : Reply → plain.Reply
+reply_view (replies.Placed at) = plain.placed at
+reply_view (replies.Number n) = plain.numbered n
+reply_view (replies.Found n hit_count results) = plain.found (record { operations = n; hit_count = hit_count; answers = map answer_view results.items })
+reply_view (replies.Refused r) = plain.refused (refusal_view r)

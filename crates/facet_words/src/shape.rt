@@ -1,0 +1,195 @@
+ghost use Rattle.std.specs.Prelude.{◌≡◌, ◌≤◌, Option, IfOk, IfSome, option_map, map, length, string_bytes};
+ghost use Rattle.std.specs.List.{list_any, list_all};
+ghost use Rattle.std.specs.BTreeMap.{keys};
+ghost use Rattle.std.specs.Str.{bytes_eq};
+ghost use Rattle.serde_json.specs.Data.{Data};
+ghost use Rattle.serde_json.specs.Find.{as_str};
+ghost use Rattle.serde_json.specs.View.{view};
+ghost use Rattle.facet_names.specs.Paths.{texts};
+ghost use Rattle.facet_words.specs.Shapes.{key, whole_within, text_within, list_within, all_some, path, path_from, keys_among as among};
+
+use facet_names::{NoMemory, Path, PathFault};
+use serde_json::{Map, Value};
+use std::alloc::Global;
+
+/// A whole number in these limits.
+pub fn whole_in(value: &Value, low: u64, high: u64) -> Option<u64>
+    ensures { result ≡ whole_within low high (view value.now) }
+{
+    let n = value.as_u64()?;
+    if low <= n && n <= high { Some(n) } else { None }
+}
+
+/// The whole number under a key.
+pub fn whole_at(value: &Value, name: &str, low: u64, high: u64) -> Option<u64>
+    ensures { result ≡ key name.now (whole_within low high) (view value.now) }
+{
+    match value.get(name) {
+        Some(found) => whole_in(found, low, high),
+        None => None,
+    }
+}
+
+/// A text of so many bytes.
+pub fn text_in<'a>(value: &'a Value, low: usize, high: usize) -> Option<&'a str>
+    ensures { option_map (λ s. s.now) result ≡ text_within low high (view value.now) }
+{
+    let text = value.as_str()?;
+    if low <= text.len() && text.len() <= high {
+        Some(text)
+    } else {
+        None
+    }
+}
+
+/// The text of so many bytes under a key.
+pub fn text_at<'a>(value: &'a Value, name: &str, low: usize, high: usize) -> Option<&'a str>
+    ensures { option_map (λ s. s.now) result ≡ key name.now (text_within low high) (view value.now) }
+{
+    match value.get(name) {
+        Some(found) => text_in(found, low, high),
+        None => None,
+    }
+}
+
+/// The text under a key, of any length.
+pub fn name_at<'a>(value: &'a Value, name: &str) -> Option<&'a str>
+    ensures { option_map (λ s. s.now) result ≡ key name.now as_str (view value.now) }
+{
+    value.get(name).and_then(Value::as_str)
+}
+
+fn is_listed(text: &str, names: &[&str]) -> bool
+    ensures { result ≡ list_any (λ k. bytes_eq text.now k.now) names.now }
+{
+    names.iter().any(|name| text == *name)
+}
+
+fn all_listed(members: &Map<String, Value>, names: &[&str]) -> bool
+    ensures { result ≡ list_all (λ k. list_any (λ a. bytes_eq (string_bytes k) a.now) names.now) (keys members.now) }
+{
+    members.keys().all(|key| is_listed(key.as_str(), names))
+}
+
+/// Whether it is an object with no other keys.
+pub fn keys_among(value: &Value, names: &[&str]) -> bool
+    ensures { result ≡ among (map (λ k. k.now) names.now) (view value.now) }
+{
+    let Some(members) = value.as_object() else {
+        return false;
+    };
+    all_listed(members, names)
+}
+
+/// What is read of a JSON value in its shape.
+pub trait Shaped: Drop {
+    /// The plain data of what is read.
+    ghost Plain: { Type 0 };
+
+    ghost plain: { Self → Plain };
+
+    /// What a JSON value means in this shape.
+    ghost shape: { Data → Option Plain };
+
+    /// None where the value does not have the shape.
+    fn read(alloc: Global, value: &Value) -> Result<Option<Self>, NoMemory>
+        ensures { IfOk result (λ o. option_map plain o ≡ shape (view value.now)) };
+}
+
+fn each_in<T: Shaped>(alloc: Global, list: &[Value]) -> Result<Option<Vec<T>>, NoMemory>
+    ensures each { IfOk result (λ o. option_map (λ v. map T.plain v.items) o ≡ all_some (map (λ v. T.shape (view v)) list.now)) }
+    ensures count { IfOk result (λ o. IfSome o (λ v. length v.items ≡ length list.now)) }
+{
+    let mut out = Vec::new(alloc);
+    for value in list {
+        let Some(item) = T::read(alloc, value)? else {
+            return Ok(None);
+        };
+        out.push(item)?;
+    }
+    Ok(Some(out))
+}
+
+/// The values of an array of so many.
+#[tactic(auto, using(crate::proofs::Traversals::items_length))]
+pub fn list_in<T: Shaped>(
+    alloc: Global,
+    value: &Value,
+    low: usize,
+    high: usize,
+) -> Result<Option<Vec<T>>, NoMemory>
+    ensures each { IfOk result (λ o. option_map (λ v. map T.plain v.items) o ≡ list_within low high T.shape (view value.now)) }
+    ensures count { IfOk result (λ o. IfSome o (λ v. length v.items ≤ high)) }
+{
+    let Some(list) = value.as_array() else {
+        return Ok(None);
+    };
+    if low <= list.len() && list.len() <= high {
+        each_in(alloc, list)
+    } else {
+        Ok(None)
+    }
+}
+
+/// The value of this shape under a key.
+pub fn read_at<T: Shaped>(alloc: Global, value: &Value, name: &str) -> Result<Option<T>, NoMemory>
+    ensures { IfOk result (λ o. option_map T.plain o ≡ key name.now T.shape (view value.now)) }
+{
+    match value.get(name) {
+        Some(found) => T::read(alloc, found),
+        None => Ok(None),
+    }
+}
+
+impl Shaped for String {
+    ghost use Rattle.std.specs.Prelude.{ℕ, List, string_bytes};
+    ghost use Rattle.serde_json.specs.Find.{as_str};
+
+    ghost Plain = { List ℕ };
+
+    ghost plain = { string_bytes };
+
+    ghost shape = { as_str };
+
+    fn read(alloc: Global, value: &Value) -> Result<Option<String>, NoMemory> {
+        match value.as_str() {
+            Some(text) => Ok(Some(String::from_str(alloc, text)?)),
+            None => Ok(None),
+        }
+    }
+}
+
+#[tactic(auto, unfolding(crate::specs::Shapes::path))]
+fn path_in(alloc: Global, value: &Value) -> Result<Option<Path>, NoMemory>
+    ensures { IfOk result (λ o. o ≡ path (view value.now)) }
+{
+    let Some(parts) = list_in::<String>(alloc, value, 1, 32)? else {
+        return Ok(None);
+    };
+    path_of(alloc, &parts)
+}
+
+fn path_of(alloc: Global, parts: &[String]) -> Result<Option<Path>, NoMemory>
+    ensures { IfOk result (λ o. o ≡ path_from (texts parts.now)) }
+{
+    match Path::new(alloc, parts) {
+        Ok(path) => Ok(Some(path)),
+        Err(PathFault::NoMemory) => Err(NoMemory),
+        Err(_) => Ok(None),
+    }
+}
+
+impl Shaped for Path {
+    ghost use Rattle.std.specs.Prelude.{ℕ, List};
+    ghost use Rattle.facet_words.specs.Shapes.{path};
+
+    ghost Plain = { List (List ℕ) };
+
+    ghost plain = { λ p. p };
+
+    ghost shape = { path };
+
+    fn read(alloc: Global, value: &Value) -> Result<Option<Path>, NoMemory> {
+        path_in(alloc, value)
+    }
+}
