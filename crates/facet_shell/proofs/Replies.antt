@@ -1,0 +1,66 @@
+-- Replies, made order by order.
+use Rattle.std.proofs.Common.{◌≡◌, ◌+◌, ◌<◌, ℕ, List, [], ◌∷◌, ◌++◌, map, take, get_or, length, refl, sym, ap, ◌∙◌, subst, append_assoc}
+use Rattle.std.proofs.lemmas.List.{append-nil, map_push, take_more}
+use Rattle.std.specs.List.{AllZip}
+use Rattle.facet_model.specs.AskViews.{ask_view}
+use Rattle.facet_model.specs.Documents.{Doc}
+use Rattle.facet_model.specs.declared.ask.Ask.{Ask}
+use Rattle.facet_words.specs.Answers.{Shelf, empty_shelf, IsAnswer, RightReply, RightReplies}
+use Rattle.facet_words.specs.CommandViews.{command_view, order_view}
+use Rattle.facet_words.specs.Commands.{Order, Settings, no_settings}
+use Rattle.facet_words.specs.ReplyViews.{answer_view, reply_view}
+use Rattle.facet_words.specs.declared.command.Order as read
+use Rattle.facet_words.specs.declared.reply.FacetAnswer.{FacetAnswer}
+use Rattle.facet_words.specs.declared.reply.Reply as written
+use Rattle.facet_words.specs.Replies.{Reply}
+use Rattle.facet_words.specs.ReplyLines.{reply_line, reply_lines}
+
+pub all_zip_push : {A B : Type 0} (R : A → B → Type 0) (xs : List A) (ys : List B) (x : A) (y : B) → AllZip R xs ys → R x y → AllZip R (xs ++ x ∷ []) (ys ++ y ∷ [])
+all_zip_push R [] [] x y all r = (r, tt)
+all_zip_push R [] (b ∷ ys) x y all r = absurd all
+all_zip_push R (a ∷ xs) [] x y all r = absurd all
+all_zip_push R (a ∷ xs) (b ∷ ys) x y all r = (all.0, all_zip_push R xs ys x y all.1 r)
+
+-- `bytes` are the lines of right replies to the orders so far, which have left this shelf: whatever right replies follow, the whole is right
+pub record AreRepliesTo (settings : Settings) (done : List Order) (shelf : Shelf) (bytes : List ℕ) : Type 0 where
+  pub replies : List Reply
+  pub right : (rest : List Order) (more : List Reply) → RightReplies settings shelf rest more → RightReplies settings empty_shelf (done ++ rest) (replies ++ more)
+  pub lines : (rest : List Order) (more : List Reply) → reply_lines (done ++ rest) (replies ++ more) ≡ bytes ++ reply_lines rest more
+
+pub replies_start : (settings : Settings) → AreRepliesTo settings [] empty_shelf []
+replies_start settings = record { replies = []; right = λ rest more r. r; lines = λ rest more. refl }
+
+pub replies_go_on : (settings : Settings) (done : List Order) (shelf next : Shelf) (bytes : List ℕ) (o : Order) (r : Reply) → AreRepliesTo settings done shelf bytes → RightReply settings shelf o.command r next
+    → AreRepliesTo settings (done ++ o ∷ []) next (bytes ++ reply_line o.session o.line r)
+replies_go_on settings done shelf next bytes o r part one = record {
+  replies = part.replies ++ r ∷ [];
+  right = λ rest more later.
+      subst (λ (os : List Order). RightReplies settings empty_shelf os ((part.replies ++ r ∷ []) ++ more)) (sym (append_assoc done (o ∷ []) rest))
+      (subst (λ (rs : List Reply). RightReplies settings empty_shelf (done ++ o ∷ rest) rs) (sym (append_assoc part.replies (r ∷ []) more))
+      (part.right (o ∷ rest) (r ∷ more) (next, one, later)));
+  lines = λ rest more.
+      ap (λ (os : List Order). reply_lines os ((part.replies ++ r ∷ []) ++ more)) (append_assoc done (o ∷ []) rest)
+      ∙ ap (λ (rs : List Reply). reply_lines (done ++ o ∷ rest) rs) (append_assoc part.replies (r ∷ []) more)
+      ∙ part.lines (o ∷ rest) (r ∷ more)
+      ∙ sym (append_assoc bytes (reply_line o.session o.line r) (reply_lines rest more));
+}
+
+pub replies_end : (settings : Settings) (done : List Order) (shelf : Shelf) (bytes : List ℕ) → AreRepliesTo settings done shelf bytes
+    → (replies : List Reply) × RightReplies settings empty_shelf done replies × (bytes ≡ reply_lines done replies)
+replies_end settings done shelf bytes part = (
+  part.replies,
+  subst (λ (os : List Order). RightReplies settings empty_shelf os part.replies) (append-nil done) (subst (λ (rs : List Reply). RightReplies settings empty_shelf (done ++ []) rs) (append-nil part.replies) (part.right [] [] tt)),
+  sym (append-nil bytes) ∙ sym (part.lines [] []) ∙ ap (λ (os : List Order). reply_lines os (part.replies ++ [])) (append-nil done) ∙ ap (λ (rs : List Reply). reply_lines done rs) (append-nil part.replies),
+)
+
+-- one ask more is answered
+pub answers_go_on : (docs : List Doc) (asks : List Ask) (found now : List FacetAnswer) (i : ℕ) (ask d : Ask) (one : FacetAnswer) → i < length asks → ask ≡ get_or asks i d → now ≡ found ++ one ∷ []
+    → AllZip (IsAnswer [] docs) (map ask_view (take i asks)) (map answer_view found) → IsAnswer [] docs (ask_view ask) (answer_view one) → AllZip (IsAnswer [] docs) (map ask_view (take (i + 1) asks)) (map answer_view now)
+answers_go_on docs asks found now i ask d one lt is pushed before here =
+    rw (pushed, map_push answer_view found one, take_more asks i d lt, ← is, map_push ask_view (take i asks) ask) (all_zip_push (IsAnswer [] docs) (map ask_view (take i asks)) (map answer_view found) (ask_view ask) (answer_view one) before here)
+
+-- one order more is replied to
+pub replied : (done : List read.Order) (order : read.Order) (shelf next : Shelf) (bytes now : List ℕ) (reply : written.Reply) → AreRepliesTo no_settings (map order_view done) shelf bytes
+    → RightReply no_settings shelf (command_view order.command) (reply_view reply) next → now ≡ bytes ++ reply_line order.session order.line (reply_view reply) → AreRepliesTo no_settings (map order_view (done ++ order ∷ [])) next now
+replied done order shelf next bytes now reply before here written =
+    rw (written, map_push order_view done order) (replies_go_on no_settings (map order_view done) shelf next bytes (order_view order) (reply_view reply) before here)

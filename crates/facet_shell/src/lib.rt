@@ -1,0 +1,12 @@
+//! The program as a function: a script is read from a source to its end, and its replies are written to a sink.
+#![tactic(auto)]
+
+mod program;
+mod session;
+mod status;
+
+pub use program::run;
+pub use status::{Ended, Status};
+
+#[cfg(test)]
+mod tests;
