@@ -7,6 +7,8 @@ mod flags;
 mod laws;
 mod plain;
 mod result;
+#[cfg(test)]
+mod tests;
 mod word;
 
 pub use ask::Ask;

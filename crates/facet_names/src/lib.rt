@@ -3,6 +3,8 @@
 
 mod fault;
 mod path;
+#[cfg(test)]
+mod tests;
 
 pub use fault::{NoMemory, PathFault};
 pub use path::Path;
