@@ -47,6 +47,7 @@ fn shop(alloc: Global) -> Result<Vec<Document>, Fail> {
 fn tops(rt: HostRuntime) -> Result<(), Fail> {
     let alloc = rt.alloc();
     let docs = shop(alloc)?;
+    assert_eq!(rt; docs.len(), 6);
     let plain = DimFlags {
         hierarchical: true,
         multi_valued: false,

@@ -1,0 +1,10 @@
+pub mod Roots
+pub mod Fronts
+pub mod Kept
+pub mod KeptLabels
+pub mod KeptOperations
+pub mod KeptCrash
+pub mod KeptDevice
+pub mod Interleavings
+pub mod Promises
+pub mod After
