@@ -1,14 +1,12 @@
 -- A new operation keeps the core valid.
-use Rattle.std.proofs.Common.{zero, suc, ◌≡◌, ℕ, ◌+◌, ◌-◌, ◌<◌, ◌≤◌, Bool, true, false, List, [], ◌∷◌, ◌++◌, length, map, take, Option, Some, None, refl, sym, ap, ◌∙◌, arith, rules, take_all, length-take-le}
-use Rattle.std.specs.Prelude.{◌==◌, ◌&&◌, ◌||◌, not, nat_lt, nat_le, if◌then◌else◌}
-use Rattle.std.specs.List.{list_all, enumerate_from, range_with_len}
+use Rattle.std.proofs.Common.{◌≡◌, ℕ, ◌≤◌, Bool, true, false, List, [], ◌∷◌, ◌++◌, length, take, Option, Some, None, refl, ap, ◌∙◌, arith}
+use Rattle.std.specs.Prelude.{◌&&◌, nat_le}
+use Rattle.std.specs.List.{list_all}
 use Rattle.std.specs.Option.{option_map_or}
-use Rattle.std.proofs.lemmas.Bool.{and_parts, and_from, le-leb, leb-true, eqb-true}
+use Rattle.std.proofs.lemmas.Bool.{and_parts, and_from, le-leb, leb-true}
 use Rattle.std.proofs.lemmas.List.Folds.{list_all-append}
 use Rattle.std.proofs.Math.ListN.{length-append}
-use Rattle.std.specs.Cmp.Lexicographic.{pointwise_decides, bytes_decides}
-use Rattle.facet_names.specs.Paths.{path_eq}
-use Rattle.facet_names.specs.Labels.{above, stands, is_in_place, IsLabelList, prefixes}
+use Rattle.facet_names.specs.Labels.{stands}
 use Rattle.facet_model.specs.Documents.{Doc}
 use Rattle.facet_model.specs.Histories.{Operation, docs, knows, covers, never_falls, is_pair}
 use Rattle.facet_model.specs.Core.{State, Refresh, Commit, with_operation}

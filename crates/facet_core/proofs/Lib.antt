@@ -8,3 +8,4 @@ pub mod KeptDevice
 pub mod Interleavings
 pub mod Promises
 pub mod After
+mod Rows

@@ -1,17 +1,17 @@
 -- What was promised, over every list of events.
-use Rattle.std.proofs.Common.{zero, suc, ◌≡◌, ℕ, ◌*◌, ◌/◌, ◌%◌, ◌<◌, ◌≤◌, Bool, true, false, cond, List, [], ◌∷◌, length, map, take, get_or, Option, Some, None, refl, sym, ap, ◌∙◌, arith, take_all}
-use Rattle.std.specs.Prelude.{◌==◌, ◌&&◌, not, nat_lt, nat_le, is_none, All, fold, slice_index, slice_index_or, IsTrue}
-use Rattle.std.specs.List.{list_all, list_any}
+use Rattle.std.proofs.Common.{zero, suc, ◌≡◌, ℕ, ◌*◌, ◌/◌, ◌%◌, ◌<◌, ◌≤◌, Bool, true, false, cond, List, [], ◌∷◌, length, map, take, get_or, Option, Some, None, refl, sym, ap, arith, take_all}
+use Rattle.std.specs.Prelude.{◌==◌, ◌&&◌, not, nat_lt, nat_le, is_none, All, slice_index, slice_index_or, IsTrue}
+use Rattle.std.specs.List.{list_all}
 use Rattle.std.proofs.lemmas.Bool.{and_parts, and_from, leb-true}
 use Rattle.std.proofs.lemmas.List.{get_or-map, length-map}
 use Rattle.std.proofs.lemmas.List.Sums.{AllPass-from_list_all}
 use Rattle.facet_names.specs.Labels.{stands, above, prefixes}
 use Rattle.facet_model.specs.Documents.{Doc}
-use Rattle.facet_model.specs.Histories.{Operation, docs, knows, covers, never_falls, is_pair}
+use Rattle.facet_model.specs.Histories.{docs, knows, covers, never_falls, is_pair}
 use Rattle.facet_model.specs.Core.{State, Refresh, Commit, CoreEvent, label, append, take_index, take_labels, publish, drop_refresh, begin_commit, drop_commit, device, crash, step, empty_core, with_index, with_labels_taken, with_publication, publish_pair, without_refresh, without_commit, with_crash, after_crash}
-use Rattle.facet_model.specs.CoreStates.{Valid, is_kept, is_good_index, is_same_pair, operations_of, labels_of}
-use Rattle.facet_core.specs.Laws.{ran, Keeps, EveryRunIsValid, CrashesKeepAcknowledged, NamesItsLabels, PublishedLabelsStand, PublicationsNeverFall}
-use Rattle.facet_core.proofs.Interleavings.{keeps_step, keeps_run, valid_from_empty}
+use Rattle.facet_model.specs.CoreStates.{Valid, is_kept, is_good_index, operations_of, labels_of}
+use Rattle.facet_core.specs.Laws.{ran, Keeps, CrashesKeepAcknowledged, NamesItsLabels, PublishedLabelsStand, PublicationsNeverFall}
+use Rattle.facet_core.proofs.Interleavings.{keeps_step, valid_from_empty}
 use Rattle.facet_core.proofs.KeptDevice.{in_numbers, in_pairs, device_keeps_acknowledged}
 use Rattle.facet_core.proofs.KeptCrash.{crash_keeps_acknowledged}
 

@@ -1,5 +1,5 @@
 -- What no list of events breaks, in the words of documents and labels.
-use Rattle.std.specs.Prelude.{◌≡◌, ◌≤◌, ◌<◌, ◌++◌, ℕ, List, [], length, take, All, IsTrue, fold, get_or, slice_index_or}
+use Rattle.std.specs.Prelude.{◌≡◌, ◌≤◌, ◌<◌, ℕ, List, length, take, All, IsTrue, fold, slice_index_or}
 use Rattle.facet_names.specs.Labels.{stands, prefixes}
 use Rattle.facet_model.specs.Histories.{docs}
 use Rattle.facet_model.specs.Core.{State, CoreEvent, crash, empty_core, step}

@@ -7,6 +7,8 @@ mod laws;
 mod machine;
 mod parts;
 mod steps;
+#[cfg(test)]
+mod tests;
 
 pub use event::Event;
 pub use laws::{

@@ -310,10 +310,10 @@ impl Core {
         ensures ok { OnOk result (self.new ≡ device_failed self.old call of.operations of.labels) }
         ensures err { OnErr result (self.new ≡ self.old) }
     {
-        if call == 9 {
-            self.tax_may.push(of.labels)?;
-        } else if call == 11 {
-            self.idx_may.push(of)?;
+        match call {
+            9 => self.tax_may.push(of.labels)?,
+            11 => self.idx_may.push(of)?,
+            _ => {}
         }
         self.commit = None;
         self.closed = true;

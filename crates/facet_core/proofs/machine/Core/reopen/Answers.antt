@@ -1,6 +1,6 @@
-use Rattle.std.proofs.Common.{None, false, [], ◌∷◌, take, map, sym, ap, ◌∙◌}
+use Rattle.std.proofs.Common.{None, false, [], ◌∷◌, map, sym, ap, ◌∙◌}
 use Rattle.std.proofs.lemmas.List.{take-map}
-use Rattle.facet_model.specs.Core.{State, after_crash}
+use Rattle.facet_model.specs.Core.{after_crash}
 use Rattle.facet_core.specs.Views.{pair, operation_view}
 use Rattle.facet_core.proofs.Roots.{root_taken}
 use Rattle.facet_core.proofs.machine.Core.reopen.Goals as goal

@@ -1,0 +1,112 @@
+-- The events of two documents, replayed by the definitions.
+use Rattle.std.specs.Prelude.{false, ◌≡◌, ◌++◌, ℕ, true, List, [], ◌∷◌, codes, fold, length, replicate, refl, Bool, zero, suc, nat_lt, nat_le, ◌&&◌, ◌==◌, None}
+use Rattle.std.specs.List.{list_all, list_any, enumerate_from, last_or}
+use Rattle.std.specs.Option.{option_map_or}
+use Rattle.facet_names.specs.Labels.{is_in_place, stands}
+use Rattle.facet_model.specs.Histories.{are_publications}
+use Rattle.facet_model.specs.Documents.{Doc}
+use Rattle.facet_model.specs.Core.{State, empty_core, CoreEvent, label, append, take_index, take_labels, publish, drop_refresh, begin_commit, drop_commit, device, crash, step}
+use Rattle.facet_model.specs.CoreStates.{Valid, is_good_refresh, is_good_commit, has_renamed, is_good_index, is_kept, is_same_pair}
+
+abbrev run : State → List CoreEvent → State
+run s events = fold step s events
+
+abbrev author : List ℕ → List (List ℕ)
+author name = codes "Author" ∷ name ∷ []
+
+abbrev doc : List ℕ → List ℕ → List (List (List ℕ)) → Doc
+doc id text labels = record { id = id; text = text; labels = labels }
+
+abbrev bob : Doc
+bob = doc (codes "b1") [] (author (codes "Bob") ∷ [])
+
+abbrev lisa : Doc
+lisa = doc (codes "b2") [] (author (codes "Lisa") ∷ [])
+
+-- the first document with its labels, and then the second
+abbrev first_added : List CoreEvent
+first_added = label 1 (codes "Author" ∷ []) ∷ label 1 (author (codes "Bob")) ∷ append 1 bob ∷ []
+
+abbrev second_added : List CoreEvent
+second_added = label 1 (author (codes "Lisa")) ∷ append 1 lisa ∷ []
+
+-- one whole commit, and the first device calls of another
+abbrev committing : ℕ → List CoreEvent
+committing calls = first_added ++ begin_commit 1 ∷ replicate 12 (device true) ++ second_added ++ begin_commit 1 ∷ replicate calls (device true)
+
+abbrev after : ℕ → List CoreEvent → State
+after calls events = run (run empty_core (committing calls)) events
+
+-- a crash behind the taxonomy's rename
+abbrev crashed : State
+crashed = after 10 (crash 0 ∷ [])
+
+crashed_labels : length crashed.labels ≡ 4
+crashed_labels = refl
+
+crashed_operations : length crashed.history ≡ 1
+crashed_operations = refl
+
+crashed_published : crashed.published ≡ (1, 4) ∷ []
+crashed_published = refl
+
+-- a crash in the middle of it
+in_the_middle : (after 9 []).tax_may ≡ 3 ∷ 4 ∷ []
+in_the_middle = refl
+
+keeps_old : length (after 9 (crash 0 ∷ [])).labels ≡ 3
+keeps_old = refl
+
+keeps_new : length (after 9 (crash 1 ∷ [])).labels ≡ 4
+keeps_new = refl
+
+no_third : after 9 (crash 2 ∷ []) ≡ after 9 []
+no_third = refl
+
+-- a refresh between whose takes a label and a document come
+abbrev refreshed : State
+refreshed = run empty_core (first_added ++ take_index 1 ∷ second_added ++ take_labels 1 ∷ publish 1 ∷ [])
+
+refreshed_published : refreshed.published ≡ (0, 1) ∷ (1, 4) ∷ []
+refreshed_published = refl
+
+abbrev with_first : State
+with_first = run empty_core first_added
+
+labels_first : run with_first (take_labels 1 ∷ []) ≡ with_first
+labels_first = refl
+
+-- ---- each of these states is valid
+
+empty_valid : Valid empty_core
+empty_valid = record { labels = refl; known = refl; published = refl; refresh = refl; commit = refl; renamed = refl; tax_may = refl; idx_may = refl; kept = refl; tax_read = refl; idx_read = refl }
+
+crashed_valid : Valid crashed
+crashed_valid = record { labels = refl; known = refl; published = refl; refresh = refl; commit = refl; renamed = refl; tax_may = refl; idx_may = refl; kept = refl; tax_read = refl; idx_read = refl }
+
+middle_valid : Valid (after 9 [])
+middle_valid = record { labels = refl; known = refl; published = refl; refresh = refl; commit = refl; renamed = refl; tax_may = refl; idx_may = refl; kept = refl; tax_read = refl; idx_read = refl }
+
+after_11_valid : Valid (after 11 (take_index 1 ∷ take_labels 1 ∷ []))
+after_11_valid = record { labels = refl; known = refl; published = refl; refresh = refl; commit = refl; renamed = refl; tax_may = refl; idx_may = refl; kept = refl; tax_read = refl; idx_read = refl }
+
+-- ---- every state within two events of these is valid
+
+abbrev is_valid : State → Bool
+is_valid s = (nat_lt 0 (length s.labels) && list_all (is_in_place s.labels) (enumerate_from 0 s.labels)) && list_all (λ o. list_all (stands s.labels) o.doc.labels) s.history && are_publications s.labels s.history s.published
+    && option_map_or (is_good_refresh s) s.refresh true && option_map_or (is_good_commit s) s.commit true && option_map_or (λ c. has_renamed s c c.labels) s.commit true
+    && list_all (λ a. nat_le 1 a && nat_le a (length s.labels)) s.tax_may && list_all (is_good_index s) s.idx_may && is_kept s (last_or None s.acknowledged)
+    && list_any (λ a. a == s.tax_read) s.tax_may && list_any (is_same_pair s.idx_read) s.idx_may
+
+abbrev every_event : List CoreEvent
+every_event = label 1 (codes "Year" ∷ []) ∷ append 1 lisa ∷ take_index 1 ∷ take_index 2 ∷ take_labels 1 ∷ publish 1 ∷ drop_refresh 1 ∷ begin_commit 1 ∷ drop_commit ∷ device true ∷ device false ∷ crash 0 ∷ crash 1 ∷ crash 2 ∷ []
+
+abbrev valid_within : ℕ → State → Bool
+valid_within zero s = is_valid s
+valid_within (suc n) s = is_valid s && list_all (λ e. valid_within n (step s e)) every_event
+
+from_the_empty : valid_within 3 empty_core ≡ true
+from_the_empty = refl
+
+around_the_renames : list_all (λ calls. valid_within 2 (after calls (take_index 1 ∷ take_labels 1 ∷ label 2 (codes "Late" ∷ []) ∷ []))) (0 ∷ 1 ∷ 8 ∷ 9 ∷ 10 ∷ 11 ∷ 12 ∷ []) ≡ true
+around_the_renames = refl
