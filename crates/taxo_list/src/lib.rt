@@ -6,6 +6,8 @@ mod arrays;
 mod fault;
 mod stored;
 mod taxonomy;
+#[cfg(test)]
+mod tests;
 mod view;
 
 pub use arrays::Arrays;

@@ -1,6 +1,6 @@
 ghost use Rattle.std.specs.Prelude.{◌≡◌, ◌≢◌, ◌≤◌, ◌<◌, [], ◌∷◌, Some, Err, false, length, is_some, IsTrue, IsOk, IfOk, IfErr, OnOk, OnErr};
 ghost use Rattle.facet_names.specs.Labels.{IsLabelList, above, place, stands};
-ghost use Rattle.taxo_list.specs.Growth.{with_label};
+ghost use Rattle.taxo_list.specs.Growth.{with_label, GoesOn};
 
 use crate::fault::TaxoFault;
 use crate::stored::ordinal_in;
@@ -85,6 +85,8 @@ impl Taxonomy {
         requires parent { IsTrue (stands self.old (above path.now)) }
         ensures added { OnOk result (self.new ≡ with_label self.old path.now) }
         ensures ordinal { IfOk result (λ ord. place self.new path.now ≡ Some ord) }
+        ensures stands { OnOk result (IsTrue (stands self.new path.now)) }
+        ensures goes_on { GoesOn self.old self.new }
         ensures there { IsTrue (stands self.old path.now) → IsOk result }
         ensures full { stands self.old path.now ≡ false → limit ≤ length self.old → result ≡ Err (LabelsFull (length self.old)) }
         ensures refused { IfErr result (λ e. e ≢ Memory → (stands self.old path.now ≡ false) × (limit ≤ length self.old)) }
