@@ -86,6 +86,12 @@ front_is_parent n xs is many fits =
       ap Some same ∙ ap (λ k. Some (take (k - 1) (texts xs))) (sym size) ∙ rw below refl,
     )
 
+-- the texts of a front are a front of the texts, and a path
+pub front_of : (n : ℕ) (xs : List (String Global)) → 0 < n → n ≤ length xs → IsPath (texts xs) → IsPath (texts (take n xs)) × (texts (take n xs) ≡ take n (texts xs))
+front_of n xs some within fits =
+    let same : texts (take n xs) ≡ take n (texts xs) = sym (take-map string_bytes n xs) in
+    (subst IsPath (sym same) (front_fits n (texts xs) some (omega (arith, within, length-map xs string_bytes)) fits), same)
+
 pub under_images : (xs ys : List (String Global)) → starts_with string_eq xs ys ≡ is_under (map string_bytes xs) (map string_bytes ys)
 under_images xs ys =
     pointwise_images (pointwise nat_eq) string_bytes ys (take (length ys) xs)

@@ -1,4 +1,4 @@
-ghost use Rattle.std.specs.Prelude.{◌≡◌, ◌≢◌, ◌<◌, ◌≤◌, ◌++◌, [], ◌∷◌, Some, None, length, slice_get, IfOk, IfErr, IsOk};
+ghost use Rattle.std.specs.Prelude.{◌≡◌, ◌≢◌, ◌<◌, ◌≤◌, ◌++◌, [], ◌∷◌, Some, None, length, slice_get, IfOk, IfErr, IsOk, take};
 ghost use Rattle.facet_names.specs.Paths.{texts, is_under, parent_of};
 ghost use Rattle.facet_names.specs.Faults.{IsPath, path_fault, part_fault};
 
@@ -109,6 +109,18 @@ impl Path {
         ensures { slice_get self.now 0 ≡ Some result.now }
     {
         self.parts[0].as_str()
+    }
+
+    #[tactic(auto, using(crate::proofs::Parts::front_of))]
+    /// The path of the first `len` components.
+    pub fn front(&self, alloc: Global, len: usize) -> Result<Path, NoMemory>
+        requires some { 0 < len }
+        requires within { len ≤ length self.now }
+        ensures { IfOk result (λ p. p ≡ take len self.now) }
+    {
+        let (front, _) = self.parts.split_at(len);
+        let parts = copied(alloc, front)?;
+        Ok(Path { parts })
     }
 
     #[tactic(auto, using(crate::proofs::Parts::front_is_parent))]

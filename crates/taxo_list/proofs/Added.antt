@@ -46,8 +46,8 @@ module _ (keys : List (List (List ℕ))) (parents : List ℤ) (path : List (List
           let before : slice_get ([] ∷ keys) parent ≡ Some (above path) = label_at ([] ∷ keys) parent (above path) at in
           let low : parent < length ([] ∷ keys) = slice_get_within ([] ∷ keys) parent (above path) before in
           let there : slice_get ([] ∷ (keys ++ path ∷ [])) parent ≡ Some (above path) =
-              slice_get-get_or (([] ∷ keys) ++ path ∷ []) parent [] (omega (arith, length-append keys (path ∷ [])))
-              ∙ ap Some (get_or_append_left ([] ∷ keys) (path ∷ []) [] parent low ∙ get_or_from_slice_get ([] ∷ keys) parent (above path) [] before) in
+          slice_get-get_or (([] ∷ keys) ++ path ∷ []) parent [] (omega (arith, length-append keys (path ∷ [])))
+          ∙ ap Some (get_or_append_left ([] ∷ keys) (path ∷ []) [] parent low ∙ get_or_from_slice_get ([] ∷ keys) parent (above path) [] before) in
           place_at ([] ∷ (keys ++ path ∷ [])) list parent (above path) there
 
       parent_is : parent_at ([] ∷ (keys ++ path ∷ [])) (suc (length keys)) ≡ Some parent

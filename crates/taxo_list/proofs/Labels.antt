@@ -1,5 +1,5 @@
 -- What holds in a list of labels: an ordinal names one label, and a parent stands before its child.
-use Rattle.std.proofs.Common.{◌≡◌, ℕ, ◌⊎◌, ltb, zero-add,  zero, suc, ◌+◌, ◌<◌, ◌≤◌, ◌-◌, ◌==◌, Bool, true, false, not, ◌&&◌, if◌then◌else◌, List, [], ◌∷◌, ◌++◌, length, take, get_or, slice_get, Option, Some, None, position, refl, sym, ap, subst, ◌∙◌, arith, rules, inl, inr}
+use Rattle.std.proofs.Common.{◌≡◌, ℕ, ◌⊎◌, ltb, zero-add, zero, suc, ◌+◌, ◌<◌, ◌≤◌, ◌-◌, ◌==◌, Bool, true, false, not, ◌&&◌, if◌then◌else◌, List, [], ◌∷◌, ◌++◌, length, take, get_or, slice_get, Option, Some, None, position, refl, sym, ap, subst, ◌∙◌, arith, rules, inl, inr}
 use Rattle.std.specs.Prelude.{option_and_then, cond, is_some, ◌||◌}
 use Rattle.std.specs.Option.{option_map}
 use Rattle.facet_names.specs.Faults.{IsPath}

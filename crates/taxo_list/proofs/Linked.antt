@@ -158,9 +158,9 @@ module _ (labels : List (List (List ℕ))) where
   arrays_by_parents =
       let all : ℕ = length labels in
       let children : by_ordinal (length (parents_of labels)) (last_child (parents_of labels) (length (parents_of labels))) ≡ by_ordinal all (child_at labels) =
-          ap (λ n. by_ordinal n (last_child (parents_of labels) n)) length-parents_of ∙ entries_alike (last_child (parents_of labels) all) (child_at labels) all (λ i lt. last_child_labels all i (omega arith)) in
+      ap (λ n. by_ordinal n (last_child (parents_of labels) n)) length-parents_of ∙ entries_alike (last_child (parents_of labels) all) (child_at labels) all (λ i lt. last_child_labels all i (omega arith)) in
       let siblings : by_ordinal (length (parents_of labels)) (last_sibling (parents_of labels)) ≡ by_ordinal all (sibling_at labels) =
-          ap (λ n. by_ordinal n (last_sibling (parents_of labels))) length-parents_of ∙ entries_alike (last_sibling (parents_of labels)) (sibling_at labels) all same_sibling in
+      ap (λ n. by_ordinal n (last_sibling (parents_of labels))) length-parents_of ∙ entries_alike (last_sibling (parents_of labels)) (sibling_at labels) all same_sibling in
       λ j. record { parents = parents_of labels; children = children j; siblings = siblings j }
     where
       same_sibling : (i : ℕ) → i < length labels → last_sibling (parents_of labels) i ≡ sibling_at labels i

@@ -1,4 +1,3 @@
-pub mod Growth
 pub mod ArrayLists
 pub mod Links
 pub mod Kept

@@ -1,6 +1,5 @@
 ghost use Rattle.std.specs.Prelude.{◌≡◌, ◌≢◌, ◌≤◌, ◌<◌, [], ◌∷◌, Some, Err, false, length, is_some, IsTrue, IsOk, IfOk, IfErr, OnOk, OnErr};
-ghost use Rattle.facet_names.specs.Labels.{IsLabelList, above, place, stands};
-ghost use Rattle.taxo_list.specs.Growth.{with_label, GoesOn};
+ghost use Rattle.facet_names.specs.Labels.{GoesOn, IsLabelList, above, place, stands, with_label};
 
 use crate::fault::TaxoFault;
 use crate::stored::ordinal_in;

@@ -1,7 +1,6 @@
 ghost use Rattle.std.specs.Prelude.{◌≡◌, ◌<◌, length, IfOk};
-ghost use Rattle.facet_names.specs.Labels.{above, stands};
+ghost use Rattle.facet_names.specs.Labels.{GoesOn, above, stands};
 ghost use Rattle.taxo_list.specs.ArrayLists.{arrays_of};
-ghost use Rattle.taxo_list.specs.Growth.{GoesOn};
 
 use crate::{Arrays, TaxoFault, TaxoView, Taxonomy};
 use facet_names::{NoMemory, Path};
@@ -49,7 +48,13 @@ fn has_parent(alloc: Global, list: &Taxonomy, path: &Path) -> Result<bool, NoMem
     }
 }
 
-fn put(rt: &impl Abort, alloc: Global, list: &mut Taxonomy, text: &str, limit: u32) -> Result<Result<u32, TaxoFault>, Fail>
+fn put(
+    rt: &impl Abort,
+    alloc: Global,
+    list: &mut Taxonomy,
+    text: &str,
+    limit: u32,
+) -> Result<Result<u32, TaxoFault>, Fail>
     requires { limit < 1000000 }
     ensures { GoesOn list.old list.new }
 {
@@ -106,7 +111,17 @@ fn arrays_of_the_books(rt: HostRuntime) -> Result<(), Fail> {
     let arrays = view.arrays();
     assert!(rt; arrays.parent(0) == -1);
     assert!(rt; arrays.child(0) == 3);
-    for (ord, sibling) in [(3, 1), (1, -1), (14, 12), (12, 7), (7, 2), (2, -1), (15, 9), (9, 4), (4, -1)] {
+    for (ord, sibling) in [
+        (3, 1),
+        (1, -1),
+        (14, 12),
+        (12, 7),
+        (7, 2),
+        (2, -1),
+        (15, 9),
+        (9, 4),
+        (4, -1),
+    ] {
         assert!(rt; arrays.sibling(ord) == sibling, "at {ord}");
     }
     assert!(rt; arrays.child(1) == 14);

@@ -31,7 +31,11 @@ impl Model for TaxoView {
 
 impl TaxoView {
     // The view of these labels, whose parents these are.
-    pub(crate) fn of(alloc: Global, labels: &IndexSet<Path>, parents: &[i32]) -> Result<TaxoView, NoMemory>
+    pub(crate) fn of(
+        alloc: Global,
+        labels: &IndexSet<Path>,
+        parents: &[i32],
+    ) -> Result<TaxoView, NoMemory>
         requires list { IsLabelList ([] ∷ labels.now.keys) }
         requires few { length labels.now.keys < 1000000 }
         requires parents { parents.now ≡ (arrays_of ([] ∷ labels.now.keys)).parents }

@@ -28,9 +28,9 @@ loop-ord-preserved c =
     let Entered : Type 0 = (c.if-parent-ge0.children ≡ set c.loop-ord.children (nat_abs parent) (pos c.loop-ord.ord)) × (c.if-parent-ge0.siblings ≡ set c.loop-ord.siblings c.loop-ord.ord kid) in
     let Kept : Type 0 = (c.if-parent-ge0.children ≡ c.loop-ord.children) × (c.if-parent-ge0.siblings ≡ c.loop-ord.siblings) in
     let made : MatchBool (le_z (pos 0) parent) Entered Kept =
-        elim c.if-parent-ge0.branch [
-          then-parent-ge0 w ↦ subst (λ b. MatchBool b Entered Kept) (sym w.if-parent-ge0.true) (w.children-is ∙ ap (set c.loop-ord.children (nat_abs parent)) number, w.siblings-is)
-          | else-parent-ge0 w ↦ subst (λ b. MatchBool b Entered Kept) (sym w.if-parent-ge0.false) (w.children-is, w.siblings-is)
-        ]
+    elim c.if-parent-ge0.branch [
+      | then-parent-ge0 w ↦ subst (λ b. MatchBool b Entered Kept) (sym w.if-parent-ge0.true) (w.children-is ∙ ap (set c.loop-ord.children (nat_abs parent)) number, w.siblings-is)
+      | else-parent-ge0 w ↦ subst (λ b. MatchBool b Entered Kept) (sym w.if-parent-ge0.false) (w.children-is, w.siblings-is)
+    ]
     in
     (omega arith, linked_step c.args.parents.now c.loop-ord.children c.loop-ord.siblings c.loop-ord.ord c.loop-ord-test.true c.loop-ord.invariant.1 parent kid parent_is kid_is (c.requires.parents c.loop-ord.ord c.loop-ord-test.true) c.if-parent-ge0.children c.if-parent-ge0.siblings made)
