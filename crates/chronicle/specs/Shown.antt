@@ -1,0 +1,64 @@
+-- What a token shows, and how it may change.
+use Rattle.std.specs.Prelude.{◌≡◌, ◌+◌, ℕ, Bool, true, false, List}
+use mathlib.Core.List.{IsPrefix}
+use base.Stored.{Coded, coded×, coded_ℕ, coded_bool, coded_list, coded_via}
+use Rattle.atomic_table.specs.Seated.{TableId, table_id_coded}
+use Rattle.chronicle.specs.Frame.{Frame, frame_coded}
+use Rattle.chronicle.specs.History.{own_of, NumbersUpTo}
+
+pub record Shown (E : Type 0) : Type 0 where
+  -- the part of the history that its holder has seen
+  pub seen : List (ℕ × E)
+  -- the number under which it enters; of a note it says nothing
+  pub number : ℕ
+  -- how many tokens were made of it
+  pub made : ℕ
+  pub is_note : Bool
+  pub holds_turn : Bool
+  -- the chronicle that it belongs to
+  pub identity : TableId
+  -- the frame of that chronicle's value
+  pub frame : Frame
+
+-- how the proofs keep this beside a token
+abbrev pub shown_coded : {E : Type 0} → Coded E → Coded (Shown E)
+shown_coded {E} c = coded_via (coded× (coded_list (coded× coded_ℕ c)) (coded× coded_ℕ (coded× coded_ℕ (coded× coded_bool (coded× coded_bool (coded× table_id_coded frame_coded))))))
+    (λ (s : Shown E). (s.seen, (s.number, (s.made, (s.is_note, (s.holds_turn, (s.identity, s.frame)))))))
+    (λ x y e i. record { seen = (e i).0; number = (e i).1.0; made = (e i).1.1.0; is_note = (e i).1.1.1.0; holds_turn = (e i).1.1.1.1.0; identity = (e i).1.1.1.1.1.0; frame = (e i).1.1.1.1.1.1 })
+
+module _ {E : Type 0} where
+  -- the seen entries that its holder entered
+  abbrev pub mine : Shown E → List (ℕ × E)
+  mine t = own_of t.is_note t.number t.seen
+
+  -- it is no note, and does not hold the turn
+  abbrev pub MayTake : Shown E → Type 0
+  MayTake t = (t.is_note ≡ false) × (t.holds_turn ≡ false)
+
+  -- it is no note, and holds the turn
+  abbrev pub MayEnter : Shown E → Type 0
+  MayEnter t = (t.is_note ≡ false) × (t.holds_turn ≡ true)
+
+  -- the same token of the same chronicle; what it has seen may differ, and whether it holds the turn
+  abbrev pub SameToken : Shown E → Shown E → Type 0
+  SameToken old new = (new.number ≡ old.number) × (new.made ≡ old.made) × (new.is_note ≡ old.is_note) × (new.identity ≡ old.identity) × (new.frame ≡ old.frame)
+
+  -- it has seen all that it had seen, and maybe more of others, but nothing more of its own
+  abbrev pub SeesOn : Shown E → Shown E → Type 0
+  SeesOn old new = IsPrefix old.seen new.seen × (mine new ≡ mine old)
+
+  -- one more token was made of it, and nothing else changed
+  abbrev pub MakesOne : Shown E → Shown E → Type 0
+  MakesOne old new = (new.number ≡ old.number) × (new.made ≡ old.made + 1) × (new.is_note ≡ old.is_note) × (new.holds_turn ≡ old.holds_turn) × (new.seen ≡ old.seen) × (new.identity ≡ old.identity) × (new.frame ≡ old.frame)
+
+  -- a new token of the next number, which has seen the same
+  abbrev pub IsMadeFrom : Shown E → Shown E → Type 0
+  IsMadeFrom first t = (t.number ≡ first.made + 1) × (t.made ≡ 0) × MayTake t × (t.seen ≡ first.seen) × (t.identity ≡ first.identity) × (t.frame ≡ first.frame)
+
+  -- a note of what it has seen
+  abbrev pub IsNoteOf : Shown E → Shown E → Type 0
+  IsNoteOf of note = (note.is_note ≡ true) × (note.holds_turn ≡ false) × (note.seen ≡ of.seen) × (note.identity ≡ of.identity) × (note.frame ≡ of.frame)
+
+  -- the token of number 0 has seen no entry under a number that was not given yet
+  abbrev pub IsCounted : Shown E → Type 0
+  IsCounted t = t.is_note ≡ false → t.number ≡ 0 → NumbersUpTo t.made t.seen

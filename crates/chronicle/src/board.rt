@@ -1,0 +1,158 @@
+// The steps on the table. Each function keeps the rule, and says what its seat then knows.
+ghost use Rattle.std.specs.Prelude.{◌≡◌, ◌⊎◌, true, false, [], ◌∷◌, ◌++◌, Some};
+ghost use mathlib.Core.List.{IsPrefix};
+ghost use Rattle.chronicle.specs.History.{entries, longer};
+ghost use Rattle.chronicle.specs.Knowledge.{with_stage, having_seen, after_making, made_from, note_of, told_of, is_in_turn, Rests, Learns};
+ghost use Rattle.chronicle.specs.declared.knowledge.Stage.TheVariants.{Idle, Waiting, InTurn};
+
+use crate::knowledge::Knowledge;
+use crate::rule::{
+    Adding, Compare, Draw, Enter, Look, Make, Note, Pass, ReturnSlot, TakeSlot, Tell, TurnRule,
+};
+use crate::standing::Standing;
+use atomic_table::{Seat, Shared};
+use std::snapshot::Snapshot;
+use std::sync::Wait;
+
+pub(crate) type Board<V, E> = Shared<Option<V>, Knowledge<E>, Snapshot<V>, TurnRule>;
+
+pub(crate) type Holder<V, E> = Seat<Option<V>, Knowledge<E>>;
+
+// The words of the table, and its one slot.
+const NEXT: usize = 0;
+
+const SERVING: usize = 1;
+
+const ENTERED: usize = 2;
+
+const VALUE: usize = 0;
+
+// Draws a ticket. The last number is never drawn, so tickets do not wrap: who finds it sleeps for ever.
+pub(crate) fn draw_ticket<V: Standing, R: Wait>(
+    rt: &R,
+    board: &Board<V, V::Entry>,
+    seat: &mut Holder<V, V::Entry>,
+) -> u64
+    requires board { (seat.old.table_id ≡ board.now.table_id) × (board.now.table_id.words ≡ 3) }
+    requires idle { (seat.old.me.0.stage ≡ Idle) × (seat.old.me.1 ≡ []) }
+    ensures board { (seat.new.table_id ≡ seat.old.table_id) × (seat.new.id ≡ seat.old.id) }
+    ensures drawn { seat.new.me ≡ (with_stage (Waiting result) seat.old.me.0, []) }
+{
+    for _ in rt.forever() {
+        let ticket = board.peek(NEXT);
+        if ticket == u64::MAX {
+            board.park(rt, NEXT, u32::MAX);
+        } else if board.compare_exchange::<Draw>(seat, NEXT, ticket, ticket + 1) == ticket {
+            return ticket;
+        }
+    }
+    unreachable!()
+}
+
+// Sleeps until the ticket is served, and takes the value out.
+pub(crate) fn await_turn<V: Standing, R: Wait>(
+    rt: &R,
+    board: &Board<V, V::Entry>,
+    seat: &mut Holder<V, V::Entry>,
+    ticket: u64,
+) -> V
+    requires board { (seat.old.table_id ≡ board.now.table_id) × (board.now.table_id.words ≡ 3) }
+    requires waits { (seat.old.me.0.stage ≡ Waiting ticket) × (seat.old.me.1 ≡ []) }
+    ensures board { (seat.new.table_id ≡ seat.old.table_id) × (seat.new.id ≡ seat.old.id) }
+    ensures turn { seat.new.me ≡ (having_seen (InTurn ticket) seat.new.me.0.seen seat.old.me.0, []) }
+    ensures value { V.stands result (entries seat.new.me.0.seen) × (V.frame result ≡ seat.old.me.0.frame) }
+    ensures learns { Learns seat.old.me.0 seat.new.me.0.seen }
+{
+    for _ in rt.forever() {
+        let served = board.load::<Look>(seat, SERVING);
+        if served == ticket {
+            let value = board.exchange(seat, VALUE, None);
+            board.load::<ReturnSlot>(seat, SERVING);
+            return value.unwrap();
+        }
+        board.park(rt, SERVING, (served % (1 << 32)) as u32);
+    }
+    unreachable!()
+}
+
+// Puts the value back, passes the turn on, and wakes those who wait.
+pub(crate) fn pass_turn<V: Standing>(
+    board: &Board<V, V::Entry>,
+    seat: &mut Holder<V, V::Entry>,
+    value: V,
+)
+    requires board { (seat.old.table_id ≡ board.now.table_id) × (board.now.table_id.words ≡ 3) }
+    requires turn { (is_in_turn seat.old.me.0.stage ≡ true) × (seat.old.me.1 ≡ []) }
+    requires value { V.stands value (entries seat.old.me.0.seen) × (V.frame value ≡ seat.old.me.0.frame) }
+    ensures board { (seat.new.table_id ≡ seat.old.table_id) × (seat.new.id ≡ seat.old.id) }
+    ensures idle { seat.new.me ≡ (with_stage Idle seat.old.me.0, []) }
+{
+    board.load::<TakeSlot>(seat, SERVING);
+    match board.exchange(seat, VALUE, Some(value)) {
+        None => {}
+        Some(_) => unreachable!(),
+    }
+    board.fetch_add::<Pass>(seat, SERVING, 1);
+    board.wake_all(SERVING);
+}
+
+// Adds the entry to the history. `W` is how the call says in the proofs which entry that is.
+pub(crate) fn add_entry<V: Standing, W: Adding<V::Entry>>(
+    board: &Board<V, V::Entry>,
+    seat: &mut Holder<V, V::Entry>,
+    entry: &V::Entry,
+)
+    requires added { W.added ≡ Some entry.now }
+    requires board { (seat.old.table_id ≡ board.now.table_id) × (board.now.table_id.words ≡ 3) }
+    requires turn { (is_in_turn seat.old.me.0.stage ≡ true) × (seat.old.me.1 ≡ []) × (seat.old.me.0.is_note ≡ false) }
+    ensures board { (seat.new.table_id ≡ seat.old.table_id) × (seat.new.id ≡ seat.old.id) }
+    ensures added { seat.new.me ≡ (having_seen seat.old.me.0.stage (seat.old.me.0.seen ++ (seat.old.me.0.number, entry.now) ∷ []) seat.old.me.0, []) }
+{
+    let _ = entry;
+    board.fetch_add::<Enter<W>>(seat, ENTERED, 1);
+}
+
+// A seat of the next number, which the first seat gives.
+pub(crate) fn make_seat<V: Standing>(
+    board: &Board<V, V::Entry>,
+    first: &mut Holder<V, V::Entry>,
+) -> Holder<V, V::Entry>
+    requires board { (first.old.table_id ≡ board.now.table_id) × (board.now.table_id.words ≡ 3) }
+    requires first { Rests first.old.me.0.stage × (first.old.me.0.is_note ≡ false) × (first.old.me.0.number ≡ 0) × (first.old.me.1 ≡ []) }
+    ensures board { (first.new.table_id ≡ first.old.table_id) × (first.new.id ≡ first.old.id) × (result.table_id ≡ first.old.table_id) }
+    ensures first { first.new.me ≡ (after_making first.old.me.0, []) }
+    ensures made { result.me ≡ (made_from first.old.me.0, []) }
+{
+    board.split_seat::<Make>(first)
+}
+
+pub(crate) fn note_seat<V: Standing>(
+    board: &Board<V, V::Entry>,
+    of: &mut Holder<V, V::Entry>,
+) -> Holder<V, V::Entry>
+    requires board { (of.old.table_id ≡ board.now.table_id) × (board.now.table_id.words ≡ 3) }
+    requires rests { Rests of.old.me.0.stage × (of.old.me.1 ≡ []) }
+    ensures board { (of.new.table_id ≡ of.old.table_id) × (of.new.id ≡ of.old.id) × (result.table_id ≡ of.old.table_id) }
+    ensures of { of.new.me ≡ of.old.me }
+    ensures note { result.me ≡ (note_of of.old.me.0, []) }
+{
+    board.split_seat::<Note>(of)
+}
+
+// Tells the seat what another has seen, and spends the other. A join by itself tells nothing, so a load of a word compares the two.
+pub(crate) fn tell_seat<V: Standing>(
+    board: &Board<V, V::Entry>,
+    seat: &mut Holder<V, V::Entry>,
+    other: Holder<V, V::Entry>,
+)
+    requires board { (seat.old.table_id ≡ board.now.table_id) × (other.table_id ≡ board.now.table_id) × (board.now.table_id.words ≡ 3) }
+    requires idle { (seat.old.me.0.stage ≡ Idle) × (seat.old.me.1 ≡ []) × (other.me.0.stage ≡ Idle) × (other.me.1 ≡ []) }
+    ensures board { (seat.new.table_id ≡ seat.old.table_id) × (seat.new.id ≡ seat.old.id) }
+    ensures told { seat.new.me ≡ (having_seen Idle (longer seat.old.me.0.seen other.me.0.seen) (told_of seat.old.me.0 other.me.0), []) }
+    ensures one { IsPrefix seat.old.me.0.seen other.me.0.seen ⊎ IsPrefix other.me.0.seen seat.old.me.0.seen }
+    ensures begins { IsPrefix other.me.0.seen seat.new.me.0.seen }
+    ensures learns { Learns seat.old.me.0 seat.new.me.0.seen }
+{
+    board.join_seat::<Tell>(seat, other);
+    board.load::<Compare>(seat, SERVING);
+}

@@ -1,0 +1,10 @@
+use denote.Param.Send.{sendable}
+use Rattle.std.proofs.Crossing.{crosses}
+use Rattle.chronicle.proofs.Crossing.{crosses as tokens}
+use Rattle.turn_bench.proofs.counter.all_take_turns.Goals as goal
+
+pub for_each_mut-requires-send-T : goal.for_each_mut-requires-send-T
+for_each_mut-requires-send-T g c κs within = search (sendable, crosses, tokens) depth 30
+
+pub for_each_mut-requires-sync-F : goal.for_each_mut-requires-sync-F
+for_each_mut-requires-sync-F g c κs within = let sync_r = c.type_bounds.sync-R in search (sendable, crosses, tokens) depth 30
