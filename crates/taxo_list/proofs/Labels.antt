@@ -1,21 +1,21 @@
 -- What holds in a list of labels: an ordinal names one label, and a parent stands before its child.
-use Rattle.std.proofs.Common.{◌≡◌, ℕ, ◌⊎◌, ltb, zero-add, zero, suc, ◌+◌, ◌<◌, ◌≤◌, ◌-◌, ◌==◌, Bool, true, false, not, ◌&&◌, if◌then◌else◌, List, [], ◌∷◌, ◌++◌, length, take, get_or, slice_get, Option, Some, None, position, refl, sym, ap, subst, ◌∙◌, arith, rules, inl, inr}
+use Rattle.std.proofs.Common.{◌≡◌, ℕ, ◌⊎◌, ltb, zero-add, zero, suc, ◌+◌, ◌<◌, ◌≤◌, ◌-◌, ◌==◌, Bool, true, false, not, if◌then◌else◌, List, [], ◌∷◌, ◌++◌, length, take, get_or, slice_get, Some, None, position, refl, sym, ap, ◌∙◌, arith, inl, inr}
 use Rattle.std.specs.Prelude.{option_and_then, cond, is_some, ◌||◌}
 use Rattle.std.specs.Option.{option_map}
 use Rattle.facet_names.specs.Faults.{IsPath}
 use Rattle.std.specs.List.{list_any, list_all, enumerate_from, position_or_len}
-use Rattle.std.specs.Cmp.Lexicographic.{pointwise, pointwise_decides, bytes_decides}
-use Rattle.std.proofs.lemmas.Bool.{leb-true, or_parts, ltb-true, and_parts, and_from, not-true, not_from_false, false_from_ne_true, true_from_ne_false, both_ways, true≢false, cases_lt, cases_eq, cond-true, cond-false, eq-eqb, ne_eqb, eqb-true, lt-ltb, le-ltb, cases_Bool}
+use Rattle.std.specs.Cmp.Lexicographic.{pointwise_decides, bytes_decides}
+use Rattle.std.proofs.lemmas.Bool.{leb-true, or_parts, ltb-true, and_parts, and_from, not-true, not_from_false, false_from_ne_true, true_from_ne_false, true≢false, cases_lt, cond-true, cond-false, ne_eqb, eqb-true, lt-ltb, le-ltb}
 use Rattle.std.proofs.lemmas.List.{take_more, get_or-take, length-take-le, take-take, take-append-le, get_or_append_left, length-append, get_or_push, take_all, get_or_default, nil_from_length}
 use Rattle.std.proofs.lemmas.List.Folds.{list_all_at, list_any_at, Any-from_list_any}
-use Rattle.std.proofs.lemmas.List.Sums.{fails_before_first, list_all-from_AllPass, AllPass-from_list_all, position_or_len_is, passes_at_first}
+use Rattle.std.proofs.lemmas.List.Sums.{fails_before_first, list_all-from_AllPass, position_or_len_is}
 use Rattle.std.proofs.lemmas.List.FromFn.{get_or-enumerate_from, length-enumerate_from}
 use Rattle.std.proofs.lemmas.List.Quantifiers.{position-Some}
 use Rattle.std.proofs.lemmas.Option.{slice_get-get_or, get_or_from_slice_get, slice_get_within}
 use Rattle.indexmap.specs.IndexSet.{insert_key}
 use Rattle.facet_names.specs.Paths.{path_eq, path_eq_equiv, parent_of}
 use Rattle.std.specs.Prelude.{nat_le}
-use Rattle.facet_names.specs.Labels.{IsLabelList, is_in_place, above, place, stands}
+use Rattle.facet_names.specs.Labels.{GoesOn, IsLabelList, above, is_in_place, place, stands}
 use Rattle.facet_names.specs.Arrays.{parent_at}
 
 pub same_path : (p q : List (List ℕ)) → path_eq p q ≡ true → p ≡ q
@@ -241,3 +241,11 @@ root_above path e = by (nat_le (length path) 1) refl e
         let none : length path - 1 ≡ 0 = omega (arith, leb-true (length path) 1 low) in
         ap (λ n. take n path) none
     by false low e = absurd cc
+
+-- the root stands in each list of labels
+pub root_stands : (labels : List (List (List ℕ))) → IsLabelList labels → stands labels [] ≡ true
+root_stands labels is = list_any_at (path_eq []) labels 0 [] (some_label labels is) (ap (path_eq []) (root_first labels is []))
+
+-- to go on, and then further
+pub goes_further : (a b c : List (List (List ℕ))) → GoesOn a b → GoesOn b c → GoesOn a c
+goes_further a b c first next = (omega (arith, first.0, next.0), sym (take-take (length a) (length b) c first.0) ∙ ap (take (length a)) next.1 ∙ first.1)

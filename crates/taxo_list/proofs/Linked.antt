@@ -1,5 +1,5 @@
 -- How children and siblings are entered, and that the arrays by the parents are those of the labels.
-use Rattle.std.proofs.Common.{◌≡◌, ℕ, ◌⊎◌, zero, suc, ◌+◌, ◌<◌, ◌≤◌, ℤ, pos, negsuc, Bool, true, false, cond, List, [], ◌∷◌, length, take, map, get_or, slice_get, set, replicate, ◌-◌, ◌++◌, Option, Some, None, refl, sym, ap, subst, ◌∙◌, arith, rules, inl, inr, nat_eq}
+use Rattle.std.proofs.Common.{◌≡◌, ℕ, ◌⊎◌, zero, suc, ◌+◌, ◌<◌, ◌≤◌, ℤ, pos, negsuc, Bool, true, false, cond, List, [], length, take, get_or, set, replicate, ◌-◌, ◌++◌, Option, Some, None, refl, sym, ap, subst, ◌∙◌, arith, rules, inl, inr, nat_eq}
 use Rattle.std.specs.Prelude.{option_and_then, IfSome}
 use Rattle.std.specs.Bool.{MatchBool}
 use lib.Signed.{le_z}
@@ -7,16 +7,15 @@ use lib.IntN.{nat_abs}
 use mir.Val.{SFits}
 use mir.Syntax.{w32}
 use Rattle.std.specs.Option.{option_map_or}
-use Rattle.std.specs.List.{range_with_len}
 use Rattle.std.proofs.lemmas.Bool.{MatchBool-at_true, le-leb, cases_eq, cases_lt, eq-eqb, ne_eqb, cond-true, cond-false}
 use Rattle.std.proofs.lemmas.List.{length-append, length-replicate, get_or-replicate, get_or-append_right, get_or_append_left, get_or-take, length-set, get_or-set_same, get_or-set_other, length-take-le}
 use Rattle.std.proofs.lemmas.List.FromFn.{length-map-range_with_len, get_or-map-range_with_len, take-map-range_with_len, fill_by_all}
 use Rattle.std.proofs.lemmas.Option.{slice_get-get_or, IfSome_then}
-use Rattle.facet_names.specs.Labels.{IsLabelList, place, above}
+use Rattle.facet_names.specs.Labels.{IsLabelList}
 use Rattle.facet_names.specs.Arrays.{or_none, greatest, parent_at, child_at, sibling_at, is_child}
 use Rattle.taxo_list.specs.ArrayLists.{ArrayLists, by_ordinal, arrays_of}
 use Rattle.taxo_list.specs.Links.{ordinal, parent_in, last_child, last_sibling, arrays_by, AreParents, AreLinked}
-use Rattle.taxo_list.proofs.Labels.{parent_before, parent_at_front, some_label}
+use Rattle.taxo_list.proofs.Labels.{parent_before, parent_at_front}
 
 -- ---- one step
 

@@ -1,4 +1,4 @@
-ghost use Rattle.std.specs.Prelude.{◌≡◌, ◌<◌, length, IfOk};
+ghost use Rattle.std.specs.Prelude.{◌≡◌, ◌<◌, length, IfOk, OnOk};
 ghost use Rattle.facet_names.specs.Labels.{GoesOn, above, stands};
 ghost use Rattle.taxo_list.specs.ArrayLists.{arrays_of};
 
@@ -140,35 +140,50 @@ fn same(left: &Arrays, right: &Arrays, size: u32) -> bool
     })
 }
 
-// Extends arrays label by label, and compares them with those made from scratch.
-fn extend_each(rt: &impl Abort, alloc: Global, labels: &[&str]) -> Result<(), Fail> {
-    let mut list = Taxonomy::new(alloc)?;
-    let mut arrays = Arrays::from_scratch(alloc, &list.view()?)?;
+// Adds each label.
+fn put_all(rt: &impl Abort, alloc: Global, list: &mut Taxonomy, labels: &[&str]) -> Result<(), Fail>
+    ensures { GoesOn list.old list.new }
+{
     for label in labels {
-        let _ = put(rt, alloc, &mut list, *label, 1000)?;
-        let view = list.view()?;
-        arrays.extend(&view)?;
-        let made = Arrays::from_scratch(alloc, &view)?;
-        assert!(rt; same(&arrays, &made, view.size()));
+        let _ = put(rt, alloc, list, *label, 1000)?;
     }
     Ok(())
+}
+
+// Adds the labels, and goes on to the arrays of the longer list.
+fn extended(
+    rt: &impl Abort,
+    alloc: Global,
+    list: &mut Taxonomy,
+    arrays: &mut Arrays,
+    labels: &[&str],
+) -> Result<TaxoView, Fail>
+    requires { arrays.old ≡ arrays_of list.old }
+    ensures view { IfOk result (λ v. v ≡ list.new) }
+    ensures arrays { OnOk result (arrays.new ≡ arrays_of list.new) }
+{
+    put_all(rt, alloc, list, labels)?;
+    let view = list.view()?;
+    arrays.extend(&view)?;
+    Ok(view)
 }
 
 #[test]
 fn arrays_are_extended(rt: HostRuntime) -> Result<(), Fail> {
     let alloc = rt.alloc();
-    extend_each(&rt, alloc, BOOKS)?;
     let mut list = Taxonomy::new(alloc)?;
-    for label in &BOOKS[..8] {
-        let _ = put(&rt, alloc, &mut list, *label, 1000)?;
-    }
     let mut arrays = Arrays::from_scratch(alloc, &list.view()?)?;
-    for label in &BOOKS[8..] {
-        let _ = put(&rt, alloc, &mut list, *label, 1000)?;
+    for label in BOOKS {
+        let view = extended(&rt, alloc, &mut list, &mut arrays, &[*label])?;
+        assert!(rt; same(&arrays, view.arrays(), view.size()));
     }
-    let view = list.view()?;
-    arrays.extend(&view)?;
-    assert!(rt; same(&arrays, view.arrays(), view.size()));
+    // From the first nine labels, the root among them, to all at once.
+    let mut list = Taxonomy::new(alloc)?;
+    put_all(&rt, alloc, &mut list, &BOOKS[..8])?;
+    let mut arrays = Arrays::from_scratch(alloc, &list.view()?)?;
+    let view = extended(&rt, alloc, &mut list, &mut arrays, &BOOKS[8..])?;
+    assert!(rt; view.size() == 18);
+    assert!(rt; same(&arrays, &Arrays::from_scratch(alloc, &view)?, 18));
     Ok(())
 }
 

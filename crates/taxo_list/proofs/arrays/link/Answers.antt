@@ -1,12 +1,11 @@
-use Rattle.std.proofs.Common.{arith, rules, List, ◌≡◌, ℕ, ℤ, true, false, ◌+◌, ◌≤◌, ◌<◌, length, get_or, set, pos, negsuc, ◌∙◌, ap, sym, subst}
+use Rattle.std.proofs.Common.{arith, rules, List, ◌≡◌, ℕ, ℤ, ◌<◌, length, get_or, set, pos, negsuc, ◌∙◌, ap, sym, subst}
 use Rattle.std.specs.Bool.{MatchBool}
-use Rattle.std.proofs.lemmas.Int.{ints, to_z-of_z, to_z_pos}
+use Rattle.std.proofs.lemmas.Int.{to_z-of_z, to_z_pos}
 use Rattle.std.proofs.lemmas.List.{get_or_default}
 use lib.IntN.{nat_abs}
 use lib.Signed.{le_z}
 use mir.Val.{SFits, to_z, of_z}
 use mir.Syntax.{w32}
-use Rattle.taxo_list.specs.Links.{AreLinked}
 use Rattle.taxo_list.proofs.Linked.{linked_step, child_fits}
 use Rattle.taxo_list.proofs.arrays.link.Goals as goal
 use Rattle.taxo_list.proofs.arrays.link.Goals.{then-parent-ge0, else-parent-ge0}

@@ -1,4 +1,4 @@
-use Rattle.std.proofs.Common.{arith, rules, ◌≡◌, ◌∙◌, ap, sym, subst, take, get_or, ◌<◌, length}
+use Rattle.std.proofs.Common.{rules, ◌≡◌, ◌∙◌, ap, take, get_or, ◌<◌, length}
 use Rattle.indexmap.specs.IndexSet.{insert_key}
 use Rattle.facet_names.specs.Paths.{path_eq}
 use Rattle.taxo_list.proofs.Labels.{inserted_next}

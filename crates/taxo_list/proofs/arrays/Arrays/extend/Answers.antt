@@ -1,7 +1,5 @@
-use Rattle.std.proofs.Common.{arith, rules, ◌≡◌, ◌≤◌, ◌∙◌, ap, sym, subst, length, take, List, ℕ, ℤ}
-use Rattle.std.specs.Prelude.{OnOk}
+use Rattle.std.proofs.Common.{arith, ◌≡◌, ◌≤◌, ◌∙◌, ap, sym, subst, length, take, ℕ}
 use Rattle.std.proofs.lemmas.Result.{on_ok_weaker}
-use Rattle.taxo_list.specs.ArrayLists.{arrays_of}
 use Rattle.taxo_list.specs.Links.{AreParents, arrays_by}
 use Rattle.taxo_list.proofs.Linked.{parents_of, length-parents_of, are_parents, arrays_by_parents, front_parents}
 use Rattle.taxo_list.proofs.arrays.Arrays.extend.Goals as goal

@@ -1,9 +1,7 @@
-use Rattle.std.proofs.Common.{arith, rules, ℕ, ℤ, List, length, take, drop, replicate, negsuc, ◌++◌, ◌-◌, ◌≤◌, ◌≡◌, ◌∙◌, ap, sym, subst}
-use Rattle.std.proofs.lemmas.List.{with_items_is, take_all, take-append-drop, length-take-le, length-map}
-use Rattle.std.proofs.lemmas.List.FromFn.{length-map-range_with_len}
+use Rattle.std.proofs.Common.{arith, ℕ, ℤ, List, length, take, replicate, negsuc, ◌++◌, ◌-◌, ◌≤◌, ◌≡◌, ◌∙◌, ap, sym, subst}
+use Rattle.std.proofs.lemmas.List.{with_items_is, length-take-le}
 use Rattle.std.proofs.lemmas.Grind.{common_steps}
 use Rattle.std.specs.Vec.{with_items}
-use Rattle.facet_names.specs.Arrays.{or_none}
 use Rattle.taxo_list.specs.ArrayLists.{ArrayLists}
 use Rattle.taxo_list.specs.Links.{arrays_by, AreLinked}
 use Rattle.taxo_list.proofs.Linked.{linked_front, linked_whole}

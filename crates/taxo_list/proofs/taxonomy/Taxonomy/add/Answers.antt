@@ -1,4 +1,4 @@
-use Rattle.std.proofs.Common.{arith, rules, ◌≡◌, ◌∙◌, ap, sym, subst, true, false, [], ◌∷◌, ◌++◌, Some, None, length, ◌<◌, ◌+◌, ℕ, ℤ, List, pos, is_some}
+use Rattle.std.proofs.Common.{arith, ◌≡◌, ◌∙◌, ap, sym, subst, true, false, [], ◌∷◌, ◌++◌, Some, length, ◌<◌, ◌+◌, ℕ, List, pos, is_some}
 use Rattle.std.proofs.lemmas.Option.{slice_get_within}
 use Rattle.std.proofs.lemmas.Int.{to_z_pos}
 use mir.Val.{to_z}

@@ -1,4 +1,4 @@
-use Rattle.std.proofs.Common.{arith, rules, ◌≡◌, ◌∙◌, ap, sym, subst, [], ◌-◌, take, length, Some, Option, List, ℕ}
+use Rattle.std.proofs.Common.{◌≡◌, ◌∙◌, ap, sym}
 use Rattle.facet_names.specs.Labels.{above, stands}
 use Rattle.taxo_list.proofs.Labels.{parent_is_above}
 use Rattle.taxo_list.proofs.taxonomy.Taxonomy.parent_of.Goals as goal

@@ -1,4 +1,4 @@
-use Rattle.std.proofs.Common.{arith, ◌≡◌, ◌∙◌, ap, sym, subst, length, List, ℕ, [], ◌∷◌}
+use Rattle.std.proofs.Common.{arith, ◌∙◌, ap, sym, subst, length, [], ◌∷◌}
 use Rattle.taxo_list.specs.Kept.{IsView}
 use Rattle.taxo_list.specs.Links.{AreParents, arrays_by}
 use Rattle.taxo_list.proofs.Linked.{length-parents_of, are_parents, arrays_by_parents}
