@@ -1,3 +1,4 @@
+pub mod Growing
 pub mod Sessions
 pub mod Statuses
 pub mod Runs

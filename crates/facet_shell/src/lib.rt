@@ -1,7 +1,10 @@
 //! The program as a function: a script is read from a source to its end, and its replies are written to a sink.
 #![tactic(auto)]
 
+mod adding;
+mod labels;
 mod program;
+mod searching;
 mod session;
 mod status;
 

@@ -18,7 +18,7 @@ fn output(alloc: Global, input: &[u8]) -> Result<Option<Vec<u8>>, NoMemory>
 {
     match read_script(alloc, input)? {
         Some(script) => {
-            let bytes = reply_to_all(alloc, script.orders)?;
+            let bytes = reply_to_all(alloc, script.settings, script.orders)?;
             Ok(Some(bytes))
         }
         None => Ok(None),
@@ -36,10 +36,10 @@ fn tell<K: Sink>(sink: &mut K, status: Status) -> Ended
 
 /// Reads a script from the source to its end, carries out its orders, and writes their replies to the sink.
 ///
-/// The words are those behind the program's name. It keeps the script, its documents and all replies in memory, and writes nothing before all
+/// `rt` gives the memory, and the words are those behind the program's name. It keeps the script, its documents and all replies in memory, and writes nothing before all
 /// orders are answered.
-pub fn run<S: Source, K: Sink>(
-    alloc: Global,
+pub fn run<R: AllocGlobal, S: Source, K: Sink>(
+    rt: &R,
     words: &[String],
     source: &mut S,
     sink: &mut K,
@@ -63,6 +63,7 @@ pub fn run<S: Source, K: Sink>(
     if !words.is_empty() {
         return tell(sink, Status::BadWords);
     }
+    let alloc = rt.alloc();
     match read_to_end(alloc, source, SCRIPT_LIMIT) {
         Err(ReadFault::Failed) => tell(sink, Status::ReadFault),
         Err(ReadFault::TooLong) => tell(sink, Status::TooLong),

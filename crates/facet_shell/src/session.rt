@@ -1,112 +1,75 @@
-ghost use Rattle.std.specs.Prelude.{◌≡◌, ◌<◌, ◌≤◌, ◌+◌, [], IfOk, length, map};
-ghost use Rattle.std.specs.List.{AllZip};
+ghost use Rattle.std.specs.Prelude.{◌≡◌, ◌<◌, ◌≤◌, ◌+◌, ℕ, IfOk, length, map};
 ghost use Rattle.facet_model.specs.AskViews.{ask_view};
-ghost use Rattle.facet_model.specs.Asks.{top as asked_top};
-ghost use Rattle.facet_words.specs.Answers.{IsAnswer, IsFound, RightReply, empty_shelf, snapshot};
-ghost use Rattle.facet_words.specs.CommandViews.{command_view};
-ghost use Rattle.facet_words.specs.Commands.{no_settings, add, refresh, search};
-ghost use Rattle.facet_words.specs.ReplyViews.{answer_view, reply_view};
+ghost use Rattle.facet_words.specs.Answers.{RightReply, empty_shelf};
+ghost use Rattle.facet_words.specs.CommandViews.{command_view, settings_view};
+ghost use Rattle.facet_words.specs.Commands.{add as add_command, refresh as refresh_command, search as search_command};
+ghost use Rattle.facet_words.specs.ReplyViews.{reply_view};
 ghost use Rattle.facet_shell.specs.Sessions.{AreReplies};
 
-use facet_model::{Ask, DimFlags, Document, plain_top};
-use facet_names::{NoMemory, Path};
-use facet_words::{Command, FacetAnswer, Order, Refusal, Reply, write_reply};
+use crate::adding::add;
+use crate::searching::search;
+use facet_model::{Ask, Document};
+use facet_names::NoMemory;
+use facet_words::{Command, Order, Refusal, Reply, Settings, write_reply};
 use std::alloc::Global;
 use std::marker::Model;
+use taxo_list::Taxonomy;
 
-/// What the orders of one session work on: the documents, and how many of them the last refresh took.
+/// What the orders of one session work on: the settings, the labels, the documents, and how many of them the last refresh took.
 #[derive(Drop)]
 pub struct Session {
     alloc: Global,
+    settings: Settings,
+    labels: Taxonomy,
     docs: Vec<Document>,
     taken: usize,
 }
 
 impl Model for Session {
-    ghost use Rattle.std.specs.Prelude.{◌≤◌, vec_len};
-    ghost use Rattle.facet_words.specs.Answers.{Shelf};
+    ghost use Rattle.std.specs.Prelude.{◌≤◌, length, vec_len};
+    ghost use Rattle.facet_words.specs.CommandViews.{settings_view};
+    ghost use Rattle.facet_shell.specs.Sessions.{State};
 
-    ghost Value = { Shelf };
+    ghost Value = { State };
 
-    ghost view = { λ s. record { docs = s.docs.items; taken = s.taken } };
+    ghost view = { λ s. record { settings = settings_view s.settings; shelf = record { labels = s.labels; docs = s.docs.items; taken = s.taken } } };
 
-    ghost invariant = { λ s. s.taken ≤ vec_len s.docs };
-}
-
-// The children of a path that the most documents have. No dimension is declared.
-fn top(alloc: Global, docs: &[Document], path: &Path, n: u32) -> Result<FacetAnswer, NoMemory>
-    requires { length docs.now < 10000 }
-    ensures { IfOk result (λ a. IsAnswer [] docs.now (asked_top path.now n) (answer_view a)) }
-{
-    let flags = DimFlags {
-        hierarchical: false,
-        multi_valued: false,
-        require_dim_count: false,
-    };
-    let counts = plain_top(alloc, flags, docs, path, n)?;
-    Ok(FacetAnswer::Top(counts))
-}
-
-// The answer to one ask over these documents.
-fn answer(alloc: Global, docs: &[Document], ask: &Ask) -> Result<FacetAnswer, NoMemory>
-    requires { length docs.now < 10000 }
-    ensures { IfOk result (λ a. IsAnswer [] docs.now (ask_view ask.now) (answer_view a)) }
-{
-    match ask {
-        Ask::Top { path, n } => top(alloc, docs, path, *n),
-    }
-}
-
-fn answers(alloc: Global, docs: &[Document], asks: &[Ask]) -> Result<Vec<FacetAnswer>, NoMemory>
-    requires { length docs.now < 10000 }
-    ensures { IfOk result (λ v. AllZip (IsAnswer [] docs.now) (map ask_view asks.now) (map answer_view v.items)) }
-{
-    let mut found = Vec::new(alloc);
-    for ask in asks {
-        let one = answer(alloc, docs, ask)?;
-        found.push(one)?;
-    }
-    Ok(found)
-}
-
-// The reply to a search over these documents, which `n` operations made.
-fn searched(alloc: Global, n: u64, docs: &[Document], asks: &[Ask]) -> Result<Reply, NoMemory>
-    requires { length docs.now < 10000 }
-    ensures { IfOk result (λ r. IsFound [] n docs.now (record { asks = map ask_view asks.now }) (reply_view r)) }
-{
-    let results = answers(alloc, docs, asks)?;
-    Ok(Reply::Found {
-        n,
-        hit_count: docs.len() as u64,
-        results,
-    })
+    ghost invariant = { λ s. (s.taken ≤ vec_len s.docs) × (length s.labels ≤ s.settings.max_labels) };
 }
 
 impl Session {
     /// Nothing was added yet.
-    pub fn new(alloc: Global) -> Session
-        ensures { result ≡ empty_shelf }
+    pub fn new(alloc: Global, settings: Settings) -> Result<Session, NoMemory>
+        ensures { IfOk result (λ s. s ≡ record { settings = settings_view settings; shelf = empty_shelf }) }
     {
-        Session {
+        let labels = Taxonomy::new(alloc)?;
+        Ok(Session {
             alloc,
+            settings,
+            labels,
             docs: Vec::new(alloc),
             taken: 0,
-        }
+        })
     }
 
     fn add(&mut self, doc: Document) -> Reply
-        ensures right { RightReply no_settings self.old (add doc) (reply_view result) self.new }
+        ensures right { RightReply self.old.settings self.old.shelf (add_command doc) (reply_view result) self.new.shelf }
+        ensures same { self.new.settings ≡ self.old.settings }
+        ensures more { length self.new.shelf.docs ≤ length self.old.shelf.docs + 1 }
     {
-        let at = self.docs.len() as u64;
-        if self.docs.push(doc).is_ok() {
-            Reply::Placed { at }
-        } else {
-            Reply::Refused(Refusal::NoMemory)
-        }
+        add(
+            self.alloc,
+            &self.settings,
+            &mut self.labels,
+            &mut self.docs,
+            doc,
+        )
     }
 
     fn refresh(&mut self) -> Reply
-        ensures right { RightReply no_settings self.old refresh (reply_view result) self.new }
+        ensures right { RightReply self.old.settings self.old.shelf refresh_command (reply_view result) self.new.shelf }
+        ensures same { self.new.settings ≡ self.old.settings }
+        ensures more { length self.new.shelf.docs ≤ length self.old.shelf.docs + 1 }
     {
         self.taken = self.docs.len();
         Reply::Number {
@@ -115,11 +78,17 @@ impl Session {
     }
 
     fn search(&self, asks: &[Ask]) -> Reply
-        requires few { length self.now.docs < 10000 }
-        ensures right { RightReply no_settings self.now (search (record { asks = map ask_view asks.now })) (reply_view result) self.now }
+        requires few { length self.now.shelf.docs < 10000 }
+        ensures right { RightReply self.now.settings self.now.shelf (search_command (record { asks = map ask_view asks.now })) (reply_view result) self.now.shelf }
     {
         let (taken, _) = self.docs.split_at(self.taken);
-        match searched(self.alloc, self.taken as u64, taken, asks) {
+        match search(
+            self.alloc,
+            &self.settings.config,
+            self.taken as u64,
+            taken,
+            asks,
+        ) {
             Ok(reply) => reply,
             Err(NoMemory) => Reply::Refused(Refusal::NoMemory),
         }
@@ -127,9 +96,10 @@ impl Session {
 
     /// Carries out a command, and answers it.
     pub fn step(&mut self, command: Command) -> Reply
-        requires few { length self.old.docs < 10000 }
-        ensures right { RightReply no_settings self.old (command_view command) (reply_view result) self.new }
-        ensures more { length self.new.docs ≤ length self.old.docs + 1 }
+        requires few { length self.old.shelf.docs < 10000 }
+        ensures right { RightReply self.old.settings self.old.shelf (command_view command) (reply_view result) self.new.shelf }
+        ensures same { self.new.settings ≡ self.old.settings }
+        ensures more { length self.new.shelf.docs ≤ length self.old.shelf.docs + 1 }
     {
         match command {
             Command::Add { doc } => self.add(doc),
@@ -140,12 +110,11 @@ impl Session {
 }
 
 #[tactic(auto, using(crate::proofs::Replies::replied, crate::proofs::Replies::replies_start, crate::proofs::Replies::replies_end))]
-/// The lines of the replies to these orders, from the start on.
-pub fn reply_to_all(alloc: Global, orders: Vec<Order>) -> Result<Vec<u8>, NoMemory>
-    requires { length orders.items < 10000 }
-    ensures { IfOk result (λ v. AreReplies orders.items v.items) }
+fn reply_each(alloc: Global, session: &mut Session, orders: Vec<Order>) -> Result<Vec<u8>, NoMemory>
+    requires few { length orders.items < 10000 }
+    requires start { session.old.shelf ≡ empty_shelf }
+    ensures { IfOk result (λ v. AreReplies session.old.settings orders.items v.items) }
 {
-    let mut session = Session::new(alloc);
     let mut out = Vec::new(alloc);
     for order in orders {
         let Order {
@@ -157,4 +126,17 @@ pub fn reply_to_all(alloc: Global, orders: Vec<Order>) -> Result<Vec<u8>, NoMemo
         write_reply(alloc, &mut out, number, line, &reply)?;
     }
     Ok(out)
+}
+
+/// The lines of the replies to these orders, from the start on.
+pub fn reply_to_all(
+    alloc: Global,
+    settings: Settings,
+    orders: Vec<Order>,
+) -> Result<Vec<u8>, NoMemory>
+    requires { length orders.items < 10000 }
+    ensures { IfOk result (λ v. AreReplies (settings_view settings) orders.items v.items) }
+{
+    let mut session = Session::new(alloc, settings)?;
+    reply_each(alloc, &mut session, orders)
 }

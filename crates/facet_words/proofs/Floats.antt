@@ -7,7 +7,8 @@ use Rattle.serde_json.specs.View.{items_of}
 use Rattle.serde_json.specs.Written.{has_float, items_have_float}
 use Rattle.facet_model.specs.Listing.{Counted}
 use Rattle.facet_model.specs.Results.{Listed}
-use Rattle.facet_words.specs.Replies.{Answer, top_answer, no_memory, Reply, placed, numbered, found, refused}
+use Rattle.facet_model.specs.Accepts.{no_component, not_hierarchical, not_multi_valued}
+use Rattle.facet_words.specs.Replies.{Answer, top_answer, broken, labels_full, top_zero, no_memory, Reply, placed, numbered, found, refused}
 use Rattle.facet_words.specs.ReplyLines.{child_data, listed_data, answer_data, reply_data}
 
 children_plain : (cs : List Counted) → items_have_float (items_of (map child_data cs)) ≡ false
@@ -36,4 +37,9 @@ unfolding reply_data
 reply_plain session line (placed at) = refl
 reply_plain session line (numbered n) = refl
 reply_plain session line (found f) = rw (answers_plain f.answers) refl
+reply_plain session line (refused (broken (no_component facet))) = refl
+reply_plain session line (refused (broken (not_hierarchical facet len))) = refl
+reply_plain session line (refused (broken (not_multi_valued facet))) = refl
+reply_plain session line (refused (labels_full size)) = refl
+reply_plain session line (refused (top_zero ask)) = refl
 reply_plain session line (refused no_memory) = refl

@@ -3,3 +3,4 @@ pub mod FirstLines
 pub mod Members
 pub mod Orders
 pub mod Floats
+mod Dimensions

@@ -1,13 +1,10 @@
 -- Orders, read line by line.
-use Rattle.std.proofs.Common.{◌≡◌, ℕ, ◌+◌, Bool, List, [], ◌∷◌, ◌++◌, map, Option, Some, None, option_map, refl, sym, ap, ◌∙◌, append_assoc}
+use Rattle.std.proofs.Common.{◌≡◌, ℕ, ◌+◌, List, [], ◌∷◌, ◌++◌, Option, Some, None, option_map, refl, sym, ap, ◌∙◌, append_assoc}
 use Rattle.std.proofs.lemmas.List.{append-nil}
-use Rattle.facet_words.specs.Commands.{Command, Order, no_settings}
-use Rattle.facet_words.specs.CommandViews.{command_view, order_view}
-use Rattle.facet_words.specs.Lines.{lines_of}
-use Rattle.facet_words.specs.Orders.{config_at, order_at}
-use Rattle.facet_words.specs.Scripts.{orders_from, has_form, script}
-use Rattle.facet_words.specs.Shapes.{◌>>=◌, when}
-use Rattle.facet_words.specs.declared.command.Order as read
+use Rattle.facet_words.specs.Commands.{Order}
+use Rattle.facet_words.specs.Orders.{order_at}
+use Rattle.facet_words.specs.Scripts.{orders_from}
+use Rattle.facet_words.specs.Shapes.{◌>>=◌}
 
 -- `done` are the orders of the lines before `rest`, which begins with this number
 pub record IsReadTo (done : List Order) (line : ℕ) (rest : List (List ℕ)) (all : Option (List Order)) : Type 0 where
@@ -39,13 +36,3 @@ pub read_ends : (done : List Order) (line : ℕ) (rest : List (List ℕ)) (all :
 read_ends done line rest all none part =
     let last : Some [] ≡ orders_from line rest = rw none refl in
     ap (λ (os : List Order). Some os) (sym (append-nil done)) ∙ ap (option_map (λ os. done ++ os)) last ∙ part.is
-
-commands_of : (os : List read.Order) → map (λ o. o.command) (map order_view os) ≡ map (λ o. command_view o.command) os
-commands_of [] = refl
-commands_of (o ∷ os) = ap (λ (cs : List Command). command_view o.command ∷ cs) (commands_of os)
-
--- the script of a config line and of the orders behind it, where these have the form
-pub script_read : (bytes first rest : List ℕ) (os : List read.Order) (b : Bool) → lines_of bytes ≡ first ∷ lines_of rest → config_at first ≡ Some no_settings → Some (map order_view os) ≡ orders_from 2 (lines_of rest)
-    → b ≡ has_form (map (λ o. command_view o.command) os) → when b (record { settings = no_settings; orders = map order_view os }) ≡ script bytes
-unfolding script
-script_read bytes first rest os b cut config orders form = rw (cut, config, ← orders, commands_of os, form) refl

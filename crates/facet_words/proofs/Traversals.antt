@@ -8,7 +8,7 @@ use Rattle.serde_json.specs.Data.{Data}
 use Rattle.serde_json.specs.declared.value.Value.{Value}
 use Rattle.std.proofs.lemmas.Bool.{le-leb}
 use Rattle.serde_json.specs.Find.{as_array}
-use Rattle.facet_words.specs.Shapes.{all_some, items_list, list_within}
+use Rattle.facet_words.specs.Shapes.{all_some, items_list, list_of, list_within}
 
 -- a shape of the items of an array, and of the values that they are
 pub items_map : {A : Type 0} (f : Data → A) (vs : List Value) → map f (items_list (items_view vs)) ≡ map (λ v. f (view v)) vs
@@ -59,3 +59,7 @@ pub list_read : {A : Type 0} (shape : Data → Option A) (vs : List Value) (d : 
     → all_some (map (λ v. shape (view v)) vs) ≡ list_within low high shape d
 list_read shape vs d low high is above below =
     rw (← is, items_length vs, le-leb low (length vs) above, le-leb (length vs) high below, items_map shape vs) refl
+
+-- an array of any length, read in a shape
+pub any_list_read : {A : Type 0} (shape : Data → Option A) (vs : List Value) (d : Data) → Some (items_view vs) ≡ as_array d → all_some (map (λ v. shape (view v)) vs) ≡ list_of shape d
+any_list_read shape vs d is = rw (← is, items_map shape vs) refl

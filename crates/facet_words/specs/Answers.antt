@@ -1,47 +1,83 @@
 -- Which replies of one session are right, and which bytes are a script's output.
-use Rattle.std.specs.Prelude.{◌≡◌, ◌⊎◌, ℕ, List, [], ◌∷◌, ◌++◌, length, take, Option, Some}
-use Rattle.std.specs.List.{AllZip}
+use Rattle.std.specs.Prelude.{◌≡◌, ◌≤◌, ◌⊎◌, ℕ, nat_lt, if◌then◌else◌, List, [], ◌∷◌, ◌++◌, length, take, filter_map, flat_map, fold, slice_get, Option, Some, None, option_map}
+use Rattle.std.specs.List.{AllZip, enumerate_from}
+use Rattle.facet_names.specs.Labels.{with_label, prefixes}
 use Rattle.facet_model.specs.Flags.{Config}
 use Rattle.facet_model.specs.Documents.{Doc}
-use Rattle.facet_model.specs.Asks.{Asked, top}
+use Rattle.facet_model.specs.Accepts.{Broken, first_broken}
+use Rattle.facet_model.specs.Asks.{Asked, top, ask_fault}
 use Rattle.facet_model.specs.Results.{Listed, IsTop}
 use Rattle.facet_words.specs.Commands.{Settings, Search, Command, add, refresh, search, Order, Script}
 use Rattle.facet_words.specs.Scripts.{script}
-use Rattle.facet_words.specs.Replies.{Answer, top_answer, no_memory, Reply, placed, numbered, found, refused}
+use Rattle.facet_words.specs.Replies.{Answer, top_answer, Refusal, broken, labels_full, top_zero, no_memory, Reply, placed, numbered, found, refused}
 use Rattle.facet_words.specs.ReplyLines.{reply_lines}
 
--- what a session works on: the documents, and how many of them the last refresh took
+-- what a session works on: the labels with the root, the documents, and how many of them the last refresh took
 pub record Shelf : Type 0 where
+  pub labels : List (List (List ℕ))
   pub docs : List Doc
   pub taken : ℕ
 
+-- the root alone, and no document
 abbrev pub empty_shelf : Shelf
-empty_shelf = record { docs = []; taken = 0 }
+empty_shelf = record { labels = [] ∷ []; docs = []; taken = 0 }
 
 -- the documents that a search sees
 abbrev pub snapshot : Shelf → List Doc
 snapshot shelf = take shelf.taken shelf.docs
 
--- ---- each command
+-- ---- add
+
+-- the labels, and at their end each prefix of a label of the document that is missing, facet by facet, the dimension first
+abbrev pub with_labels : List (List (List ℕ)) → Doc → List (List (List ℕ))
+with_labels labels doc = fold with_label labels (flat_map prefixes doc.labels)
+
+-- The reply to an add, and what it leaves. The labels that were added before it was refused stay.
+abbrev pub added : Settings → Shelf → Doc → Option Broken → Reply × Shelf
+added settings shelf doc (Some b) = (refused (broken b), shelf)
+added settings shelf doc None =
+    let all = with_labels shelf.labels doc in
+    if nat_lt settings.max_labels (length all) then (refused (labels_full settings.max_labels), record shelf { labels = take settings.max_labels all })
+    else (placed (length shelf.docs), record shelf { labels = all; docs = shelf.docs ++ doc ∷ [] })
+
+-- without memory an add leaves the first of the labels that it would have left
+abbrev pub LeavesSome : Settings → Shelf → Doc → Option Broken → Shelf → Type 0
+LeavesSome settings shelf doc (Some b) next = next ≡ shelf
+LeavesSome settings shelf doc None next = (k : ℕ) × (length shelf.labels ≤ k) × (k ≤ settings.max_labels) × (next ≡ record shelf { labels = take k (with_labels shelf.labels doc) })
+
+-- ---- search
+
+-- the first ask that is refused
+abbrev pub first_refused : List Asked → Option Refusal
+first_refused asks = slice_get (filter_map (λ e. option_map (λ f. top_zero e.0) (ask_fault e.1)) (enumerate_from 0 asks)) 0
 
 -- the answer to an ask over these documents
 abbrev pub IsAnswer : Config → List Doc → Asked → Answer → Type 0
 IsAnswer config docs (top path n) a = (r : Option Listed) × IsTop config docs path n r × (a ≡ top_answer r)
 
 -- The reply to a search over these documents, which so many operations made. Without a query every document is a hit.
-abbrev pub IsFound : Config → ℕ → List Doc → Search → Reply → Type 0
-IsFound config operations docs s reply = (answers : List Answer) × AllZip (IsAnswer config docs) s.asks answers
+abbrev pub IsFound : Config → ℕ → List Doc → Search → Option Refusal → Reply → Type 0
+IsFound config operations docs s (Some r) reply = reply ≡ refused r
+IsFound config operations docs s None reply = (answers : List Answer) × AllZip (IsAnswer config docs) s.asks answers
     × (reply ≡ found (record { operations = operations; hit_count = length docs; answers = answers }))
+
+-- ---- each command
 
 -- the reply is right, and leaves the next shelf
 abbrev pub IsRight : Settings → Shelf → Command → Reply → Shelf → Type 0
-IsRight settings shelf (add doc) reply next = (reply ≡ placed (length shelf.docs)) × (next ≡ record shelf { docs = shelf.docs ++ doc ∷ [] })
+IsRight settings shelf (add doc) reply next = let r = added settings shelf doc (first_broken settings.config doc) in (reply ≡ r.0) × (next ≡ r.1)
 IsRight settings shelf refresh reply next = (reply ≡ numbered (length shelf.docs)) × (next ≡ record shelf { taken = length shelf.docs })
-IsRight settings shelf (search s) reply next = IsFound settings.config shelf.taken (snapshot shelf) s reply × (next ≡ shelf)
+IsRight settings shelf (search s) reply next = IsFound settings.config shelf.taken (snapshot shelf) s (first_refused s.asks) reply × (next ≡ shelf)
 
--- it is right, or there was no memory and all is as before
+-- what a command leaves that found no memory
+abbrev pub IsLeft : Settings → Shelf → Command → Shelf → Type 0
+IsLeft settings shelf (add doc) next = LeavesSome settings shelf doc (first_broken settings.config doc) next
+IsLeft settings shelf refresh next = next ≡ shelf
+IsLeft settings shelf (search s) next = next ≡ shelf
+
+-- it is right, or there was no memory
 abbrev pub RightReply : Settings → Shelf → Command → Reply → Shelf → Type 0
-RightReply settings shelf command reply next = IsRight settings shelf command reply next ⊎ ((reply ≡ refused no_memory) × (next ≡ shelf))
+RightReply settings shelf command reply next = IsRight settings shelf command reply next ⊎ ((reply ≡ refused no_memory) × IsLeft settings shelf command next)
 
 -- ---- a run
 

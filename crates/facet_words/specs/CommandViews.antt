@@ -6,6 +6,7 @@ use Rattle.facet_words.specs.declared.command.Command.{Command}
 use Rattle.facet_words.specs.declared.command.Command.TheVariants as commands
 use Rattle.facet_words.specs.declared.command.Order.{Order}
 use Rattle.facet_words.specs.declared.command.Script.{Script}
+use Rattle.facet_words.specs.declared.command.Settings.{Settings}
 
 abbrev pub command_view : Command → plain.Command
 command_view (commands.Add doc) = plain.add doc
@@ -15,6 +16,8 @@ command_view (commands.Search asks) = plain.search (record { asks = map ask_view
 abbrev pub order_view : Order → plain.Order
 order_view o = record { session = o.session; line = o.line; command = command_view o.command }
 
--- no config line sets anything yet
+abbrev pub settings_view : Settings → plain.Settings
+settings_view s = record { config = s.config; max_labels = s.max_labels }
+
 abbrev pub script_view : Script → plain.Script
-script_view s = record { settings = plain.no_settings; orders = map order_view s.orders.items }
+script_view s = record { settings = settings_view s.settings; orders = map order_view s.orders.items }

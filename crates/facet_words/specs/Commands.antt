@@ -1,16 +1,13 @@
 -- Scripts, as plain data.
-use Rattle.std.specs.Prelude.{ℕ, List, []}
+use Rattle.std.specs.Prelude.{ℕ, List}
 use Rattle.facet_model.specs.Flags.{Config}
 use Rattle.facet_model.specs.Documents.{Doc}
 use Rattle.facet_model.specs.Asks.{Asked}
 
--- what the config line sets
+-- what the config line sets: the declared dimensions, and how many labels there may be, with the root
 pub record Settings : Type 0 where
   pub config : Config
-
--- no dimension is declared
-abbrev pub no_settings : Settings
-no_settings = record { config = [] }
+  pub max_labels : ℕ
 
 -- what a search asks to be counted
 pub record Search : Type 0 where

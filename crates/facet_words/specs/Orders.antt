@@ -1,18 +1,39 @@
 -- What a line is: the settings, or an order.
-use Rattle.std.specs.Prelude.{ℕ, nat_le, if◌then◌else◌, List, [], ◌∷◌, codes, Option, Some, None}
+use Rattle.std.specs.Prelude.{ℕ, nat_le, not, if◌then◌else◌, Bool, false, List, [], ◌∷◌, codes, map, take, Option, Some, None}
+use Rattle.std.specs.List.{list_any, list_all, enumerate_from}
 use Rattle.std.specs.Str.{bytes_eq}
 use Rattle.serde_json.specs.Data.{Data}
-use Rattle.serde_json.specs.Find.{as_str}
+use Rattle.serde_json.specs.Find.{as_str, as_bool}
+use Rattle.facet_model.specs.declared.flags.DimFlags.{DimFlags}
+use Rattle.facet_model.specs.Flags.{Config}
 use Rattle.facet_model.specs.Asks.{Asked, top}
-use Rattle.facet_words.specs.Commands.{Settings, no_settings, Command, add, refresh, search, Order}
+use Rattle.facet_words.specs.Commands.{Settings, Command, add, refresh, search, Order}
 use Rattle.facet_words.specs.Lines.{line_data}
-use Rattle.facet_words.specs.Shapes.{◌>>=◌, when, text_within, whole_within, list_within, path, key, key_or, keys_among}
+use Rattle.facet_words.specs.Shapes.{◌>>=◌, when, text_within, whole_within, list_of, list_within, path, key, key_or, keys_among}
 
 -- ---- the config line
 
--- a config line has no further keys yet
+-- a dimension and its flags
+unfoldable pub dimension_of : Data → Option (List ℕ × DimFlags)
+dimension_of d = do
+  dim ← key (codes "dim") (text_within 1 1024) d
+  hierarchical ← key_or (codes "hierarchical") false as_bool d
+  when (keys_among (codes "dim" ∷ codes "hierarchical" ∷ []) d) (dim, record { hierarchical = hierarchical; multi_valued = false; require_dim_count = false })
+
+-- the name at a place differs from all before it
+abbrev pub is_new : List (List ℕ) → ℕ × List ℕ → Bool
+is_new names e = not (list_any (bytes_eq e.1) (take e.0 names))
+
+-- these declarations, where no two have one name
+abbrev pub config_from : Config → Option Config
+config_from dims = when (list_all (is_new (map (λ d. d.0) dims)) (enumerate_from 0 (map (λ d. d.0) dims))) dims
+
 unfoldable pub settings_of : Data → Option Settings
-settings_of d = when (keys_among (codes "cmd" ∷ []) d) no_settings
+settings_of d = do
+  dims ← key_or (codes "dims") [] (list_of dimension_of) d
+  config ← config_from dims
+  max_labels ← key_or (codes "max_labels") 1000000 (whole_within 1 1000000) d
+  when (keys_among (codes "cmd" ∷ codes "dims" ∷ codes "max_labels" ∷ []) d) (record { config = config; max_labels = max_labels })
 
 unfoldable pub config_of : Data → Option Settings
 config_of d = do

@@ -4,10 +4,11 @@ use Rattle.serde_json.specs.Data.{Data, null, number, string, array, object, uns
 use Rattle.serde_json.specs.Find.{of_integer}
 use Rattle.serde_json.specs.View.{items_of}
 use Rattle.serde_json.specs.Written.{compact_text}
+use Rattle.facet_model.specs.Accepts.{Broken, no_component, not_hierarchical, not_multi_valued}
 use Rattle.facet_model.specs.Listing.{Counted}
 use Rattle.facet_model.specs.Results.{Listed}
 use Rattle.facet_words.specs.Commands.{Order}
-use Rattle.facet_words.specs.Replies.{Answer, top_answer, Refusal, no_memory, Reply, placed, numbered, found, refused}
+use Rattle.facet_words.specs.Replies.{Answer, top_answer, Refusal, broken, labels_full, top_zero, no_memory, Reply, placed, numbered, found, refused}
 
 -- keys with their values, in any order
 abbrev pub Fields : Type 0
@@ -45,7 +46,15 @@ answer_data (top_answer (Some r)) = listed_data r
 
 -- ---- replies
 
+abbrev pub broken_fields : Broken → Fields
+broken_fields (no_component facet) = (codes "refused", string (codes "no_component")) ∷ (codes "facet", whole_data facet) ∷ []
+broken_fields (not_hierarchical facet len) = (codes "refused", string (codes "not_hierarchical")) ∷ (codes "facet", whole_data facet) ∷ (codes "len", whole_data len) ∷ []
+broken_fields (not_multi_valued facet) = (codes "refused", string (codes "not_multi_valued")) ∷ (codes "facet", whole_data facet) ∷ []
+
 abbrev pub refusal_fields : Refusal → Fields
+refusal_fields (broken b) = broken_fields b
+refusal_fields (labels_full size) = (codes "refused", string (codes "labels_full")) ∷ (codes "size", whole_data size) ∷ []
+refusal_fields (top_zero ask) = (codes "refused", string (codes "top_zero")) ∷ (codes "ask", whole_data ask) ∷ []
 refusal_fields no_memory = (codes "refused", string (codes "no_memory")) ∷ []
 
 -- What a reply has besides its line and its session. No hits are listed yet.

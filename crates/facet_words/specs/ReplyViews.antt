@@ -1,5 +1,6 @@
 -- The plain data of replies.
 use Rattle.std.specs.Prelude.{map, option_map}
+use Rattle.facet_model.specs.Accepts.{no_component, not_hierarchical, not_multi_valued}
 use Rattle.facet_model.specs.ResultViews.{result_view}
 use Rattle.facet_words.specs.Replies as plain
 use Rattle.facet_words.specs.declared.reply.FacetAnswer.{FacetAnswer}
@@ -13,6 +14,11 @@ abbrev pub answer_view : FacetAnswer → plain.Answer
 answer_view (answers.Top r) = plain.top_answer (option_map result_view r)
 
 abbrev pub refusal_view : Refusal → plain.Refusal
+refusal_view (refusals.NoComponent facet) = plain.broken (no_component facet)
+refusal_view (refusals.NotHierarchical facet len) = plain.broken (not_hierarchical facet len)
+refusal_view (refusals.NotMultiValued facet) = plain.broken (not_multi_valued facet)
+refusal_view (refusals.LabelsFull size) = plain.labels_full size
+refusal_view (refusals.TopZero ask) = plain.top_zero ask
 refusal_view refusals.NoMemory = plain.no_memory
 
 abbrev pub reply_view : Reply → plain.Reply

@@ -43,6 +43,12 @@ abbrev pub items_list : Items → List Data
 items_list no_items = []
 items_list (item d ds) = d ∷ items_list ds
 
+-- an array of values of one shape
+abbrev pub list_of : {A : Type 0} → (Data → Option A) → Data → Option (List A)
+list_of shape d = do
+  items ← as_array d
+  all_some (map shape (items_list items))
+
 -- an array of so many values of one shape
 abbrev pub list_within : {A : Type 0} → ℕ → ℕ → (Data → Option A) → Data → Option (List A)
 list_within low high shape d = do

@@ -1,3 +1,6 @@
+ghost use Rattle.std.specs.Prelude.{◌≤◌};
+
+use facet_config::FacetsConfig;
 use facet_model::{Ask, Document};
 
 /// A command of a script.
@@ -19,8 +22,19 @@ pub struct Order {
     pub command: Command,
 }
 
-/// The orders of a script, in line order.
-#[derive(Debug, Drop)]
+/// What the config line sets.
+#[derive(Drop)]
+pub struct Settings {
+    pub config: FacetsConfig,
+    /// How many labels there may be, with the root: 1 to 1,000,000.
+    pub max_labels: u32,
+    ghost some: { 1 ≤ max_labels },
+    ghost few: { max_labels ≤ 1000000 },
+}
+
+/// The settings of a script and its orders, in line order.
+#[derive(Drop)]
 pub struct Script {
+    pub settings: Settings,
     pub orders: Vec<Order>,
 }

@@ -4,12 +4,14 @@
 mod command;
 mod lines;
 mod order;
+mod refusing;
 mod reply;
 mod script;
+mod settings;
 mod shape;
 mod writing;
 
-pub use command::{Command, Order, Script};
+pub use command::{Command, Order, Script, Settings};
 pub use reply::{FacetAnswer, Refusal, Reply};
 pub use script::read_script;
 pub use writing::write_reply;

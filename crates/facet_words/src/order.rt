@@ -2,9 +2,8 @@ ghost use Rattle.std.specs.Prelude.{◌≡◌, ◌≤◌, [], IfOk, IfSome, OnSo
 ghost use Rattle.serde_json.specs.View.{view};
 ghost use Rattle.facet_model.specs.AskViews.{ask_view};
 ghost use Rattle.facet_words.specs.CommandViews.{command_view, order_view};
-ghost use Rattle.facet_words.specs.Commands.{no_settings};
-ghost use Rattle.facet_words.specs.Orders.{config_at, config_of, settings_of, add_of, refresh_of, ask_of, search_of, command_named, order_of, order_at};
-ghost use Rattle.facet_words.specs.Shapes.{key, key_or, list_within, is_within, path, when};
+ghost use Rattle.facet_words.specs.Orders.{add_of, refresh_of, ask_of, search_of, command_named, order_of, order_at};
+ghost use Rattle.facet_words.specs.Shapes.{key, key_or, list_within, is_within, path};
 
 use crate::command::{Command, Order};
 use crate::lines::line_value;
@@ -13,24 +12,6 @@ use facet_model::{Ask, DocShape, Document};
 use facet_names::{NoMemory, Path};
 use serde_json::Value;
 use std::alloc::Global;
-
-#[tactic(auto, unfolding(crate::specs::Orders::settings_of, crate::specs::Orders::config_of))]
-fn is_config(value: &Value) -> bool
-    ensures { config_of (view value.now) ≡ when result no_settings }
-{
-    name_at(value, "cmd") == Some("config") && keys_among(value, &["cmd"])
-}
-
-/// Whether a line's bytes are the config line.
-#[tactic(auto, unfolding(crate::specs::Orders::config_at))]
-pub fn is_config_line(alloc: Global, line: &[u8]) -> Result<bool, NoMemory>
-    ensures { IfOk result (λ b. config_at line.now ≡ when b no_settings) }
-{
-    match line_value(alloc, line)? {
-        Some(value) => Ok(is_config(&value)),
-        None => Ok(false),
-    }
-}
 
 fn facets_in(alloc: Global, value: &Value) -> Result<Option<Vec<Path>>, NoMemory>
     ensures facets { IfOk result (λ o. option_map (λ v. v.items) o ≡ key_or (codes "facets") [] (list_within 0 256 path) (view value.now)) }

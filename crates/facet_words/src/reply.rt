@@ -10,6 +10,17 @@ pub enum FacetAnswer {
 /// Why a command was refused.
 #[derive(Clone, Copy, Debug, PartialEq, Eq)]
 pub enum Refusal {
+    /// The facet at this place, from 0, is a dimension alone.
+    NoComponent { facet: u64 },
+    /// The dimension of the facet at this place is not hierarchical, and `len` components stand behind it.
+    NotHierarchical { facet: u64, len: u64 },
+    /// The dimension of the facet at this place is not multi-valued, and an earlier facet has it too.
+    NotMultiValued { facet: u64 },
+    /// A label is missing, and the list of labels has this size, with the root, and may not grow.
+    LabelsFull { size: u64 },
+    /// The ask at this place, from 0, asks for no child.
+    TopZero { ask: u64 },
+    /// An allocation was refused.
     NoMemory,
 }
 

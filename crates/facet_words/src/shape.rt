@@ -6,7 +6,7 @@ ghost use Rattle.serde_json.specs.Data.{Data};
 ghost use Rattle.serde_json.specs.Find.{as_str};
 ghost use Rattle.serde_json.specs.View.{view};
 ghost use Rattle.facet_names.specs.Paths.{texts};
-ghost use Rattle.facet_words.specs.Shapes.{key, whole_within, text_within, list_within, all_some, path, path_from, keys_among as among};
+ghost use Rattle.facet_words.specs.Shapes.{key, whole_within, text_within, list_of, list_within, all_some, path, path_from, keys_among as among};
 
 use facet_names::{NoMemory, Path, PathFault};
 use serde_json::{Map, Value};
@@ -108,6 +108,16 @@ fn each_in<T: Shaped>(alloc: Global, list: &[Value]) -> Result<Option<Vec<T>>, N
         out.push(item)?;
     }
     Ok(Some(out))
+}
+
+/// The values of an array.
+pub fn list_of_in<T: Shaped>(alloc: Global, value: &Value) -> Result<Option<Vec<T>>, NoMemory>
+    ensures { IfOk result (λ o. option_map (λ v. map T.plain v.items) o ≡ list_of T.shape (view value.now)) }
+{
+    let Some(list) = value.as_array() else {
+        return Ok(None);
+    };
+    each_in(alloc, list)
 }
 
 /// The values of an array of so many.

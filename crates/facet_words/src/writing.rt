@@ -9,7 +9,8 @@ ghost use Rattle.facet_words.specs.Replies.{placed, numbered, found, refused};
 ghost use Rattle.facet_words.specs.ReplyLines.{fields, whole_data, list_data, path_data, child_data, listed_data, answer_data, reply_data, json_line, reply_line};
 ghost use Rattle.facet_words.specs.ReplyViews.{answer_view, reply_view, refusal_view};
 
-use crate::reply::{FacetAnswer, Refusal, Reply};
+use crate::refusing::refused_value;
+use crate::reply::{FacetAnswer, Reply};
 use facet_model::{Child, FacetResult};
 use facet_names::{NoMemory, Path};
 use serde_json::{Value, json};
@@ -108,22 +109,6 @@ fn found_value(
     ensures { IfOk result (λ v. view v ≡ fields ((codes "line", whole_data line) ∷ (codes "s", whole_data session) ∷ (codes "n", whole_data n) ∷ (codes "hit_count", whole_data hit_count) ∷ (codes "hits", array_of no_items) ∷ (codes "results", view results) ∷ [])) }
 {
     json!(in alloc; {"hit_count": hit_count, "hits": [], "line": line, "n": n, "results": results, "s": session})
-}
-
-#[tactic(auto, unfolding(crate::specs::ReplyLines::reply_data))]
-fn refused_value(
-    alloc: Global,
-    session: u32,
-    line: u32,
-    refusal: Refusal,
-) -> Result<Value, NoMemory>
-    ensures { IfOk result (λ v. view v ≡ reply_data session line (refused (refusal_view refusal))) }
-{
-    match refusal {
-        Refusal::NoMemory => {
-            Ok(json!(in alloc; {"line": line, "refused": "no_memory", "s": session})?)
-        }
-    }
 }
 
 #[tactic(auto, unfolding(crate::specs::ReplyLines::reply_data))]

@@ -34,6 +34,6 @@ fn main(rt: HostRuntime) -> ExitCode {
     };
     let mut source = StdSource::new(rt.reader());
     let mut sink = StdSink::new(rt.stdout());
-    let ended = run(rt.alloc(), &words, &mut source, &mut sink);
+    let ended = run(&rt, &words, &mut source, &mut sink);
     ExitCode::from(ended.status.code())
 }

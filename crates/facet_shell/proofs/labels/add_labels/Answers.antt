@@ -1,0 +1,20 @@
+use Rattle.std.proofs.Common.{arith, ℕ, List, take, sym, subst}
+use Rattle.std.specs.Prelude.{fold, flat_map}
+use Rattle.facet_names.specs.Labels.{prefixes, with_label}
+use Rattle.facet_shell.specs.Growing.{IsBetween}
+use Rattle.facet_shell.proofs.Grown.{between_more, first_paths_go_on, all_go_on}
+use Rattle.facet_shell.proofs.labels.add_labels.Goals as goal
+
+pub returns-in-Err-clause-between : goal.returns-in-Err-clause-between
+returns-in-Err-clause-between c = (between_more c.args.labels.now c.args.paths.now c.loop-path.path-index c.path-item.result c.loop-path-test.true (sym c.path-item.is) c.loop-path.labels c.add_prefixes.new.labels c.loop-path.invariant.grown c.in-Err.ensures.between).0
+
+pub returns-in-Err-clause-full : goal.returns-in-Err-clause-full
+returns-in-Err-clause-full c = λ not_memory.
+    let full = c.in-Err.ensures.full not_memory in
+    let more = (between_more c.args.labels.now c.args.paths.now c.loop-path.path-index c.path-item.result c.loop-path-test.true (sym c.path-item.is) c.loop-path.labels c.add_prefixes.new.labels c.loop-path.invariant.grown c.in-Err.ensures.between).1 in
+    record { size = full.size; full = full.full; more = omega (arith, full.more, more) }
+
+pub returns-clause-between : goal.returns-clause-between
+returns-clause-between c =
+    subst (λ (l : List (List (List ℕ))). IsBetween c.args.labels.now l (fold with_label c.args.labels.now (flat_map prefixes c.args.paths.now))) (sym c.loop-path.invariant.grown)
+    (all_go_on c.args.labels.now (flat_map prefixes (take c.loop-path.path-index c.args.paths.now)), first_paths_go_on c.args.labels.now c.args.paths.now c.loop-path.path-index)

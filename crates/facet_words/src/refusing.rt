@@ -1,0 +1,89 @@
+ghost use Rattle.std.specs.Prelude.{◌≡◌, IfOk};
+ghost use Rattle.serde_json.specs.View.{view};
+ghost use Rattle.facet_model.specs.Accepts.{no_component, not_hierarchical, not_multi_valued};
+ghost use Rattle.facet_words.specs.Replies.{broken, labels_full, top_zero, no_memory, refused};
+ghost use Rattle.facet_words.specs.ReplyLines.{reply_data};
+ghost use Rattle.facet_words.specs.ReplyViews.{refusal_view};
+
+use crate::reply::Refusal;
+use facet_names::NoMemory;
+use serde_json::{Value, json};
+use std::alloc::Global;
+
+#[tactic(auto, unfolding(crate::specs::ReplyLines::reply_data))]
+fn no_component_value(alloc: Global, session: u32, line: u32, facet: u64) -> Result<Value, NoMemory>
+    ensures { IfOk result (λ v. view v ≡ reply_data session line (refused (broken (no_component facet)))) }
+{
+    Ok(json!(in alloc; {"facet": facet, "line": line, "refused": "no_component", "s": session})?)
+}
+
+#[tactic(auto, unfolding(crate::specs::ReplyLines::reply_data))]
+fn not_hierarchical_value(
+    alloc: Global,
+    session: u32,
+    line: u32,
+    facet: u64,
+    len: u64,
+) -> Result<Value, NoMemory>
+    ensures { IfOk result (λ v. view v ≡ reply_data session line (refused (broken (not_hierarchical facet len)))) }
+{
+    Ok(
+        json!(in alloc; {"facet": facet, "len": len, "line": line, "refused": "not_hierarchical", "s": session})?,
+    )
+}
+
+#[tactic(auto, unfolding(crate::specs::ReplyLines::reply_data))]
+fn not_multi_valued_value(
+    alloc: Global,
+    session: u32,
+    line: u32,
+    facet: u64,
+) -> Result<Value, NoMemory>
+    ensures { IfOk result (λ v. view v ≡ reply_data session line (refused (broken (not_multi_valued facet)))) }
+{
+    Ok(
+        json!(in alloc; {"facet": facet, "line": line, "refused": "not_multi_valued", "s": session})?,
+    )
+}
+
+#[tactic(auto, unfolding(crate::specs::ReplyLines::reply_data))]
+fn labels_full_value(alloc: Global, session: u32, line: u32, size: u64) -> Result<Value, NoMemory>
+    ensures { IfOk result (λ v. view v ≡ reply_data session line (refused (labels_full size))) }
+{
+    Ok(json!(in alloc; {"line": line, "refused": "labels_full", "s": session, "size": size})?)
+}
+
+#[tactic(auto, unfolding(crate::specs::ReplyLines::reply_data))]
+fn top_zero_value(alloc: Global, session: u32, line: u32, ask: u64) -> Result<Value, NoMemory>
+    ensures { IfOk result (λ v. view v ≡ reply_data session line (refused (top_zero ask))) }
+{
+    Ok(json!(in alloc; {"ask": ask, "line": line, "refused": "top_zero", "s": session})?)
+}
+
+#[tactic(auto, unfolding(crate::specs::ReplyLines::reply_data))]
+fn no_memory_value(alloc: Global, session: u32, line: u32) -> Result<Value, NoMemory>
+    ensures { IfOk result (λ v. view v ≡ reply_data session line (refused no_memory)) }
+{
+    Ok(json!(in alloc; {"line": line, "refused": "no_memory", "s": session})?)
+}
+
+/// The reply that a command was refused.
+pub fn refused_value(
+    alloc: Global,
+    session: u32,
+    line: u32,
+    refusal: Refusal,
+) -> Result<Value, NoMemory>
+    ensures { IfOk result (λ v. view v ≡ reply_data session line (refused (refusal_view refusal))) }
+{
+    match refusal {
+        Refusal::NoComponent { facet } => no_component_value(alloc, session, line, facet),
+        Refusal::NotHierarchical { facet, len } => {
+            not_hierarchical_value(alloc, session, line, facet, len)
+        }
+        Refusal::NotMultiValued { facet } => not_multi_valued_value(alloc, session, line, facet),
+        Refusal::LabelsFull { size } => labels_full_value(alloc, session, line, size),
+        Refusal::TopZero { ask } => top_zero_value(alloc, session, line, ask),
+        Refusal::NoMemory => no_memory_value(alloc, session, line),
+    }
+}
