@@ -1,0 +1,11 @@
+pub mod Climbing
+pub mod Entries
+pub mod Dims
+pub mod Rolling
+pub mod Turns
+pub mod Adding
+pub mod Under
+pub mod Documents
+pub mod Walk
+pub mod Listed
+pub mod Below

@@ -1,0 +1,37 @@
+-- The children of a label with their counts, as the code walks over them.
+use Rattle.std.specs.Prelude.{◌-◌, ◌∷◌, ℕ, zero, suc, nat_lt, Bool, if◌then◌else◌, List, [], length, slice_get, slice_index_or, unwrap_or, Option, Some, None}
+use Rattle.std.specs.Option.{option_map_or}
+use Rattle.facet_names.specs.Labels.{place}
+use Rattle.facet_names.specs.Arrays.{is_child}
+use Rattle.facet_model.specs.Listing.{Counted}
+
+-- the last component of a path
+abbrev pub last_of : List (List ℕ) → List ℕ
+last_of path = unwrap_or (slice_get path (length path - 1)) []
+
+-- the numbers below the bound that pass, the greatest first
+abbrev pub falling : (ℕ → Bool) → ℕ → List ℕ
+falling passes zero = []
+falling passes (suc n) = if passes n then n ∷ falling passes n else falling passes n
+
+-- a child with its count
+abbrev pub entry_of : List (List (List ℕ)) → List ℕ → ℕ → Counted
+entry_of labels totals child = (last_of (slice_index_or labels child []), slice_index_or totals child 0)
+
+-- those of these children whose count is above 0
+abbrev pub entries_of : List (List (List ℕ)) → List ℕ → List ℕ → List Counted
+entries_of labels totals [] = []
+entries_of labels totals (c ∷ cs) = if nat_lt 0 (slice_index_or totals c 0) then entry_of labels totals c ∷ entries_of labels totals cs else entries_of labels totals cs
+
+-- all of a label's, the one that was added last first
+abbrev pub children_at : List (List (List ℕ)) → List ℕ → ℕ → List Counted
+children_at labels totals ord = entries_of labels totals (falling (is_child labels ord) (length labels))
+
+-- from this child on
+abbrev pub children_from : List (List (List ℕ)) → List ℕ → ℕ → Option ℕ → List Counted
+children_from labels totals ord None = []
+children_from labels totals ord (Some c) = entries_of labels totals (c ∷ falling (is_child labels ord) c)
+
+-- the count at a path, and 0 where it is no label
+abbrev pub count_at : List (List (List ℕ)) → List ℕ → List (List ℕ) → ℕ
+count_at labels totals path = option_map_or (λ ord. slice_index_or totals ord 0) (place labels path) 0

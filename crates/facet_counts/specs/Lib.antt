@@ -1,0 +1,5 @@
+pub mod Lists
+pub mod Tallies
+pub mod Climbs
+pub mod Kept
+pub mod Children

@@ -1,0 +1,101 @@
+ghost use Rattle.std.specs.Prelude.{◌≡◌, ◌<◌, ◌≤◌, ◌+◌, ◌++◌, ◌∷◌, ◌^◌, [], List, ℕ, All, nat_eq, length, slice_index_or, if◌then◌else◌, IfOk};
+ghost use Rattle.std.specs.List.{list_any, AllPairs};
+ghost use Rattle.facet_counts.specs.Lists.{IsCounted};
+ghost use Rattle.facet_counts.specs.Tallies.{HasAdded, AreCounts};
+
+use crate::counts::Counts;
+use crate::rolled::{roll, rolled_labels};
+use facet_config::FacetsConfig;
+use facet_names::NoMemory;
+use std::alloc::Global;
+use std::marker::Model;
+use taxo_list::TaxoView;
+
+/// Counts the ordinals of documents, one number for each label of a view: 4 bytes a label, and one more for whether its count is rolled up.
+#[derive(Drop)]
+pub struct Counter<'a> {
+    view: &'a TaxoView,
+    config: &'a FacetsConfig,
+    rolled: Vec<bool>,
+    counts: Vec<u32>,
+    added: u32,
+}
+
+impl<'a> Model for Counter<'a> {
+    ghost use Rattle.facet_counts.specs.Tallies.{Tally};
+    ghost use Rattle.facet_counts.specs.Kept.{IsCounter};
+
+    ghost Value = { Tally };
+
+    ghost view = { λ c. record { labels = c.view.now; config = c.config.now; own = c.counts.items; added = c.added } };
+
+    ghost invariant = { λ c. IsCounter (record { labels = c.view.now; config = c.config.now; own = c.counts.items; added = c.added }) c.rolled.items };
+}
+
+// Adds one at each of these ordinals.
+fn add_each(counts: &mut [u32], ords: &[u32])
+    requires within { All (λ ord. ord < length counts.old) ords.now }
+    requires distinct { AllPairs (λ a b. a ≡ b → ⊥) ords.now }
+    requires room { (ord : ℕ) → ord < length counts.old → slice_index_or counts.old ord 0 + 1 < 2 ^ 32 }
+    ensures { (ord : ℕ) → ord < length counts.old → slice_index_or counts.new ord 0 ≡ slice_index_or counts.old ord 0 + (if list_any (nat_eq ord) ords.now then 1 else 0) }
+{
+    for ord in ords {
+        counts[*ord as usize] += 1;
+    }
+}
+
+impl<'a> Counter<'a> {
+    /// No document is counted yet. It takes time and memory in proportion to the view's labels.
+    pub fn new(
+        alloc: Global,
+        view: &'a TaxoView,
+        config: &'a FacetsConfig,
+    ) -> Result<Counter<'a>, NoMemory>
+        ensures added { IfOk result (λ c. HasAdded c []) }
+        ensures labels { IfOk result (λ c. c.labels ≡ view.now) }
+        ensures config { IfOk result (λ c. c.config ≡ config.now) }
+        ensures number { IfOk result (λ c. c.added ≡ 0) }
+    {
+        let rolled = rolled_labels(alloc, view, config)?;
+        let mut counts = Vec::new(alloc);
+        counts.resize(view.size() as usize, 0)?;
+        Ok(Counter {
+            view,
+            config,
+            rolled,
+            counts,
+            added: 0,
+        })
+    }
+
+    /// Counts a document, by its ordinals. Fewer than a million were counted before.
+    pub fn add_doc(&mut self, counted: &[u32])
+        requires counted { IsCounted self.old.config self.old.labels counted.now }
+        requires few { self.old.added < 1000000 }
+        ensures added { (lists : List (List ℕ)) → HasAdded self.old lists → HasAdded self.new (lists ++ counted.now ∷ []) }
+        ensures number { self.new.added ≡ self.old.added + 1 }
+        ensures labels { self.new.labels ≡ self.old.labels }
+        ensures config { self.new.config ≡ self.old.config }
+    {
+        add_each(&mut self.counts, counted);
+        self.added += 1;
+    }
+
+    /// The counts, rolled up to the parents in dimensions that are hierarchical and not multi-valued. One walk over the labels, from the last to
+    /// the first, so that a label's count is whole before it goes to the parent.
+    pub fn roll_up(self) -> Counts<'a>
+        ensures counts { (lists : List (List ℕ)) → HasAdded self.entry lists → AreCounts result lists }
+        ensures labels { result.labels ≡ self.entry.labels }
+        ensures config { result.config ≡ self.entry.config }
+    {
+        let Counter {
+            view,
+            config,
+            rolled,
+            mut counts,
+            ..
+        } = self;
+        roll(view, &rolled, &mut counts);
+        Counts::of(view, config, counts)
+    }
+}

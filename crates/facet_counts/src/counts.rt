@@ -1,0 +1,122 @@
+ghost use Rattle.std.specs.Prelude.{◌≡◌, ◌<◌, ◌≤◌, ◌^◌, ℕ, List, Some, false, not, pos, negsuc, length, slice_index_or, option_map, if◌then◌else◌, IfOk};
+ghost use Rattle.std.specs.List.{AllZip};
+ghost use Rattle.facet_names.specs.Labels.{IsLabelList, place};
+ghost use Rattle.facet_model.specs.Documents.{Doc, dim_of};
+ghost use Rattle.facet_model.specs.Flags.{flags};
+ghost use Rattle.facet_model.specs.ResultViews.{result_view};
+ghost use Rattle.facet_model.specs.Results.{IsTop};
+ghost use Rattle.facet_counts.specs.Kept.{IsTotals};
+ghost use Rattle.facet_counts.specs.Lists.{IsListOf, lists_at};
+ghost use Rattle.facet_counts.specs.Tallies.{AreCounts};
+
+use crate::children::{children_below, sum_of};
+use facet_config::FacetsConfig;
+use facet_model::{DimFlags, FacetResult};
+use facet_names::{NoMemory, Path};
+use std::alloc::Global;
+use std::marker::Model;
+use taxo_list::TaxoView;
+
+/// How many documents count for each label of a view: the counts of a counter, rolled up.
+#[derive(Drop)]
+pub struct Counts<'a> {
+    view: &'a TaxoView,
+    config: &'a FacetsConfig,
+    totals: Vec<u32>,
+}
+
+impl<'a> Model for Counts<'a> {
+    ghost use Rattle.facet_counts.specs.Tallies.{Totals};
+    ghost use Rattle.facet_counts.specs.Kept.{IsTotals};
+
+    ghost Value = { Totals };
+
+    ghost view = { λ c. record { labels = c.view.now; config = c.config.now; totals = c.totals.items } };
+
+    ghost invariant = { λ c. IsTotals (record { labels = c.view.now; config = c.config.now; totals = c.totals.items }) };
+}
+
+// The value of a path: the sum of its children's counts where the dimension is not multi-valued, else its own count or none.
+fn value_for(flags: DimFlags, own: u32, sum: u64) -> i64
+    requires { sum < 2 ^ 63 }
+    ensures { result ≡ (if not flags.multi_valued then pos sum else (if flags.require_dim_count then pos own else negsuc 0)) }
+{
+    if !flags.multi_valued {
+        sum as i64
+    } else if flags.require_dim_count {
+        i64::from(own)
+    } else {
+        -1
+    }
+}
+
+impl<'a> Counts<'a> {
+    pub(crate) fn of(view: &'a TaxoView, config: &'a FacetsConfig, totals: Vec<u32>) -> Counts<'a>
+        requires { IsTotals (record { labels = view.now; config = config.now; totals = totals.items }) }
+        ensures { result ≡ record { labels = view.now; config = config.now; totals = totals.items } }
+    {
+        Counts {
+            view,
+            config,
+            totals,
+        }
+    }
+
+    /// The number of documents that count for a label: in a dimension that is hierarchical and not multi-valued those that have it or a label
+    /// below it among their ordinals, and in every other dimension those that have it. It takes no memory.
+    pub fn at(&self, ord: u32) -> u32
+        requires some { 0 < ord }
+        requires within { ord < length self.now.labels }
+        ensures total { result ≡ slice_index_or self.now.totals ord 0 }
+        ensures counts { (lists : List (List ℕ)) → AreCounts self.now lists → result ≡ lists_at self.now.config self.now.labels lists ord }
+    {
+        self.totals[ord as usize]
+    }
+
+    /// The `n` children of a path that the most documents have, as Lucene's `getTopChildren`; ties go by the components' bytes. There is no
+    /// result where no document has a label below the path.
+    ///
+    /// It walks over the path's children, and takes memory for each that has a document.
+    pub fn top(&self, alloc: Global, path: &Path, n: u32) -> Result<Option<FacetResult>, NoMemory>
+        requires { 0 < n }
+        ensures { IfOk result (λ r. (docs : List Doc) (lists : List (List ℕ)) → (flags self.now.config (dim_of path.now)).multi_valued ≡ false → AreCounts self.now lists → AllZip (IsListOf self.now.config self.now.labels) lists docs → IsTop self.now.config docs path.now n (option_map result_view r)) }
+    {
+        let dim_flags = self.config.flags(path.dim());
+        match self.view.ordinal_of(path) {
+            Some(ord) => self.top_at(alloc, dim_flags, path, ord, n),
+            None => Ok(None),
+        }
+    }
+
+    // The same, for a path with its ordinal and the flags of its dimension.
+    fn top_at(
+        &self,
+        alloc: Global,
+        dim_flags: DimFlags,
+        path: &Path,
+        ord: u32,
+        n: u32,
+    ) -> Result<Option<FacetResult>, NoMemory>
+        requires flags { dim_flags ≡ flags self.now.config (dim_of path.now) }
+        requires some { 0 < length path.now }
+        requires place { place self.now.labels path.now ≡ Some ord }
+        ensures { IfOk result (λ r. (docs : List Doc) (lists : List (List ℕ)) → (flags self.now.config (dim_of path.now)).multi_valued ≡ false → AreCounts self.now lists → AllZip (IsListOf self.now.config self.now.labels) lists docs → IsTop self.now.config docs path.now n (option_map result_view r)) }
+    {
+        let mut children = children_below(alloc, self.view, &self.totals, ord)?;
+        children.sort()?;
+        if children.is_empty() {
+            return Ok(None);
+        }
+        let child_count = children.len() as u32;
+        let own = self.totals[ord as usize];
+        let value = value_for(dim_flags, own, sum_of(&children));
+        children.truncate(n as usize);
+        let path = path.dup(alloc)?;
+        Ok(Some(FacetResult {
+            path,
+            value,
+            children,
+            child_count,
+        }))
+    }
+}
