@@ -1,0 +1,8 @@
+use Rattle.facet_codec.proofs.EachKind.{u32_spelled, u32_read_back}
+use Rattle.facet_codec.proofs.laws.of_u32.Goals as goal
+
+pub returns-clause-spelled : goal.returns-clause-spelled
+returns-clause-spelled c = u32_spelled
+
+pub returns-clause-read_back : goal.returns-clause-read_back
+returns-clause-read_back c = u32_read_back

@@ -1,0 +1,311 @@
+use crate::{Dir, Disk, DiskFault, FileName, Kind, MemoryDisk, Names, Pick, StdDisk, Unsynced};
+use std::alloc::Global;
+use std::fs;
+use std::test::Fail;
+
+const SEGMENT: FileName = FileName {
+    dir: Dir::Taxonomy,
+    kind: Kind::Segment,
+    number: 1,
+};
+
+const PENDING: FileName = FileName {
+    dir: Dir::Taxonomy,
+    kind: Kind::Pending,
+    number: 2,
+};
+
+const COMMIT: FileName = FileName {
+    dir: Dir::Taxonomy,
+    kind: Kind::Commit,
+    number: 2,
+};
+
+const NEXT: FileName = FileName {
+    dir: Dir::Taxonomy,
+    kind: Kind::Segment,
+    number: 3,
+};
+
+const OUTER: FileName = FileName {
+    dir: Dir::Index,
+    kind: Kind::Segment,
+    number: 3,
+};
+
+#[derive(Clone, Copy, Debug)]
+enum Step {
+    List(Dir),
+    Read(FileName),
+    Put(FileName, &'static [u8]),
+    Sync(FileName),
+    Rename(FileName, FileName),
+    SyncNames(Dir),
+    Remove(FileName),
+}
+
+// Makes a call, and answers how many names or bytes it gave.
+fn make<D: Disk>(alloc: Global, disk: &mut D, step: Step) -> Result<usize, DiskFault> {
+    match step {
+        Step::List(dir) => match disk.list(alloc, dir) {
+            Ok(names) => Ok(names.as_slice().len()),
+            Err(fault) => Err(fault),
+        },
+        Step::Read(name) => match disk.read(alloc, name) {
+            Ok(bytes) => Ok(bytes.len()),
+            Err(fault) => Err(fault),
+        },
+        Step::Put(name, bytes) => done(disk.put(name, bytes)),
+        Step::Sync(name) => done(disk.sync(name)),
+        Step::Rename(from, to) => done(disk.rename(from, to)),
+        Step::SyncNames(dir) => done(disk.sync_names(dir)),
+        Step::Remove(name) => done(disk.remove(name)),
+    }
+}
+
+fn done(answer: Result<(), DiskFault>) -> Result<usize, DiskFault> {
+    match answer {
+        Ok(()) => Ok(0),
+        Err(fault) => Err(fault),
+    }
+}
+
+const FAILED: Result<usize, DiskFault> = Err(DiskFault::Failed);
+
+fn absent(name: FileName) -> Result<usize, DiskFault> {
+    Err(DiskFault::Absent { name })
+}
+
+fn present(name: FileName) -> Result<usize, DiskFault> {
+    Err(DiskFault::Present { name })
+}
+
+#[test]
+fn each_call_with_each_fault(rt: HostRuntime) -> Result<(), Fail> {
+    let alloc = rt.alloc();
+    let failing = Vec::from_slice(alloc, &[3u64, 5, 8, 11, 16, 18, 21])?;
+    let mut disk = MemoryDisk::new(alloc, failing);
+    let steps = [
+        (Step::Put(PENDING, b"seven"), Ok(0)),
+        (Step::Put(PENDING, b"eight"), present(PENDING)),
+        (Step::Put(COMMIT, b"nine"), FAILED),
+        (Step::Read(PENDING), Ok(5)),
+        (Step::Read(PENDING), FAILED),
+        (Step::Read(COMMIT), absent(COMMIT)),
+        (Step::List(Dir::Taxonomy), Ok(1)),
+        (Step::List(Dir::Taxonomy), FAILED),
+        (Step::Sync(PENDING), Ok(0)),
+        (Step::Sync(COMMIT), absent(COMMIT)),
+        (Step::Sync(PENDING), FAILED),
+        (Step::Rename(PENDING, COMMIT), Ok(0)),
+        (Step::Rename(PENDING, SEGMENT), absent(PENDING)),
+        (Step::Put(PENDING, b""), Ok(0)),
+        (Step::Rename(PENDING, COMMIT), present(COMMIT)),
+        (Step::Rename(PENDING, SEGMENT), FAILED),
+        (Step::SyncNames(Dir::Taxonomy), Ok(0)),
+        (Step::SyncNames(Dir::Taxonomy), FAILED),
+        (Step::Remove(PENDING), Ok(0)),
+        (Step::Remove(PENDING), absent(PENDING)),
+        (Step::Remove(COMMIT), FAILED),
+        (Step::List(Dir::Index), Ok(0)),
+        (Step::List(Dir::Taxonomy), Ok(1)),
+        (Step::Rename(COMMIT, COMMIT), present(COMMIT)),
+        (Step::Read(COMMIT), Ok(5)),
+    ];
+    for (step, want) in steps {
+        let got = make(alloc, &mut disk, step);
+        assert!(rt; got == want, "{step:?} {got:?}");
+    }
+    assert_eq!(rt; disk.fault_count(), 14);
+    assert_eq!(rt; disk.call_count(), 25);
+    Ok(())
+}
+
+// The files of some names, each with its bytes.
+fn show(alloc: Global, disk: &mut MemoryDisk) -> Result<String, Fail> {
+    let mut text = String::new(alloc);
+    for name in [SEGMENT, NEXT, PENDING, COMMIT, OUTER] {
+        if let Ok(bytes) = disk.read(alloc, name) {
+            let shown = str::from_utf8(&bytes)?;
+            write!(text, "{name}={shown} ")?;
+        }
+    }
+    Ok(text)
+}
+
+// The changes that the table of crashes is about.
+fn changed(alloc: Global) -> Result<MemoryDisk, Fail> {
+    let mut disk = MemoryDisk::new(alloc, Vec::new(alloc));
+    let steps = [
+        Step::Put(SEGMENT, b"ab"),
+        Step::Sync(SEGMENT),
+        Step::Put(PENDING, b"cd"),
+        Step::Sync(PENDING),
+        Step::Rename(PENDING, COMMIT),
+        Step::SyncNames(Dir::Taxonomy),
+        Step::Remove(SEGMENT),
+        Step::Put(PENDING, b"ef"),
+        Step::Rename(PENDING, NEXT),
+        Step::Sync(NEXT),
+        Step::Remove(COMMIT),
+        Step::Rename(NEXT, OUTER),
+    ];
+    for step in steps {
+        make(alloc, &mut disk, step)?;
+    }
+    Ok(disk)
+}
+
+#[test]
+fn crashes(rt: HostRuntime) -> Result<(), Fail> {
+    let alloc = rt.alloc();
+    let disk = changed(alloc)?;
+    let (gone, whole, zeroed) = (Unsynced::Gone, Unsynced::Whole, Unsynced::Zeroed);
+    // after how many calls, what becomes of unsynced files, whether names are done, and what is left
+    let stops = [
+        (0, whole, true, ""),
+        (1, gone, true, ""),
+        (1, whole, false, "taxonomy/segment-1=ab "),
+        (1, zeroed, true, "taxonomy/segment-1=\0\0 "),
+        (2, gone, false, "taxonomy/segment-1=ab "),
+        (3, gone, true, "taxonomy/segment-1=ab "),
+        (
+            3,
+            zeroed,
+            false,
+            "taxonomy/segment-1=ab taxonomy/pending-2=\0\0 ",
+        ),
+        (5, gone, true, "taxonomy/segment-1=ab taxonomy/commit-2=cd "),
+        (
+            5,
+            gone,
+            false,
+            "taxonomy/segment-1=ab taxonomy/pending-2=cd ",
+        ),
+        (
+            6,
+            gone,
+            false,
+            "taxonomy/segment-1=ab taxonomy/commit-2=cd ",
+        ),
+        (7, whole, true, "taxonomy/commit-2=cd "),
+        (
+            7,
+            whole,
+            false,
+            "taxonomy/segment-1=ab taxonomy/commit-2=cd ",
+        ),
+        (9, gone, true, "taxonomy/commit-2=cd "),
+        (
+            9,
+            whole,
+            true,
+            "taxonomy/segment-3=ef taxonomy/commit-2=cd ",
+        ),
+        (
+            9,
+            whole,
+            false,
+            "taxonomy/segment-1=ab taxonomy/pending-2=ef taxonomy/commit-2=cd ",
+        ),
+        (
+            10,
+            gone,
+            false,
+            "taxonomy/segment-3=ef taxonomy/commit-2=cd ",
+        ),
+        (
+            11,
+            gone,
+            false,
+            "taxonomy/segment-3=ef taxonomy/commit-2=cd ",
+        ),
+        (12, gone, false, "index/segment-3=ef "),
+        (99, zeroed, true, "index/segment-3=ef "),
+    ];
+    for (after_call, files, names_done, want) in stops {
+        let mut left = disk.stopped(alloc, after_call, Pick { files, names_done })?;
+        let got = show(alloc, &mut left)?;
+        assert!(rt;
+            got.as_str() == want,
+            "{after_call} {files:?} {names_done} {got}"
+        );
+    }
+    Ok(())
+}
+
+#[test]
+fn a_folder(rt: HostRuntime) -> Result<(), Fail> {
+    let alloc = rt.alloc();
+    let mut disk = StdDisk::new(alloc, &rt, "store")?;
+    let steps = [
+        (Step::List(Dir::Taxonomy), Ok(0)),
+        (Step::Read(PENDING), absent(PENDING)),
+        (Step::SyncNames(Dir::Taxonomy), FAILED),
+        (Step::Put(PENDING, b"seven"), Ok(0)),
+        (Step::Put(PENDING, b"eight"), present(PENDING)),
+        (Step::Sync(PENDING), Ok(0)),
+        (Step::Sync(COMMIT), absent(COMMIT)),
+        (Step::Rename(COMMIT, SEGMENT), absent(COMMIT)),
+        (Step::Rename(PENDING, PENDING), present(PENDING)),
+        (Step::Rename(PENDING, COMMIT), Ok(0)),
+        (Step::SyncNames(Dir::Taxonomy), Ok(0)),
+        (Step::Remove(PENDING), absent(PENDING)),
+        (Step::Read(COMMIT), Ok(5)),
+        (Step::List(Dir::Taxonomy), Ok(1)),
+        (Step::Rename(COMMIT, OUTER), Ok(0)),
+        (Step::List(Dir::Taxonomy), Ok(0)),
+        (Step::List(Dir::Index), Ok(1)),
+        (Step::Remove(OUTER), Ok(0)),
+        (Step::List(Dir::Index), Ok(0)),
+    ];
+    for (step, want) in steps {
+        let got = make(alloc, &mut disk, step);
+        assert!(rt; got == want, "{step:?} {got:?}");
+    }
+    assert_eq!(rt; disk.fault_count(), 7);
+    Ok(())
+}
+
+#[test]
+fn entries(rt: HostRuntime) -> Result<(), Fail> {
+    let alloc = rt.alloc();
+    let mut disk = StdDisk::new(alloc, &rt, "store")?;
+    disk.put(OUTER, b"")?;
+    let names = [
+        ("segment-0", true),
+        ("pending-18446744073709551615", true),
+        ("commit-7", true),
+        ("commit-18446744073709551616", false),
+        ("segment-07", false),
+        ("segment-+7", false),
+        ("segment--7", false),
+        ("segment-", false),
+        ("segment-7 ", false),
+        ("segments-7", false),
+        ("note", false),
+    ];
+    for (entry, is_name) in names {
+        fs::write(&rt, format!(in alloc; "store/index/{entry}")?, "x")?;
+        let name = FileName::from_entry(Dir::Index, entry);
+        assert!(rt; name.is_some() == is_name, "{entry}");
+        if let Some(name) = name {
+            let text = name.to_string(alloc)?;
+            assert!(rt;
+                text.as_str().strip_prefix("index/") == Some(entry),
+                "{text}"
+            );
+        }
+    }
+    let listed = disk.list(alloc, Dir::Index)?;
+    let mut listed = listed.into_vec();
+    listed.sort()?;
+    let first = FileName {
+        dir: Dir::Index,
+        kind: Kind::Segment,
+        number: 0,
+    };
+    assert_eq!(rt; listed.len(), 4);
+    assert!(rt; Names::new(listed).as_slice().first() == Some(&first));
+    Ok(())
+}

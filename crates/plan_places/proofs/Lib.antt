@@ -1,0 +1,5 @@
+pub mod Ranges
+pub mod Walks
+pub mod Unions
+pub mod Choices
+pub mod Orders

@@ -1,0 +1,4 @@
+pub mod Planned
+pub mod Nodes
+pub mod Falls
+pub mod Steps

@@ -1,0 +1,48 @@
+ghost use Rattle.std.specs.Prelude.{◌≡◌, ◌≤◌, ◌<◌};
+ghost use Rattle.seg_postings.specs.Rising.{IsRising, IsNext, first_of, from_place};
+ghost use Rattle.seg_postings.specs.Steps.{IsPeeked};
+ghost use Rattle.plan_places.specs.Nodes.{leaf_left};
+
+use seg_postings::{Places, PostingsCursor};
+
+/// The places of a list, the first of which was looked at and is kept.
+#[derive(Drop)]
+pub(crate) struct Leaf<'a> {
+    pub(crate) head: Option<u32>,
+    pub(crate) cursor: PostingsCursor<'a>,
+}
+
+impl<'a> Leaf<'a> {
+    /// The first place left that is at least `place`. All before it are passed, and it is not.
+    pub(crate) fn at_least(&mut self, place: u64) -> Option<u32>
+        requires kept { IsPeeked self.old.head self.old.cursor }
+        requires fits { place ≤ 4294967296 }
+        ensures rising { IsRising (leaf_left self.old) }
+        ensures first { result ≡ first_of (leaf_left self.new) }
+        ensures moved { leaf_left self.new ≡ from_place place (leaf_left self.old) }
+        ensures kept { IsPeeked self.new.head self.new.cursor }
+    {
+        let Some(head) = self.head else {
+            return None;
+        };
+        if head as u64 >= place {
+            return Some(head);
+        }
+        self.head = sought(&mut self.cursor, place);
+        self.head
+    }
+}
+
+// The first place of a cursor that is at least `place`. It and all before it are passed.
+fn sought(cursor: &mut PostingsCursor<'_>, place: u64) -> Option<u32>
+    requires some { 0 < place }
+    requires fits { place ≤ 4294967296 }
+    ensures rising { IsRising cursor.old }
+    ensures next { IsNext result (from_place place cursor.old) cursor.new }
+{
+    let found = cursor.seek((place - 1) as u32)?;
+    if found as u64 >= place {
+        return Some(found);
+    }
+    cursor.next()
+}

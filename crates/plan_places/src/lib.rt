@@ -1,0 +1,14 @@
+//! Trees of set operations over strictly rising lists of places, walked from left to right without memory, as Lucene's `Scorer`s of boolean queries.
+#![tactic(auto)]
+
+mod conjunction;
+mod leaf;
+mod node;
+mod places;
+mod range;
+#[cfg(test)]
+mod tests;
+mod union;
+
+pub use node::PlanNode;
+pub use places::PlanPlaces;

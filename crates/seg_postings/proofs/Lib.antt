@@ -1,0 +1,9 @@
+pub mod Order
+pub mod Sets
+pub mod Chunks
+pub mod Either
+pub mod Peeks
+pub mod Lacks
+pub mod Matching
+pub mod Members
+pub mod Written

@@ -1,0 +1,4 @@
+pub mod Rising
+pub mod Sets
+pub mod Bytes
+pub mod Steps

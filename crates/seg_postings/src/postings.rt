@@ -1,0 +1,94 @@
+ghost use Rattle.std.specs.Prelude.{◌≡◌, ℕ, List, length};
+ghost use Rattle.seg_postings.specs.Bytes.{ArePlaces, AreRisingPlaces};
+
+use crate::places::Places;
+use crate::search::first_from;
+use std::marker::Model;
+
+/// A strictly rising list of places over lent bytes, four each, the highest byte first. It keeps no copy, and takes no memory.
+#[derive(Drop)]
+pub struct Postings<'a> {
+    places: &'a [[u8; 4]],
+}
+
+impl<'a> Model for Postings<'a> {
+    ghost use Rattle.std.specs.Prelude.{List, ℕ};
+    ghost use Rattle.seg_postings.specs.Rising.{IsRising};
+    ghost use Rattle.seg_postings.specs.Bytes.{places_of};
+
+    ghost Value = { List ℕ };
+
+    ghost view = { λ p. places_of p.places.now };
+
+    ghost invariant = { λ p. IsRising (places_of p.places.now) };
+}
+
+impl<'a> Postings<'a> {
+    /// The places that the bytes are. It looks at none of them.
+    pub fn new(bytes: &'a [u8]) -> Postings<'a>
+        requires { AreRisingPlaces bytes.now }
+        ensures { (places : List ℕ) → ArePlaces bytes.now places → result ≡ places }
+    {
+        let (places, _) = bytes.as_chunks::<4>();
+        Postings { places }
+    }
+
+    /// How many places there are, in constant time.
+    pub fn len(&self) -> usize
+        ensures { result ≡ length self.now }
+    {
+        self.places.len()
+    }
+
+    /// A cursor at the first place.
+    pub fn cursor(&self) -> PostingsCursor<'a>
+        ensures { result ≡ self.now }
+    {
+        PostingsCursor {
+            places: self.places,
+        }
+    }
+}
+
+/// Gives the places of a list from left to right.
+///
+/// `next` takes constant time. `seek` gallops: from where the cursor stands it looks at places by steps that double until it has passed the one
+/// asked, and then bisects between the last two. So it looks at a number of places in the logarithm of how many it passes, and a near place
+/// costs as little as `next`.
+#[derive(Drop)]
+pub struct PostingsCursor<'a> {
+    places: &'a [[u8; 4]],
+}
+
+impl<'a> Model for PostingsCursor<'a> {
+    ghost use Rattle.std.specs.Prelude.{List, ℕ};
+    ghost use Rattle.seg_postings.specs.Rising.{IsRising};
+    ghost use Rattle.seg_postings.specs.Bytes.{places_of};
+
+    ghost Value = { List ℕ };
+
+    ghost view = { λ p. places_of p.places.now };
+
+    ghost invariant = { λ p. IsRising (places_of p.places.now) };
+}
+
+impl<'a> Places for PostingsCursor<'a> {
+    ghost left = { λ p. p };
+
+    fn next(&mut self) -> Option<u32> {
+        match self.places {
+            [] => None,
+            [first, rest @ ..] => {
+                self.places = rest;
+                Some(u32::from_be_bytes(*first))
+            }
+        }
+    }
+
+    fn seek(&mut self, place: u32) -> Option<u32> {
+        let passed = first_from(self.places, place);
+        let (_, rest) = self.places.split_at(passed);
+        self.places = rest;
+        self.next()
+    }
+}
