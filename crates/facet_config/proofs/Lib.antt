@@ -1,1 +1,4 @@
 mod Lookups
+pub mod Expanded
+pub mod Different
+pub mod Staying

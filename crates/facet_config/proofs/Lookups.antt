@@ -1,5 +1,7 @@
 -- Looking a dimension up in the map, and in the list of declarations.
-use Rattle.std.proofs.Common.{◌≡◌, ℕ, Bool, true, false, List, [], ◌∷◌, ◌++◌, Option, Some, None, String, string_bytes, Global, is_some, refl, ap, ◌∙◌}
+use Rattle.std.proofs.Common.{◌≡◌, ℕ, Bool, true, false, List, [], ◌∷◌, ◌++◌, Option, Some, None, String, string_bytes, Global, is_some, refl, ap, ◌∙◌, map, slice_get}
+use Rattle.std.specs.Prelude.{option_map}
+use Rattle.std.proofs.lemmas.Option.{slice_get-map}
 use Rattle.std.specs.Map.{lookup}
 use Rattle.std.specs.List.{list_any, AllZip}
 use Rattle.std.specs.Option.{option_map_or}
@@ -54,3 +56,10 @@ same_in_clone [] [] all = refl
 same_in_clone [] (f ∷ fs) all = absurd all
 same_in_clone (e ∷ es) [] all = absurd all
 same_in_clone (e ∷ es) (f ∷ fs) all = λ i. (all.0.0 i, all.0.1 i) ∷ same_in_clone es fs all.1 i
+
+-- the name of the declaration at a place
+pub name_at : (es : List Entry) (at : ℕ) (e : Entry) → slice_get es at ≡ Some e → slice_get (map (λ d. d.0) (declarations es)) at ≡ Some (string_bytes e.0)
+name_at es at e is =
+    let named : Entry → List ℕ × DimFlags = λ e. (string_bytes e.0, e.1) in
+    let name : List ℕ × DimFlags → List ℕ = λ d. d.0 in
+    slice_get-map name (declarations es) at ∙ ap (option_map name) (slice_get-map named es at ∙ ap (option_map named) is)

@@ -1,2 +1,4 @@
 pub mod Declarations
 pub mod Faults
+pub mod Expanding
+pub mod Differences

@@ -1,7 +1,8 @@
 use crate::{DeclareFault, DocFault, FacetsConfig};
-use facet_model::{DimFlags, Document};
+use facet_model::{Counted, DimFlags, Document, Resolved};
 use facet_names::Path;
 use std::alloc::Global;
+use std::process::Abort;
 use std::test::Fail;
 
 fn flags(hierarchical: bool, multi_valued: bool) -> DimFlags {
@@ -74,5 +75,77 @@ fn tells_the_first_broken_facet(rt: HostRuntime) -> Result<(), Fail> {
     // The second facet breaks two parts, and the third one too.
     let many = config.check(&document(alloc, &["Author/a", "Author/b/c", "Date"])?);
     assert!(rt; many == Err(DocFault::NotHierarchical { facet: 1, len: 2 }));
+    Ok(())
+}
+
+// What is counted for a document with the labels Tag/a/b and Tag/a/c, whose prefixes have these ordinals.
+fn expanded(
+    rt: &impl Abort,
+    alloc: Global,
+    config: &FacetsConfig,
+    b: &[u32],
+    c: &[u32],
+) -> Result<Counted, Fail> {
+    let first = path(alloc, "Tag/a/b")?;
+    let second = path(alloc, "Tag/a/c")?;
+    let fit = first.len() == b.len() && second.len() == c.len();
+    assert!(rt; fit);
+    let mut resolved = Vec::new(alloc);
+    resolved.push(Resolved::new(b.to_vec(alloc)?))?;
+    resolved.push(Resolved::new(c.to_vec(alloc)?))?;
+    let mut facets = Vec::new(alloc);
+    facets.push(first)?;
+    facets.push(second)?;
+    let doc = Document::new(alloc, "d", "", facets)?;
+    Ok(config.expand(alloc, &doc, &resolved)?)
+}
+
+fn tags(
+    alloc: Global,
+    hierarchical: bool,
+    multi_valued: bool,
+    require_dim_count: bool,
+) -> Result<FacetsConfig, Fail> {
+    let mut config = FacetsConfig::new(alloc);
+    config.declare(
+        "Tag",
+        DimFlags {
+            hierarchical,
+            multi_valued,
+            require_dim_count,
+        },
+    )?;
+    Ok(config)
+}
+
+#[test]
+fn expands_by_the_flags(rt: HostRuntime) -> Result<(), Fail> {
+    let alloc = rt.alloc();
+    let both = tags(alloc, true, true, false)?;
+    let counted = expanded(&rt, alloc, &both, &[1, 2, 3], &[1, 2, 4])?;
+    assert!(rt; counted.ords() == [2, 3, 4].as_slice());
+    let required = tags(alloc, true, true, true)?;
+    let counted = expanded(&rt, alloc, &required, &[1, 2, 3], &[1, 2, 4])?;
+    assert!(rt; counted.ords() == [1, 2, 3, 4].as_slice());
+    let single = tags(alloc, true, false, true)?;
+    let counted = expanded(&rt, alloc, &single, &[7, 5, 9], &[7, 5, 8])?;
+    assert!(rt; counted.ords() == [8, 9].as_slice());
+    Ok(())
+}
+
+#[test]
+fn tells_the_first_difference(rt: HostRuntime) -> Result<(), Fail> {
+    let alloc = rt.alloc();
+    let one = books(alloc)?;
+    let mut other = books(alloc)?;
+    assert!(rt; one.differs(&other) == None);
+    // A declaration without a flag changes nothing.
+    other.declare("Author", flags(false, false))?;
+    assert!(rt; one.differs(&other) == None);
+    other.declare("Shelf", flags(true, false))?;
+    assert!(rt; one.differs(&other) == Some("Shelf"));
+    assert!(rt; other.differs(&one) == Some("Shelf"));
+    other.declare("Level", flags(true, true))?;
+    assert!(rt; one.differs(&other) == Some("Level"));
     Ok(())
 }

@@ -1,23 +1,30 @@
 -- The lists that count for an ordinal are those of the documents that have its label.
-use Rattle.std.proofs.Common.{◌≡◌, ◌≢◌, ℕ, zero-add, zero, suc, ◌+◌, ◌-◌, ◌<◌, ◌≤◌, ◌⊎◌, Bool, true, false, not, ◌&&◌, ◌||◌, ◌==◌, cond, List, [], ◌∷◌, ◌++◌, length, take, map, get_or, slice_get, Option, Some, None, nat_eq, refl, sym, ap, subst, ◌∙◌, arith, rules, inl, inr, position}
-use Rattle.std.specs.Prelude.{nat_le, count_by, All, is_some, filter_map, if◌then◌else◌}
+use Rattle.std.proofs.Common.{◌≡◌, ◌≢◌, ℕ, zero-add, zero, suc, ◌+◌, ◌-◌, ◌<◌, ◌≤◌, ◌⊎◌, Bool, true, false, not, ◌&&◌, ◌||◌, ◌==◌, cond, List, [], ◌∷◌, length, take, get_or, slice_get, Option, Some, None, nat_eq, refl, sym, ap, subst, ◌∙◌, arith, inl, inr}
+use Rattle.std.specs.Prelude.{nat_le, nat_lt, count_by, All, IsTrue, is_some, filter_map, if◌then◌else◌}
 use Rattle.std.specs.Option.{option_map_or}
-use Rattle.std.specs.List.{list_any, AllZip, AllPairs, enumerate_from, cons_option}
+use Rattle.std.specs.List.{list_any, list_all, AllZip, AllPairs, enumerate_from, cons_option}
 use Rattle.std.specs.Str.{bytes_eq}
+use Rattle.std.specs.Cmp.{both_ways}
 use Rattle.std.specs.Cmp.Lexicographic.{bytes_decides}
-use Rattle.std.proofs.lemmas.Bool.{cases_eq, cases_lt, cases_Bool, eq-eqb, ne_eqb, eqb-true, leb-false, false_from_ne_true, true≢false, true_from_ne_false, not-false, and_from}
-use Rattle.std.proofs.lemmas.List.{get_or-take, take-take, take_all, length-take-le, get_or_default, length-append}
-use Rattle.std.proofs.lemmas.List.FromFn.{length-enumerate_from, get_or-enumerate_from}
-use Rattle.std.proofs.lemmas.List.Sums.{sum_by-cons}
-use Rattle.std.proofs.lemmas.Option.{same_Some, none-some, slice_get-get_or, get_or_from_slice_get, slice_get_within}
+use Rattle.std.proofs.lemmas.Bool.{cases_order, cases_lt, eq-eqb, eqb-true, leb-false, lt-ltb, ltb-true, false_from_ne_true, true_from_ne_false, true≢false, and_from, and_parts, or_cases, or_left, or_right}
+use Rattle.std.proofs.lemmas.List.{get_or-take, take-take, take_all, length-take-le}
+use Rattle.std.proofs.lemmas.List.Folds.{list_any_at}
+use Rattle.std.proofs.lemmas.List.FromFn.{length-enumerate_from, get_or-enumerate_from, length-map-range_with_len, get_or-map-range_with_len}
+use Rattle.std.proofs.lemmas.List.Sums.{sum_by-cons, AllPass-from_list_all}
+use Rattle.std.proofs.lemmas.Option.{none-some, get_or_from_slice_get, slice_get_within}
 use Rattle.facet_names.specs.Paths.{path_eq, path_eq_equiv, is_under}
-use Rattle.facet_names.specs.Labels.{IsLabelList, above, place, stands}
+use Rattle.facet_names.specs.Labels.{IsLabelList, place, stands, prefixes}
+use Rattle.facet_model.specs.declared.flags.DimFlags.{DimFlags}
 use Rattle.facet_model.specs.Flags.{Config, flags}
 use Rattle.facet_model.specs.Documents.{Doc, dim_of, has, count}
 use Rattle.facet_model.specs.Accepts.{Accepts, Broken, broken_at, first_broken, no_component, not_hierarchical, not_multi_valued}
+use Rattle.facet_model.specs.Asks.{is_kept_path, keeps_value}
+use Rattle.facet_model.specs.Histories.{knows}
+use Rattle.facet_model.specs.CountedPaths.{is_counted_for, is_counted, counted_ordinals}
 use Rattle.facet_counts.specs.Lists.{dim_at, is_rolled, is_above, counts_for, lists_at, IsCounted, IsListOf}
-use Rattle.taxo_list.proofs.Labels.{none_at, root_first, same_path, place_at, label_at, stands_by_place}
-use Rattle.facet_counts.proofs.Under.{above_is_under, under_itself, other_label, prefix_stands}
+use Rattle.taxo_list.proofs.Labels.{none_at, place_of, root_first, root_stands, same_path, label_at, stands_by_place}
+use Rattle.facet_counts.proofs.Under.{above_is_under, under_itself, other_label, some_part}
+use Rattle.facet_counts.proofs.Places.{place_in, in_places, places_rise}
 
 -- ---- what an accepted document's labels are
 
@@ -62,150 +69,290 @@ dim_take zero path some = absurd (omega arith)
 dim_take (suc n) [] some = refl
 dim_take (suc n) (part ∷ path) some = refl
 
+-- ---- prefixes
+
+-- a path that another is under is as short, and its beginning
+under_front : (l p : List (List ℕ)) → is_under l p ≡ true → (length p ≤ length l) × (p ≡ take (length p) l)
+under_front l p under = by (cases_lt (length l) (length p))
+  where
+    front : p ≡ take (length p) l
+    front = same_path p (take (length p) l) under
+
+    by : (length l < length p) ⊎ (length p ≤ length l) → (length p ≤ length l) × (p ≡ take (length p) l)
+    by (inl short) = let whole : take (length p) l ≡ l = take_all (length p) l (omega arith) in absurd (omega (arith, ap length (front ∙ whole)))
+    by (inr fits) = (fits, front)
+
+under_from : (l p : List (List ℕ)) → p ≡ take (length p) l → is_under l p ≡ true
+under_from l p front = ap (path_eq p) (sym front) ∙ path_eq_equiv.refl p
+
+under_under : (l x p : List (List ℕ)) → is_under l x ≡ true → is_under x p ≡ true → is_under l p ≡ true
+under_under l x p first second =
+    let outer = under_front l x first in
+    let inner = under_front x p second in
+    under_from l p (inner.1 ∙ ap (take (length p)) outer.1 ∙ take-take (length p) (length x) l inner.0)
+
+dim_under : (l p : List (List ℕ)) → 0 < length p → is_under l p ≡ true → dim_of p ≡ dim_of l
+dim_under l p some under = ap dim_of (under_front l p under).1 ∙ dim_take (length p) l some
+
+-- ---- the paths that are counted for a label
+
+-- each part of the test
+parts : (u a m c d : Bool) → (u && a && m && c && d) ≡ true → (u ≡ true) × (a ≡ true) × (m ≡ true)
+parts u a m c d e =
+    let one = and_parts (u && a && m && c) d e in
+    let two = and_parts (u && a && m) c one.0 in
+    let three = and_parts (u && a) m two.0 in
+    let four = and_parts u a three.0 in
+    (four.0, four.1, three.1)
+
+counted_under : (f : DimFlags) (l p : List (List ℕ)) → is_counted_for f l p ≡ true → is_under l p ≡ true
+counted_under f l p counted = by (or_cases (path_eq l p) (is_under l p && nat_lt 0 (length p) && f.multi_valued && (f.hierarchical || f.require_dim_count) && (nat_lt 1 (length p) || f.require_dim_count)) counted)
+  where
+    by : (path_eq l p ≡ true) ⊎ ((is_under l p && nat_lt 0 (length p) && f.multi_valued && (f.hierarchical || f.require_dim_count) && (nat_lt 1 (length p) || f.require_dim_count)) ≡ true) → is_under l p ≡ true
+    by (inl same) = ap (is_under l) (sym (same_path l p same)) ∙ under_itself l
+    by (inr longer) = (parts (is_under l p) (nat_lt 0 (length p)) f.multi_valued (f.hierarchical || f.require_dim_count) (nat_lt 1 (length p) || f.require_dim_count) longer).0
+
+self_counted : (f : DimFlags) (l p : List (List ℕ)) → path_eq l p ≡ true → is_counted_for f l p ≡ true
+self_counted f l p same = or_left (path_eq l p) (is_under l p && nat_lt 0 (length p) && f.multi_valued && (f.hierarchical || f.require_dim_count) && (nat_lt 1 (length p) || f.require_dim_count)) same
+
+-- the root is counted for no label
+counted_some : (f : DimFlags) (l p : List (List ℕ)) → 0 < length l → is_counted_for f l p ≡ true → 0 < length p
+counted_some f l p some counted = by (or_cases (path_eq l p) (is_under l p && nat_lt 0 (length p) && f.multi_valued && (f.hierarchical || f.require_dim_count) && (nat_lt 1 (length p) || f.require_dim_count)) counted)
+  where
+    by : (path_eq l p ≡ true) ⊎ ((is_under l p && nat_lt 0 (length p) && f.multi_valued && (f.hierarchical || f.require_dim_count) && (nat_lt 1 (length p) || f.require_dim_count)) ≡ true) → 0 < length p
+    by (inl same) = omega (arith, ap length (same_path l p same))
+    by (inr longer) = ltb-true 0 (length p) (parts (is_under l p) (nat_lt 0 (length p)) f.multi_valued (f.hierarchical || f.require_dim_count) (nat_lt 1 (length p) || f.require_dim_count) longer).1
+
+-- in a dimension that is not multi-valued the label alone is counted
+counted_alone : (f : DimFlags) (l p : List (List ℕ)) → f.multi_valued ≡ false → is_counted_for f l p ≡ true → l ≡ p
+counted_alone f l p single counted = by (or_cases (path_eq l p) (is_under l p && nat_lt 0 (length p) && f.multi_valued && (f.hierarchical || f.require_dim_count) && (nat_lt 1 (length p) || f.require_dim_count)) counted)
+  where
+    by : (path_eq l p ≡ true) ⊎ ((is_under l p && nat_lt 0 (length p) && f.multi_valued && (f.hierarchical || f.require_dim_count) && (nat_lt 1 (length p) || f.require_dim_count)) ≡ true) → l ≡ p
+    by (inl same) = same_path l p same
+    by (inr longer) = absurd (true≢false (sym (parts (is_under l p) (nat_lt 0 (length p)) f.multi_valued (f.hierarchical || f.require_dim_count) (nat_lt 1 (length p) || f.require_dim_count) longer).2 ∙ single))
+
+-- In a dimension whose counts are not rolled up, each prefix whose count is kept is counted.
+all_counted : (config : Config) (l p : List (List ℕ)) → 0 < length p → is_under l p ≡ true → is_kept_path config p ≡ true → ((flags config (dim_of p)).hierarchical && not (flags config (dim_of p)).multi_valued) ≡ false
+    → ((flags config (dim_of l)).hierarchical ≡ false → length l ≡ 2) → is_counted_for (flags config (dim_of l)) l p ≡ true
+all_counted config l p some under kept plain shape = ap (λ d. is_counted_for (flags config d) l p) (sym (dim_under l p some under)) ∙ by (cases_lt 1 (length p))
+  where
+    multi : (h m : Bool) → (h && not m) ≡ false → h ≡ true → m ≡ true
+    multi h true none e = refl
+    multi true false none e = absurd (true≢false none)
+    multi false false none e = absurd (true≢false (sym e))
+
+    full : (flags config (dim_of p)).multi_valued ≡ true → ((flags config (dim_of p)).hierarchical || (flags config (dim_of p)).require_dim_count) ≡ true → (nat_lt 1 (length p) || (flags config (dim_of p)).require_dim_count) ≡ true → is_counted_for (flags config (dim_of p)) l p ≡ true
+    full m c d = or_right (path_eq l p) _ (and_from _ _ (and_from _ _ (and_from _ _ (and_from (is_under l p) (nat_lt 0 (length p)) under (lt-ltb 0 (length p) some)) m) c) d)
+
+    deep : (h : Bool) → (flags config (dim_of p)).hierarchical ≡ h → 1 < length p → is_counted_for (flags config (dim_of p)) l p ≡ true
+    deep true is long =
+        let several : (flags config (dim_of p)).multi_valued ≡ true = multi (flags config (dim_of p)).hierarchical (flags config (dim_of p)).multi_valued plain is in
+        full several (or_left (flags config (dim_of p)).hierarchical (flags config (dim_of p)).require_dim_count is) (or_left (nat_lt 1 (length p)) (flags config (dim_of p)).require_dim_count (lt-ltb 1 (length p) long))
+    deep false is long =
+        let front = under_front l p under in
+        let two : length l ≡ 2 = shape (ap (λ d. (flags config d).hierarchical) (sym (dim_under l p some under)) ∙ is) in
+        let whole : p ≡ l = front.1 ∙ take_all (length p) l (omega (arith, two, front.0)) in
+        self_counted (flags config (dim_of p)) l p (ap (path_eq l) whole ∙ path_eq_equiv.refl l)
+
+    by : (1 < length p) ⊎ (length p ≤ 1) → is_counted_for (flags config (dim_of p)) l p ≡ true
+    by (inl long) = deep (flags config (dim_of p)).hierarchical refl long
+    by (inr short) =
+        let one : length p ≡ 1 = omega arith in
+        let dimension : not (length p == 1) ≡ false = ap not (eq-eqb (length p) 1 one) in
+        let value : keeps_value (flags config (dim_of p)) ≡ true = sym (ap (λ b. b || keeps_value (flags config (dim_of p))) dimension) ∙ kept in
+        let both : ((flags config (dim_of p)).multi_valued && (flags config (dim_of p)).require_dim_count) ≡ true = sym (ap (λ b. b || ((flags config (dim_of p)).multi_valued && (flags config (dim_of p)).require_dim_count)) plain) ∙ value in
+        let each = and_parts (flags config (dim_of p)).multi_valued (flags config (dim_of p)).require_dim_count both in
+        full each.0 (or_right (flags config (dim_of p)).hierarchical (flags config (dim_of p)).require_dim_count each.1) (or_right (nat_lt 1 (length p)) (flags config (dim_of p)).require_dim_count each.1)
+
 -- ---- one list and its document
 
 module _ (config : Config) (labels : List (List (List ℕ))) (is : IsLabelList labels) where
-  module _ (i : ℕ) (some : 0 < i) (within : i < length labels) where
-    rolled_has : (list : List ℕ) (own : List (List (List ℕ))) → map (slice_get labels) list ≡ map Some own → list_any (λ j. is_above labels j i j) list ≡ list_any (λ l. is_under l (get_or labels i [])) own
-    rolled_has [] [] e = refl
-    rolled_has [] (l ∷ own) e = absurd cc
-    rolled_has (j ∷ list) [] e = absurd cc
-    rolled_has (j ∷ list) (l ∷ own) e =
-        let first : slice_get labels j ≡ Some l = cc in
-        let rest : map (slice_get labels) list ≡ map Some own = cc in
-        let one : is_above labels j i j ≡ is_under l (get_or labels i []) = above_is_under config labels is j i j some within (omega arith) (slice_get_within labels j l first) ∙ ap (λ q. is_under q (get_or labels i [])) (get_or_from_slice_get labels j l [] first) in
-        λ t. one t || rolled_has list own rest t
+  -- each prefix of a known document's label stands
+  known_prefix : (doc : Doc) → IsTrue (knows labels doc) → (k : ℕ) → k < length doc.labels → (n : ℕ) → 0 < n → n ≤ length (get_or doc.labels k []) → stands labels (take n (get_or doc.labels k [])) ≡ true
+  known_prefix doc known k lt zero some few = absurd (omega arith)
+  known_prefix doc known k lt (suc n) some few =
+      let each : list_all (stands labels) (prefixes (get_or doc.labels k [])) ≡ true = AllPass-from_list_all (λ label. list_all (stands labels) (prefixes label)) doc.labels known k [] lt in
+      let size : length (prefixes (get_or doc.labels k [])) ≡ length (get_or doc.labels k []) = length-map-range_with_len (λ n. take n (get_or doc.labels k [])) 1 (length (get_or doc.labels k [])) in
+      let at = AllPass-from_list_all (stands labels) (prefixes (get_or doc.labels k [])) each n [] (omega (arith, size)) in
+      let moved : 1 + n ≡ suc n = omega arith in
+      let entry : get_or (prefixes (get_or doc.labels k [])) n [] ≡ take (suc n) (get_or doc.labels k []) = get_or-map-range_with_len (λ n. take n (get_or doc.labels k [])) 1 (length (get_or doc.labels k [])) n (suc n) [] (omega arith) moved in
+      ap (stands labels) (sym entry) ∙ at
 
-    plain_has : 1 < length (get_or labels i []) → (flags config (dim_of (get_or labels i []))).hierarchical ≡ false → (list : List ℕ) (own : List (List (List ℕ))) → map (slice_get labels) list ≡ map Some own
-        → ((k : ℕ) → k < length own → (1 < length (get_or own k [])) × ((flags config (dim_of (get_or own k []))).hierarchical ≡ false → length (get_or own k []) ≡ 2)) → list_any (nat_eq i) list ≡ list_any (λ l. is_under l (get_or labels i [])) own
-    plain_has deep flat [] [] e fit = refl
-    plain_has deep flat [] (l ∷ own) e fit = absurd cc
-    plain_has deep flat (j ∷ list) [] e fit = absurd cc
-    plain_has deep flat (j ∷ list) (l ∷ own) e fit =
-        let first : slice_get labels j ≡ Some l = cc in
-        let rest : map (slice_get labels) list ≡ map Some own = cc in
-        λ t. one first (fit 0 (omega arith)) (cases_eq i j) t || plain_has deep flat list own rest (λ k lt. fit (suc k) (omega arith)) t
+  -- so it stands itself
+  known_label : (doc : Doc) → IsTrue (knows labels doc) → (k : ℕ) → k < length doc.labels → 0 < length (get_or doc.labels k []) → stands labels (get_or doc.labels k []) ≡ true
+  known_label doc known k lt some = ap (stands labels) (sym (take_all (length (get_or doc.labels k [])) (get_or doc.labels k []) (omega arith))) ∙ known_prefix doc known k lt (length (get_or doc.labels k [])) some (omega arith)
+
+  module _ (list : List ℕ) (doc : Doc) (of : IsListOf config labels list doc) where
+    module _ (i : ℕ) (some : 0 < i) (within : i < length labels) where
+      rolled_has : list_any (λ j. is_above labels j i j) list ≡ has doc (get_or labels i [])
+      rolled_has = ap (list_any (λ j. is_above labels j i j)) of.counted ∙ both_ways (list_any (λ j. is_above labels j i j) (counted_ordinals labels config doc.labels)) (has doc (get_or labels i [])) to from
+        where
+          to : list_any (λ j. is_above labels j i j) (counted_ordinals labels config doc.labels) ≡ true → has doc (get_or labels i []) ≡ true
+          to e =
+              let at = place_in (is_counted config doc.labels) (λ j. is_above labels j i j) labels [] e in
+              let label = place_of (λ l. is_counted_for (flags config (dim_of l)) l (get_or labels at.0 [])) doc.labels [] at.2 in
+              let first = counted_under (flags config (dim_of (get_or doc.labels label.0 []))) (get_or doc.labels label.0 []) (get_or labels at.0 []) label.2 in
+              let second = sym (above_is_under config labels is at.0 i at.0 some within (omega arith) at.1) ∙ at.3 in
+              list_any_at (λ l. is_under l (get_or labels i [])) doc.labels label.0 [] label.1 (under_under (get_or doc.labels label.0 []) (get_or labels at.0 []) (get_or labels i []) first second)
+
+          from : has doc (get_or labels i []) ≡ true → list_any (λ j. is_above labels j i j) (counted_ordinals labels config doc.labels) ≡ true
+          from e =
+              let label = place_of (λ l. is_under l (get_or labels i [])) doc.labels [] e in
+              let shape = each_unbroken config doc of.accepted label.0 label.1 in
+              let at = place_of (path_eq (get_or doc.labels label.0 [])) labels [] (known_label doc of.known label.0 label.1 (omega (arith, shape.0))) in
+              let counted = list_any_at (λ l. is_counted_for (flags config (dim_of l)) l (get_or labels at.0 [])) doc.labels label.0 [] label.1 (self_counted (flags config (dim_of (get_or doc.labels label.0 []))) (get_or doc.labels label.0 []) (get_or labels at.0 []) at.2) in
+              let under = above_is_under config labels is at.0 i at.0 some within (omega arith) at.1 ∙ ap (λ q. is_under q (get_or labels i [])) (sym (same_path (get_or doc.labels label.0 []) (get_or labels at.0 []) at.2)) ∙ label.2 in
+              in_places (is_counted config doc.labels) (λ j. is_above labels j i j) labels [] at.0 at.1 counted under
+
+      plain_has : is_kept_path config (get_or labels i []) ≡ true → is_rolled config labels i ≡ false → list_any (nat_eq i) list ≡ has doc (get_or labels i [])
+      plain_has kept plain = ap (list_any (nat_eq i)) of.counted ∙ both_ways (list_any (nat_eq i) (counted_ordinals labels config doc.labels)) (has doc (get_or labels i [])) to from
+        where
+          to : list_any (nat_eq i) (counted_ordinals labels config doc.labels) ≡ true → has doc (get_or labels i []) ≡ true
+          to e =
+              let at = place_in (is_counted config doc.labels) (nat_eq i) labels [] e in
+              let label = place_of (λ l. is_counted_for (flags config (dim_of l)) l (get_or labels at.0 [])) doc.labels [] at.2 in
+              let same : get_or labels i [] ≡ get_or labels at.0 [] = ap (λ k. get_or labels k []) (eqb-true i at.0 at.3) in
+              list_any_at (λ l. is_under l (get_or labels i [])) doc.labels label.0 [] label.1 (ap (is_under (get_or doc.labels label.0 [])) same ∙ counted_under (flags config (dim_of (get_or doc.labels label.0 []))) (get_or doc.labels label.0 []) (get_or labels at.0 []) label.2)
+
+          from : has doc (get_or labels i []) ≡ true → list_any (nat_eq i) (counted_ordinals labels config doc.labels) ≡ true
+          from e =
+              let label = place_of (λ l. is_under l (get_or labels i [])) doc.labels [] e in
+              let shape = each_unbroken config doc of.accepted label.0 label.1 in
+              let counted = list_any_at (λ l. is_counted_for (flags config (dim_of l)) l (get_or labels i [])) doc.labels label.0 [] label.1 (all_counted config (get_or doc.labels label.0 []) (get_or labels i []) (some_part config labels is i some within) label.2 kept plain shape.1) in
+              in_places (is_counted config doc.labels) (nat_eq i) labels [] i within counted (eq-eqb i i refl)
+
+      -- where the count is kept, a list counts for an ordinal where its document has the label
+      pub list_has : is_kept_path config (get_or labels i []) ≡ true → counts_for config labels i list ≡ has doc (get_or labels i [])
+      list_has kept = by (is_rolled config labels i) refl
+        where
+          by : (b : Bool) → is_rolled config labels i ≡ b → counts_for config labels i list ≡ has doc (get_or labels i [])
+          by true e = ap (λ b. cond b (list_any (λ j. is_above labels j i j) list) (list_any (nat_eq i) list)) e ∙ rolled_has
+          by false e = ap (λ b. cond b (list_any (λ j. is_above labels j i j) list) (list_any (nat_eq i) list)) e ∙ plain_has kept e
+
+    -- a document has no path that is no label
+    no_path : (path : List (List ℕ)) → 0 < length path → stands labels path ≡ false → has doc path ≡ false
+    no_path path some absent = false_from_ne_true (has doc path) there
       where
-        one : slice_get labels j ≡ Some l → (1 < length l) × ((flags config (dim_of l)).hierarchical ≡ false → length l ≡ 2) → (i ≡ j) ⊎ (i ≡ j → ⊥) → nat_eq i j ≡ is_under l (get_or labels i [])
-        one first shape (inl same) =
-            let here : get_or labels i [] ≡ l = ap (λ k. get_or labels k []) same ∙ get_or_from_slice_get labels j l [] first in
-            eq-eqb i j same ∙ sym (ap (is_under l) here ∙ under_itself l)
-        one first shape (inr apart) = ne_eqb i j apart ∙ sym (false_from_ne_true (is_under l (get_or labels i [])) below)
-          where
-            below : is_under l (get_or labels i []) ≡ true → ⊥
-            below e =
-                let front : get_or labels i [] ≡ take (length (get_or labels i [])) l = same_path (get_or labels i []) (take (length (get_or labels i [])) l) e in
-                let dims : dim_of (get_or labels i []) ≡ dim_of l = ap dim_of front ∙ dim_take (length (get_or labels i [])) l (omega (arith, deep)) in
-                let two : length l ≡ 2 = shape.1 (sym (ap (λ d. (flags config d).hierarchical) dims) ∙ flat) in
-                let whole : get_or labels i [] ≡ l = front ∙ take_all (length (get_or labels i [])) l (omega (arith, two, deep)) in
-                let there : get_or labels j [] ≡ l = get_or_from_slice_get labels j l [] first in
-                true≢false (sym (ap (path_eq (get_or labels i [])) (there ∙ sym whole) ∙ path_eq_equiv.refl (get_or labels i [])) ∙ other_label config labels is i j within (slice_get_within labels j l first) apart)
+        there : has doc path ≡ true → ⊥
+        there e =
+            let label = place_of (λ l. is_under l path) doc.labels [] e in
+            let front = under_front (get_or doc.labels label.0 []) path label.2 in
+            true≢false (sym (ap (stands labels) front.1 ∙ known_prefix doc of.known label.0 label.1 (length path) some front.0) ∙ absent)
 
-    -- a list counts for an ordinal where its document has the label
-    pub list_has : (flags config (dim_of (get_or labels i []))).multi_valued ≡ false → 1 < length (get_or labels i []) → (list : List ℕ) (doc : Doc) → IsListOf config labels list doc → counts_for config labels i list ≡ has doc (get_or labels i [])
-    list_has single deep list doc of = by (flags config (dim_of (get_or labels i []))).hierarchical refl
+    -- ---- that the list may be counted
+
+    -- each of its ordinals is that of a label which is counted for one of the document's
+    counted_for : (k d : ℕ) → k < length (counted_ordinals labels config doc.labels) → (get_or (counted_ordinals labels config doc.labels) k d < length labels)
+        × ((m : ℕ) × (m < length doc.labels) × (is_counted_for (flags config (dim_of (get_or doc.labels m []))) (get_or doc.labels m []) (get_or labels (get_or (counted_ordinals labels config doc.labels) k d) []) ≡ true))
+    counted_for k d lt =
+        let ord : ℕ = get_or (counted_ordinals labels config doc.labels) k d in
+        let at = place_in (is_counted config doc.labels) (nat_eq (get_or (counted_ordinals labels config doc.labels) k d)) labels [] (list_any_at (nat_eq (get_or (counted_ordinals labels config doc.labels) k d)) (counted_ordinals labels config doc.labels) k d lt (eq-eqb (get_or (counted_ordinals labels config doc.labels) k d) (get_or (counted_ordinals labels config doc.labels) k d) refl)) in
+        let same : get_or (counted_ordinals labels config doc.labels) k d ≡ at.0 = eqb-true (get_or (counted_ordinals labels config doc.labels) k d) at.0 at.3 in
+        let passes : is_counted config doc.labels (get_or labels (get_or (counted_ordinals labels config doc.labels) k d) []) ≡ true = ap (λ n. is_counted config doc.labels (get_or labels n [])) same ∙ at.2 in
+        (omega (arith, same, at.1), place_of (λ l. is_counted_for (flags config (dim_of l)) l (get_or labels (get_or (counted_ordinals labels config doc.labels) k d) [])) doc.labels [] passes)
+
+    -- a counted label has the dimension of the one that it is counted for
+    label_dim : (m : ℕ) → m < length doc.labels → (ord : ℕ) → is_counted_for (flags config (dim_of (get_or doc.labels m []))) (get_or doc.labels m []) (get_or labels ord []) ≡ true → dim_at labels ord ≡ dim_of (get_or doc.labels m [])
+    label_dim m lt ord counted =
+        let shape = each_unbroken config doc of.accepted m lt in
+        let some = counted_some (flags config (dim_of (get_or doc.labels m []))) (get_or doc.labels m []) (get_or labels ord []) (omega (arith, shape.0)) counted in
+        dim_under (get_or doc.labels m []) (get_or labels ord []) some (counted_under (flags config (dim_of (get_or doc.labels m []))) (get_or doc.labels m []) (get_or labels ord []) counted)
+
+    -- no two of the document's labels have one dimension that is not multi-valued
+    earlier : (m n : ℕ) → m < n → n < length doc.labels → (flags config (dim_of (get_or doc.labels n []))).multi_valued ≡ false → dim_of (get_or doc.labels m []) ≡ dim_of (get_or doc.labels n []) → ⊥
+    earlier m n low lt single same =
+        let none : list_any (λ l. bytes_eq (dim_of l) (dim_of (get_or doc.labels n []))) (take n doc.labels) ≡ false = (each_unbroken config doc of.accepted n lt).2 single in
+        let size : length (take n doc.labels) ≡ n = length-take-le n doc.labels (omega (arith, lt)) in
+        let differ : bytes_eq (dim_of (get_or doc.labels m [])) (dim_of (get_or doc.labels n [])) ≡ false = ap (λ l. bytes_eq (dim_of l) (dim_of (get_or doc.labels n []))) (sym (get_or-take n doc.labels m [] low)) ∙ none_at (λ l. bytes_eq (dim_of l) (dim_of (get_or doc.labels n []))) (take n doc.labels) m [] (omega (arith, size, low)) none in
+        true≢false (sym ((bytes_decides (dim_of (get_or doc.labels m [])) (dim_of (get_or doc.labels n []))).1 same) ∙ differ)
+
+    places_counted : IsCounted config labels (counted_ordinals labels config doc.labels)
+    places_counted = record { within = within; distinct = distinct; alone = alone }
       where
-        marked : (h : Bool) → (flags config (dim_of (get_or labels i []))).hierarchical ≡ h → is_rolled config labels i ≡ h
-        marked h e = (λ t. e t && not (single t)) ∙ and_true h
+        within : All (λ ord. (0 < ord) × (ord < length labels)) (counted_ordinals labels config doc.labels)
+        within k d lt =
+            let at = counted_for k d lt in
+            let shape = each_unbroken config doc of.accepted at.1.0 at.1.1 in
+            let some = counted_some (flags config (dim_of (get_or doc.labels at.1.0 []))) (get_or doc.labels at.1.0 []) (get_or labels (get_or (counted_ordinals labels config doc.labels) k d) []) (omega (arith, shape.0)) at.1.2 in
+            (later (get_or (counted_ordinals labels config doc.labels) k d) some, at.0)
           where
-            and_true : (h : Bool) → (h && true) ≡ h
-            and_true true = refl
-            and_true false = refl
+            later : (ord : ℕ) → 0 < length (get_or labels ord []) → 0 < ord
+            later zero some = absurd (omega (arith, ap length (root_first labels is [])))
+            later (suc ord) some = omega arith
 
-        by : (h : Bool) → (flags config (dim_of (get_or labels i []))).hierarchical ≡ h → counts_for config labels i list ≡ has doc (get_or labels i [])
-        by true e = ap (λ b. cond b (list_any (λ j. is_above labels j i j) list) (list_any (nat_eq i) list)) (marked true e) ∙ rolled_has list doc.labels of.leaves
-        by false e = ap (λ b. cond b (list_any (λ j. is_above labels j i j) list) (list_any (nat_eq i) list)) (marked false e) ∙ plain_has deep e list doc.labels of.leaves (λ k lt. let fit = each_unbroken config doc of.accepted k lt in (fit.0, fit.1))
+        distinct : AllPairs (λ a b. a ≢ b) (counted_ordinals labels config doc.labels)
+        distinct a b d less lt same = absurd (omega (arith, same, places_rise (is_counted config doc.labels) labels a b d less lt))
 
-    -- so as many lists count for it as documents have the label
-    pub lists_have : (flags config (dim_of (get_or labels i []))).multi_valued ≡ false → 1 < length (get_or labels i []) → (lists : List (List ℕ)) (docs : List Doc) → AllZip (IsListOf config labels) lists docs → lists_at config labels lists i ≡ count docs (get_or labels i [])
-    lists_have single deep [] [] all = refl
-    lists_have single deep [] (doc ∷ docs) all = absurd all
-    lists_have single deep (list ∷ lists) [] all = absurd all
-    lists_have single deep (list ∷ lists) (doc ∷ docs) all =
-        sum_by-cons (λ l. cond (counts_for config labels i l) 1 0) list lists
-        ∙ (λ t. cond (list_has single deep list doc all.0 t) 1 0 + lists_have single deep lists docs all.1 t)
-        ∙ sym (sum_by-cons (λ d. cond (has d (get_or labels i [])) 1 0) doc docs)
+        -- two labels of one dimension that is not multi-valued are one
+        alone : AllPairs (λ a b. dim_at labels a ≡ dim_at labels b → (flags config (dim_at labels a)).multi_valued ≡ true) (counted_ordinals labels config doc.labels)
+        alone a b d less lt dims = true_from_ne_false (flags config (dim_at labels (get_or (counted_ordinals labels config doc.labels) a d))).multi_valued single
+          where
+            single : (flags config (dim_at labels (get_or (counted_ordinals labels config doc.labels) a d))).multi_valued ≡ false → ⊥
+            single none =
+                let first = counted_for a d (omega (arith, less, lt)) in
+                let second = counted_for b d lt in
+                let first_dim = label_dim first.1.0 first.1.1 (get_or (counted_ordinals labels config doc.labels) a d) first.1.2 in
+                let second_dim = label_dim second.1.0 second.1.1 (get_or (counted_ordinals labels config doc.labels) b d) second.1.2 in
+                let first_single : (flags config (dim_of (get_or doc.labels first.1.0 []))).multi_valued ≡ false = ap (λ d. (flags config d).multi_valued) (sym first_dim) ∙ none in
+                let second_single : (flags config (dim_of (get_or doc.labels second.1.0 []))).multi_valued ≡ false = ap (λ d. (flags config d).multi_valued) (sym second_dim ∙ sym dims) ∙ none in
+                let first_is = counted_alone (flags config (dim_of (get_or doc.labels first.1.0 []))) (get_or doc.labels first.1.0 []) (get_or labels (get_or (counted_ordinals labels config doc.labels) a d) []) first_single first.1.2 in
+                let second_is = counted_alone (flags config (dim_of (get_or doc.labels second.1.0 []))) (get_or doc.labels second.1.0 []) (get_or labels (get_or (counted_ordinals labels config doc.labels) b d) []) second_single second.1.2 in
+                let same_dim : dim_of (get_or doc.labels first.1.0 []) ≡ dim_of (get_or doc.labels second.1.0 []) = sym first_dim ∙ dims ∙ second_dim in
+                by first.1.0 second.1.0 first.1.1 second.1.1 first.0 second.0 first_single second_single first_is second_is same_dim (cases_order first.1.0 second.1.0)
+              where
+                by : (m n : ℕ) → m < length doc.labels → n < length doc.labels → get_or (counted_ordinals labels config doc.labels) a d < length labels → get_or (counted_ordinals labels config doc.labels) b d < length labels
+                    → (flags config (dim_of (get_or doc.labels m []))).multi_valued ≡ false → (flags config (dim_of (get_or doc.labels n []))).multi_valued ≡ false
+                    → get_or doc.labels m [] ≡ get_or labels (get_or (counted_ordinals labels config doc.labels) a d) [] → get_or doc.labels n [] ≡ get_or labels (get_or (counted_ordinals labels config doc.labels) b d) []
+                    → dim_of (get_or doc.labels m []) ≡ dim_of (get_or doc.labels n []) → (m ≡ n) ⊎ ((m < n) ⊎ (n < m)) → ⊥
+                by m n lt_m lt_n in_a in_b single_m single_n is_m is_n same (inl one) =
+                    let path : get_or labels (get_or (counted_ordinals labels config doc.labels) a d) [] ≡ get_or labels (get_or (counted_ordinals labels config doc.labels) b d) [] = sym is_m ∙ ap (λ k. get_or doc.labels k []) one ∙ is_n in
+                    let other = other_label config labels is (get_or (counted_ordinals labels config doc.labels) a d) (get_or (counted_ordinals labels config doc.labels) b d) in_a in_b (λ e. distinct a b d less lt e) in
+                    true≢false (sym (ap (path_eq (get_or labels (get_or (counted_ordinals labels config doc.labels) a d) [])) (sym path) ∙ path_eq_equiv.refl (get_or labels (get_or (counted_ordinals labels config doc.labels) a d) [])) ∙ other)
+                by m n lt_m lt_n in_a in_b single_m single_n is_m is_n same (inr (inl low)) = earlier m n low lt_n single_n same
+                by m n lt_m lt_n in_a in_b single_m single_n is_m is_n same (inr (inr high)) = earlier n m high lt_m single_m (sym same)
 
-  -- ---- a path that is no label
+  -- The ordinals of an accepted document may be counted.
+  pub list_counted : (list : List ℕ) (doc : Doc) → IsListOf config labels list doc → IsCounted config labels list
+  list_counted list doc of = subst (IsCounted config labels) (sym of.counted) (places_counted list doc of)
 
-  none_below : (path : List (List ℕ)) → 0 < length path → stands labels path ≡ false → (list : List ℕ) (own : List (List (List ℕ))) → map (slice_get labels) list ≡ map Some own → list_any (λ l. is_under l path) own ≡ false
-  none_below path some absent list [] e = refl
-  none_below path some absent [] (l ∷ own) e = absurd cc
-  none_below path some absent (j ∷ list) (l ∷ own) e =
-      let first : slice_get labels j ≡ Some l = cc in
-      let rest : map (slice_get labels) list ≡ map Some own = cc in
-      λ t. apart first t || none_below path some absent list own rest t
-    where
-      apart : slice_get labels j ≡ Some l → is_under l path ≡ false
-      apart first = false_from_ne_true (is_under l path) (λ e. true≢false (sym (ap (stands labels) (same_path path (take (length path) l) e) ∙ prefix_stands config labels is j j (length path) l (omega arith) first some) ∙ absent))
+  -- ---- all lists and their documents
 
+  -- as many lists count for a label's ordinal as documents have the label
+  lists_have : (i : ℕ) → 0 < i → i < length labels → is_kept_path config (get_or labels i []) ≡ true → (lists : List (List ℕ)) (docs : List Doc) → AllZip (IsListOf config labels) lists docs → lists_at config labels lists i ≡ count docs (get_or labels i [])
+  lists_have i some within kept [] [] all = refl
+  lists_have i some within kept [] (doc ∷ docs) all = absurd all
+  lists_have i some within kept (list ∷ lists) [] all = absurd all
+  lists_have i some within kept (list ∷ lists) (doc ∷ docs) all =
+      sum_by-cons (λ l. cond (counts_for config labels i l) 1 0) list lists
+      ∙ (λ t. cond (list_has list doc all.0 i some within kept t) 1 0 + lists_have i some within kept lists docs all.1 t)
+      ∙ sym (sum_by-cons (λ d. cond (has d (get_or labels i [])) 1 0) doc docs)
+
+  -- no document has a path that is no label
   none_has : (path : List (List ℕ)) → 0 < length path → stands labels path ≡ false → (lists : List (List ℕ)) (docs : List Doc) → AllZip (IsListOf config labels) lists docs → count docs path ≡ 0
   none_has path some absent lists [] all = refl
   none_has path some absent [] (doc ∷ docs) all = absurd all
   none_has path some absent (list ∷ lists) (doc ∷ docs) all =
-      sum_by-cons (λ d. cond (has d path) 1 0) doc docs ∙ (λ t. cond (none_below path some absent list doc.labels all.0.leaves t) 1 0 + none_has path some absent lists docs all.1 t)
+      sum_by-cons (λ d. cond (has d path) 1 0) doc docs ∙ (λ t. cond (no_path list doc all.0 path some absent t) 1 0 + none_has path some absent lists docs all.1 t)
 
-  -- As many documents have a path of two components or more as lists count for its ordinal, and none where it has none.
-  pub counted_at : (path : List (List ℕ)) → 1 < length path → (flags config (dim_of path)).multi_valued ≡ false → (lists : List (List ℕ)) (docs : List Doc) → AllZip (IsListOf config labels) lists docs → count docs path ≡ option_map_or (lists_at config labels lists) (place labels path) 0
-  counted_at path deep single lists docs all = by (place labels path) refl
+  pub none_counted : (path : List (List ℕ)) → place labels path ≡ None → (lists : List (List ℕ)) (docs : List Doc) → AllZip (IsListOf config labels) lists docs → count docs path ≡ 0
+  none_counted [] absent lists docs all = absurd (true≢false (sym (root_stands labels is) ∙ sym (stands_by_place labels []) ∙ ap is_some absent))
+  none_counted (part ∷ path) absent lists docs all = none_has (part ∷ path) (omega arith) (sym (stands_by_place labels (part ∷ path)) ∙ ap is_some absent) lists docs all
+
+  -- As many documents have a path whose count is kept as lists count for its ordinal, and none where it has none.
+  pub counted_at : (path : List (List ℕ)) → 0 < length path → is_kept_path config path ≡ true → (lists : List (List ℕ)) (docs : List Doc) → AllZip (IsListOf config labels) lists docs → count docs path ≡ option_map_or (lists_at config labels lists) (place labels path) 0
+  counted_at path some kept lists docs all = by (place labels path) refl
     where
       by : (o : Option ℕ) → place labels path ≡ o → count docs path ≡ option_map_or (lists_at config labels lists) (place labels path) 0
-      by None e = none_has path (omega arith) (sym (stands_by_place labels path) ∙ ap is_some e) lists docs all ∙ sym (ap (λ o. option_map_or (lists_at config labels lists) o 0) e)
+      by None e = none_counted path e lists docs all ∙ sym (ap (λ o. option_map_or (lists_at config labels lists) o 0) e)
       by (Some i) e =
           let at : slice_get labels i ≡ Some path = label_at labels i path e in
           let here : get_or labels i [] ≡ path = get_or_from_slice_get labels i path [] at in
-          let later : 0 < i = not_first i at in
           ap (count docs) (sym here)
-          ∙ sym (lists_have i later (slice_get_within labels i path at) (ap (λ q. (flags config (dim_of q)).multi_valued) here ∙ single) (subst (λ q. 1 < length q) (sym here) deep) lists docs all)
+          ∙ sym (lists_have i (not_first i at) (slice_get_within labels i path at) (ap (is_kept_path config) here ∙ kept) lists docs all)
           ∙ sym (ap (λ o. option_map_or (lists_at config labels lists) o 0) e)
         where
           not_first : (i : ℕ) → slice_get labels i ≡ Some path → 0 < i
           not_first zero at =
               let root : path ≡ [] = sym (get_or_from_slice_get labels 0 path [] at) ∙ root_first labels is [] in
-              absurd (omega (arith, ap length root, deep))
+              absurd (omega (arith, ap length root, some))
           not_first (suc i) at = omega arith
-
-  -- ---- that the list may be counted
-
-  leaf : (list : List ℕ) (own : List (List (List ℕ))) → map (slice_get labels) list ≡ map Some own → (k d : ℕ) → k < length list → (k < length own) × (slice_get labels (get_or list k d) ≡ Some (get_or own k []))
-  leaf [] own e k d lt = absurd (omega arith)
-  leaf (j ∷ list) [] e k d lt = absurd cc
-  leaf (j ∷ list) (l ∷ own) e zero d lt = let first : slice_get labels j ≡ Some l = cc in (omega arith, first)
-  leaf (j ∷ list) (l ∷ own) e (suc k) d lt =
-      let rest : map (slice_get labels) list ≡ map Some own = cc in
-      let at = leaf list own rest k d (omega arith) in
-      (omega (arith, at.0), at.1)
-
-  -- Where no dimension is multi-valued, the ordinals of an accepted document's labels may be counted.
-  pub list_counted : ((dim : List ℕ) → (flags config dim).multi_valued ≡ false) → (list : List ℕ) (doc : Doc) → IsListOf config labels list doc → IsCounted config labels list
-  list_counted single list doc of = record { within = within; distinct = distinct; alone = alone }
-    where
-      within : All (λ ord. (0 < ord) × (ord < length labels)) list
-      within k d lt =
-          let at = leaf list doc.labels of.leaves k d lt in
-          let shape = each_unbroken config doc of.accepted k at.0 in
-          (later (get_or list k d) at.1, slice_get_within labels (get_or list k d) (get_or doc.labels k []) at.1)
-        where
-          later : (ord : ℕ) → slice_get labels ord ≡ Some (get_or doc.labels k []) → 0 < ord
-          later zero at =
-              let root : get_or doc.labels k [] ≡ [] = sym (get_or_from_slice_get labels 0 (get_or doc.labels k []) [] at) ∙ root_first labels is [] in
-              let shape = each_unbroken config doc of.accepted k (leaf list doc.labels of.leaves k d lt).0 in
-              absurd (omega (arith, ap length root, shape.0))
-          later (suc ord) at = omega arith
-
-      -- two labels of one document have two dimensions
-      apart : (a b d : ℕ) → a < b → b < length list → dim_at labels (get_or list a d) ≡ dim_at labels (get_or list b d) → ⊥
-      apart a b d less lt same =
-          let first = leaf list doc.labels of.leaves a d (omega arith) in
-          let second = leaf list doc.labels of.leaves b d lt in
-          let none : list_any (λ l. bytes_eq (dim_of l) (dim_of (get_or doc.labels b []))) (take b doc.labels) ≡ false = (each_unbroken config doc of.accepted b second.0).2 (single (dim_of (get_or doc.labels b []))) in
-          let size : length (take b doc.labels) ≡ b = length-take-le b doc.labels (omega (arith, second.0)) in
-          let differ : bytes_eq (dim_of (get_or doc.labels a [])) (dim_of (get_or doc.labels b [])) ≡ false = ap (λ l. bytes_eq (dim_of l) (dim_of (get_or doc.labels b []))) (sym (get_or-take b doc.labels a [] less)) ∙ none_at (λ l. bytes_eq (dim_of l) (dim_of (get_or doc.labels b []))) (take b doc.labels) a [] (omega arith) none in
-          let dims : dim_of (get_or doc.labels a []) ≡ dim_of (get_or doc.labels b []) = ap dim_of (sym (get_or_from_slice_get labels (get_or list a d) (get_or doc.labels a []) [] first.1)) ∙ same ∙ ap dim_of (get_or_from_slice_get labels (get_or list b d) (get_or doc.labels b []) [] second.1) in
-          true≢false (sym ((bytes_decides (dim_of (get_or doc.labels a [])) (dim_of (get_or doc.labels b []))).1 dims) ∙ differ)
-
-      distinct : AllPairs (λ a b. a ≢ b) list
-      distinct a b d less lt same = apart a b d less lt (ap (dim_at labels) same)
-
-      alone : AllPairs (λ a b. dim_at labels a ≡ dim_at labels b → (flags config (dim_at labels a)).multi_valued ≡ true) list
-      alone a b d less lt same = absurd (apart a b d less lt same)

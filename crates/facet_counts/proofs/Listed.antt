@@ -15,7 +15,7 @@ use Rattle.std.proofs.lemmas.Option.{same_Some, none-some, slice_get-get_or, get
 use Rattle.facet_names.specs.Paths.{path_eq}
 use Rattle.facet_names.specs.Labels.{IsLabelList, above, place, stands}
 use Rattle.facet_names.specs.Arrays.{is_child, parent_at}
-use Rattle.facet_model.specs.Listing.{Counted, IsListing, counted_child, listing_cmp}
+use Rattle.facet_model.specs.Listing.{PartCount, IsListing, counted_child, listing_cmp}
 use Rattle.facet_model.specs.declared.result.Child.{Child}
 use Rattle.facet_counts.specs.Children.{last_of, falling, entry_of, entries_of, children_at, count_at}
 use Rattle.taxo_list.proofs.Labels.{same_path, place_at, label_at, root_first}
@@ -136,7 +136,7 @@ module _ (labels : List (List (List ℕ))) (is : IsLabelList labels) (totals : L
 
   -- ---- each once
 
-  times_entries : (part : List ℕ) (cs : List ℕ) → count_by (λ (e : Counted). bytes_eq part e.0) (entries_of labels totals cs) ≡ count_by (λ c. bytes_eq part (last_of (get_or labels c [])) && nat_lt 0 (get_or totals c 0)) cs
+  times_entries : (part : List ℕ) (cs : List ℕ) → count_by (λ (e : PartCount). bytes_eq part e.0) (entries_of labels totals cs) ≡ count_by (λ c. bytes_eq part (last_of (get_or labels c [])) && nat_lt 0 (get_or totals c 0)) cs
   times_entries part [] = refl
   times_entries part (c ∷ cs) = by (nat_lt 0 (get_or totals c 0)) refl (times_entries part cs) ∙ sym (count_cons (λ c. bytes_eq part (last_of (get_or labels c [])) && nat_lt 0 (get_or totals c 0)) c cs)
     where
@@ -148,16 +148,16 @@ module _ (labels : List (List (List ℕ))) (is : IsLabelList labels) (totals : L
       and_false true = refl
       and_false false = refl
 
-      by : (b : Bool) → nat_lt 0 (get_or totals c 0) ≡ b → count_by (λ (e : Counted). bytes_eq part e.0) (entries_of labels totals cs) ≡ count_by (λ c. bytes_eq part (last_of (get_or labels c [])) && nat_lt 0 (get_or totals c 0)) cs
-          → count_by (λ (e : Counted). bytes_eq part e.0) (cond b (entry_of labels totals c ∷ entries_of labels totals cs) (entries_of labels totals cs)) ≡ cond (bytes_eq part (last_of (get_or labels c [])) && b) 1 0 + count_by (λ c. bytes_eq part (last_of (get_or labels c [])) && nat_lt 0 (get_or totals c 0)) cs
-      by true e rest = count_cons (λ (e : Counted). bytes_eq part e.0) (entry_of labels totals c) (entries_of labels totals cs) ∙ ap (λ m. cond (bytes_eq part (last_of (get_or labels c []))) 1 0 + m) rest ∙ ap (λ b. cond b 1 0 + count_by (λ c. bytes_eq part (last_of (get_or labels c [])) && nat_lt 0 (get_or totals c 0)) cs) (sym (and_true (bytes_eq part (last_of (get_or labels c [])))))
+      by : (b : Bool) → nat_lt 0 (get_or totals c 0) ≡ b → count_by (λ (e : PartCount). bytes_eq part e.0) (entries_of labels totals cs) ≡ count_by (λ c. bytes_eq part (last_of (get_or labels c [])) && nat_lt 0 (get_or totals c 0)) cs
+          → count_by (λ (e : PartCount). bytes_eq part e.0) (cond b (entry_of labels totals c ∷ entries_of labels totals cs) (entries_of labels totals cs)) ≡ cond (bytes_eq part (last_of (get_or labels c [])) && b) 1 0 + count_by (λ c. bytes_eq part (last_of (get_or labels c [])) && nat_lt 0 (get_or totals c 0)) cs
+      by true e rest = count_cons (λ (e : PartCount). bytes_eq part e.0) (entry_of labels totals c) (entries_of labels totals cs) ∙ ap (λ m. cond (bytes_eq part (last_of (get_or labels c []))) 1 0 + m) rest ∙ ap (λ b. cond b 1 0 + count_by (λ c. bytes_eq part (last_of (get_or labels c [])) && nat_lt 0 (get_or totals c 0)) cs) (sym (and_true (bytes_eq part (last_of (get_or labels c [])))))
       by false e rest = rest ∙ sym (ap (λ b. cond b 1 0 + count_by (λ c. bytes_eq part (last_of (get_or labels c [])) && nat_lt 0 (get_or totals c 0)) cs) (and_false (bytes_eq part (last_of (get_or labels c [])))) ∙ plain)
         where
           plain : 0 + count_by (λ c. bytes_eq part (last_of (get_or labels c [])) && nat_lt 0 (get_or totals c 0)) cs ≡ count_by (λ c. bytes_eq part (last_of (get_or labels c [])) && nat_lt 0 (get_or totals c 0)) cs
           plain = omega arith
 
   -- each component with a count above 0 stands once
-  each_once : (part : List ℕ) → count_by (λ (e : Counted). bytes_eq part e.0) (children_at labels totals ord) ≡ cond (nat_lt 0 (count_at labels totals (path ++ part ∷ []))) 1 0
+  each_once : (part : List ℕ) → count_by (λ (e : PartCount). bytes_eq part e.0) (children_at labels totals ord) ≡ cond (nat_lt 0 (count_at labels totals (path ++ part ∷ []))) 1 0
   each_once part = times_entries part (falling (is_child labels ord) (length labels)) ∙ by (place labels (path ++ part ∷ [])) refl
     where
       -- a child with the component is at the path with it
@@ -183,20 +183,20 @@ module _ (labels : List (List (List ℕ))) (is : IsLabelList labels) (totals : L
           ∙ ap (λ o. cond (nat_lt 0 (option_map_or (λ k. get_or totals k 0) o 0)) 1 0) (sym e)
 
   -- each has its count
-  each_counted : All (λ (e : Counted). e.1 ≡ count_at labels totals (path ++ e.0 ∷ [])) (children_at labels totals ord)
+  each_counted : All (λ (e : PartCount). e.1 ≡ count_at labels totals (path ++ e.0 ∷ [])) (children_at labels totals ord)
   each_counted = of_falling (length labels) (omega arith)
     where
-      entry_counted : (c : ℕ) (cs : List Counted) → c < length labels → is_child labels ord c ≡ true → All (λ (e : Counted). e.1 ≡ count_at labels totals (path ++ e.0 ∷ [])) cs
-          → (b : Bool) → All (λ (e : Counted). e.1 ≡ count_at labels totals (path ++ e.0 ∷ [])) (cond b (entry_of labels totals c ∷ cs) cs)
-      entry_counted c cs lt child rest true = All-cons (λ (e : Counted). e.1 ≡ count_at labels totals (path ++ e.0 ∷ [])) (entry_of labels totals c) cs (sym (child_count c lt child)) rest
+      entry_counted : (c : ℕ) (cs : List PartCount) → c < length labels → is_child labels ord c ≡ true → All (λ (e : PartCount). e.1 ≡ count_at labels totals (path ++ e.0 ∷ [])) cs
+          → (b : Bool) → All (λ (e : PartCount). e.1 ≡ count_at labels totals (path ++ e.0 ∷ [])) (cond b (entry_of labels totals c ∷ cs) cs)
+      entry_counted c cs lt child rest true = All-cons (λ (e : PartCount). e.1 ≡ count_at labels totals (path ++ e.0 ∷ [])) (entry_of labels totals c) cs (sym (child_count c lt child)) rest
       entry_counted c cs lt child rest false = rest
 
-      of_falling : (n : ℕ) → n ≤ length labels → All (λ (e : Counted). e.1 ≡ count_at labels totals (path ++ e.0 ∷ [])) (entries_of labels totals (falling (is_child labels ord) n))
-      of_falling zero within = All-nil (λ (e : Counted). e.1 ≡ count_at labels totals (path ++ e.0 ∷ []))
+      of_falling : (n : ℕ) → n ≤ length labels → All (λ (e : PartCount). e.1 ≡ count_at labels totals (path ++ e.0 ∷ [])) (entries_of labels totals (falling (is_child labels ord) n))
+      of_falling zero within = All-nil (λ (e : PartCount). e.1 ≡ count_at labels totals (path ++ e.0 ∷ []))
       of_falling (suc n) within = by (is_child labels ord n) refl (of_falling n (omega arith))
         where
-          by : (b : Bool) → is_child labels ord n ≡ b → All (λ (e : Counted). e.1 ≡ count_at labels totals (path ++ e.0 ∷ [])) (entries_of labels totals (falling (is_child labels ord) n))
-              → All (λ (e : Counted). e.1 ≡ count_at labels totals (path ++ e.0 ∷ [])) (entries_of labels totals (cond b (n ∷ falling (is_child labels ord) n) (falling (is_child labels ord) n)))
+          by : (b : Bool) → is_child labels ord n ≡ b → All (λ (e : PartCount). e.1 ≡ count_at labels totals (path ++ e.0 ∷ [])) (entries_of labels totals (falling (is_child labels ord) n))
+              → All (λ (e : PartCount). e.1 ≡ count_at labels totals (path ++ e.0 ∷ [])) (entries_of labels totals (cond b (n ∷ falling (is_child labels ord) n) (falling (is_child labels ord) n)))
           by true e rest = entry_counted n (entries_of labels totals (falling (is_child labels ord) n)) (omega arith) e rest (nat_lt 0 (get_or totals n 0))
           by false e rest = rest
 
@@ -205,17 +205,17 @@ module _ (labels : List (List (List ℕ))) (is : IsLabelList labels) (totals : L
   listing_is xs ys same moved sorted =
       let images : IsPermutation (map counted_child xs) (map counted_child ys) = IsPermutation-map counted_child xs ys moved in
       record {
-        each_once = λ q. sum_by-IsPermutation (λ c. cond (bytes_eq q c.0) 1 0) (map counted_child xs) (map counted_child ys) images ∙ ap (count_by (λ (e : Counted). bytes_eq q e.0)) same ∙ each_once q;
-        counted = All-permutation (λ (e : Counted). e.1 ≡ count_at labels totals (path ++ e.0 ∷ [])) (map counted_child xs) (map counted_child ys) images (subst (All (λ (e : Counted). e.1 ≡ count_at labels totals (path ++ e.0 ∷ []))) (sym same) each_counted);
+        each_once = λ q. sum_by-IsPermutation (λ c. cond (bytes_eq q c.0) 1 0) (map counted_child xs) (map counted_child ys) images ∙ ap (count_by (λ (e : PartCount). bytes_eq q e.0)) same ∙ each_once q;
+        counted = All-permutation (λ (e : PartCount). e.1 ≡ count_at labels totals (path ++ e.0 ∷ [])) (map counted_child xs) (map counted_child ys) images (subst (All (λ (e : PartCount). e.1 ≡ count_at labels totals (path ++ e.0 ∷ []))) (sym same) each_counted);
         ordered = ordered_images ys sorted;
       }
 
--- where the path is no label, nothing is below it
-pub none_listed : (labels : List (List (List ℕ))) → IsLabelList labels → (totals : List ℕ) (path : List (List ℕ)) → place labels path ≡ None → 0 < length path → (part : List ℕ) → count_at labels totals (path ++ part ∷ []) ≡ 0
-none_listed labels is totals path absent some part = by (place labels (path ++ part ∷ [])) refl
+-- where the path is no label, none below it is
+pub absent_below : (labels : List (List (List ℕ))) → IsLabelList labels → (path : List (List ℕ)) → place labels path ≡ None → (part : List ℕ) → place labels (path ++ part ∷ []) ≡ None
+absent_below labels is path absent part = by (place labels (path ++ part ∷ [])) refl
   where
-    by : (o : Option ℕ) → place labels (path ++ part ∷ []) ≡ o → count_at labels totals (path ++ part ∷ []) ≡ 0
-    by None e = ap (λ o. option_map_or (λ k. get_or totals k 0) o 0) e
+    by : (o : Option ℕ) → place labels (path ++ part ∷ []) ≡ o → place labels (path ++ part ∷ []) ≡ None
+    by None e = e
     by (Some q) e = absurd (has_above q (label_at labels q (path ++ part ∷ []) e))
       where
         has_above : (q : ℕ) → slice_get labels q ≡ Some (path ++ part ∷ []) → ⊥

@@ -14,7 +14,7 @@ use Rattle.facet_counts.specs.Climbs.{climbs, climbed, goes_to, next_of, below_r
 use Rattle.taxo_list.proofs.Labels.{place_of}
 use Rattle.facet_counts.proofs.Entries.{has_parent}
 use Rattle.facet_counts.proofs.Climbing.{no_step, one_end, reaches}
-use Rattle.facet_counts.proofs.Dims.{goes_smaller, goes_dim, climbs_dim, parent_rolled}
+use Rattle.facet_counts.proofs.Parents.{goes_smaller, goes_dim, climbs_dim, parent_rolled}
 
 -- two tests that agree on each element agree on the list, and on how many lists pass
 alike : (p q : ℕ → Bool) (list : List ℕ) → All (λ j. p j ≡ q j) list → list_any p list ≡ list_any q list

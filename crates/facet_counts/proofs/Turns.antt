@@ -12,7 +12,7 @@ use Rattle.facet_counts.specs.Tallies.{Tally, HasAdded}
 use Rattle.facet_counts.specs.Climbs.{climbed, goes_to, next_of, IsRolledTo}
 use Rattle.facet_counts.specs.Kept.{IsCounter}
 use Rattle.facet_counts.proofs.Climbing.{others_keep, parent_gets}
-use Rattle.facet_counts.proofs.Dims.{goes_smaller, goes_dim}
+use Rattle.facet_counts.proofs.Parents.{goes_smaller, goes_dim}
 use Rattle.facet_counts.proofs.Rolling.{apart, climbed_none, climbed_all}
 
 pub count_most : {X : Type 0} (p : X → Bool) (xs : List X) → count_by p xs ≤ length xs

@@ -13,7 +13,7 @@ use Rattle.facet_model.specs.Flags.{Config}
 use Rattle.facet_counts.specs.Lists.{is_above}
 use Rattle.taxo_list.proofs.Labels.{same_path, place_at, root_first}
 use Rattle.facet_counts.proofs.Entries.{has_parent}
-use Rattle.facet_counts.proofs.Dims.{root_only}
+use Rattle.facet_counts.proofs.Parents.{root_only}
 use Rattle.facet_counts.proofs.Rolling.{above_root}
 
 -- ---- paths
@@ -75,32 +75,3 @@ module _ (config : Config) (labels : List (List (List ℕ))) (is : IsLabelList l
       by : (i ≡ suc j) ⊎ (i ≡ suc j → ⊥) → (nat_eq i (suc j) || is_under (above (get_or labels (suc j) [])) (get_or labels i [])) ≡ is_under (get_or labels (suc j) []) (get_or labels i [])
       by (inl same) = or_true (nat_eq i (suc j)) (is_under (above (get_or labels (suc j) [])) (get_or labels i [])) (eq-eqb i (suc j) same) ∙ sym (ap (λ k. is_under (get_or labels (suc j) []) (get_or labels k [])) same ∙ under_itself (get_or labels (suc j) []))
       by (inr apart) = ap (λ a. a || is_under (above (get_or labels (suc j) [])) (get_or labels i [])) (ne_eqb i (suc j) apart) ∙ under_above (get_or labels (suc j) []) (get_or labels i []) (other_label i (suc j) low lt apart)
-
-  -- a label itself, or a longer prefix, stands in the list
-  whole_stands : (j n : ℕ) (q : List (List ℕ)) → slice_get labels j ≡ Some q → length q ≤ n → stands labels (take n q) ≡ true
-  whole_stands j n q at long =
-      let whole : take n q ≡ q = take_all n q long in
-      let here : get_or labels j [] ≡ q = get_or_from_slice_get labels j q [] at in
-      ap (stands labels) whole ∙ list_any_at (path_eq q) labels j [] (slice_get_within labels j q at) (ap (path_eq q) here ∙ path_eq_equiv.refl q)
-
-  -- each prefix of a label stands in the list
-  pub prefix_stands : (m j n : ℕ) (q : List (List ℕ)) → j ≤ m → slice_get labels j ≡ Some q → 0 < n → stands labels (take n q) ≡ true
-  prefix_stands zero j n q few at some = by (cases_lt n (length q))
-    where
-      by : (n < length q) ⊎ (length q ≤ n) → stands labels (take n q) ≡ true
-      by (inr long) = whole_stands j n q at long
-      by (inl short) =
-          let first : j ≡ 0 = omega arith in
-          let root : q ≡ [] = sym (get_or_from_slice_get labels j q [] at) ∙ ap (λ k. get_or labels k []) first ∙ root_first labels is [] in
-          absurd (omega (arith, ap length root))
-  prefix_stands (suc m) zero n q few at some = prefix_stands m zero n q (omega arith) at some
-  prefix_stands (suc m) (suc j) n q few at some =
-      let lt : suc j < length labels = slice_get_within labels (suc j) q at in
-      let parent = has_parent labels is (suc j) (omega arith) lt in
-      let here : get_or labels (suc j) [] ≡ q = get_or_from_slice_get labels (suc j) q [] at in
-      let higher : slice_get labels parent.0 ≡ Some (above q) = parent.3 ∙ ap (λ p. Some (above p)) here in
-      by (cases_lt n (length q)) (prefix_stands m parent.0 n (above q) (omega (arith, parent.1)) higher some)
-    where
-      by : (n < length q) ⊎ (length q ≤ n) → stands labels (take n (above q)) ≡ true → stands labels (take n q) ≡ true
-      by (inr long) again = whole_stands (suc j) n q at long
-      by (inl short) again = ap (stands labels) (sym (take-take n (length q - 1) q (omega arith))) ∙ again

@@ -6,7 +6,7 @@ use Rattle.std.proofs.lemmas.Bool.{true≢false, eqb-true}
 use Rattle.std.proofs.lemmas.List.{append-nil, append_assoc, length-map}
 use Rattle.std.proofs.lemmas.Option.{IfSome_then}
 use Rattle.facet_names.specs.Arrays.{greatest, is_child, parent_at, child_at, sibling_at}
-use Rattle.facet_model.specs.Listing.{Counted, counted_child}
+use Rattle.facet_model.specs.Listing.{PartCount, counted_child}
 use Rattle.facet_model.specs.declared.result.Child.{Child}
 use Rattle.facet_counts.specs.Children.{falling, entry_of, entries_of, children_at, children_from}
 
@@ -51,7 +51,7 @@ module _ (labels : List (List (List ℕ))) (totals : List ℕ) (ord : ℕ) where
   pub sibling_is : (c : ℕ) → is_child labels ord c ≡ true → sibling_at labels c ≡ greatest (is_child labels ord) c
   sibling_is c child = ap (option_and_then (λ p. greatest (is_child labels p) c)) (parent_of_child labels ord c child)
 
-  pub walk_goes_on : (c : ℕ) → is_child labels ord c ≡ true → (done more all : List Counted) → done ++ children_from labels totals ord (Some c) ≡ all → more ≡ done ++ entries_of labels totals (c ∷ []) → more ++ children_from labels totals ord (sibling_at labels c) ≡ all
+  pub walk_goes_on : (c : ℕ) → is_child labels ord c ≡ true → (done more all : List PartCount) → done ++ children_from labels totals ord (Some c) ≡ all → more ≡ done ++ entries_of labels totals (c ∷ []) → more ++ children_from labels totals ord (sibling_at labels c) ≡ all
   walk_goes_on c child done more all so_far noted =
       (λ t. noted t ++ children_from labels totals ord (sibling_is c child t))
       ∙ ap (λ l. (done ++ entries_of labels totals (c ∷ [])) ++ l) (from_greatest c)

@@ -1,11 +1,13 @@
 -- Lists of ordinals, one for each document, and how many of them count for an ordinal.
-use Rattle.std.specs.Prelude.{◌≡◌, ◌≢◌, ◌<◌, ◌&&◌, ◌||◌, ℕ, zero, suc, Bool, true, false, not, nat_eq, if◌then◌else◌, List, [], length, slice_index_or, slice_get, map, count_by, All, Option, Some}
+use Rattle.std.specs.Prelude.{◌≡◌, ◌≢◌, ◌<◌, ◌&&◌, ◌||◌, ℕ, zero, suc, Bool, true, false, not, nat_eq, if◌then◌else◌, List, [], length, slice_index_or, count_by, All, IsTrue}
 use Rattle.std.specs.List.{list_any, AllPairs}
 use Rattle.std.specs.Option.{option_map_or}
 use Rattle.facet_names.specs.Arrays.{parent_at}
 use Rattle.facet_model.specs.Flags.{Config, flags}
 use Rattle.facet_model.specs.Documents.{Doc, dim_of}
 use Rattle.facet_model.specs.Accepts.{Accepts}
+use Rattle.facet_model.specs.Histories.{knows}
+use Rattle.facet_model.specs.CountedPaths.{counted_ordinals}
 
 -- the dimension of the label at an ordinal
 abbrev pub dim_at : List (List (List ℕ)) → ℕ → List ℕ
@@ -35,7 +37,8 @@ pub record IsCounted (config : Config) (labels : List (List (List ℕ))) (list :
   pub distinct : AllPairs (λ a b. a ≢ b) list
   pub alone : AllPairs (λ a b. dim_at labels a ≡ dim_at labels b → (flags config (dim_at labels a)).multi_valued ≡ true) list
 
--- The list has the ordinals of the document's labels, in their order, and the config accepts the document.
+-- The config accepts the document, its labels and all their prefixes are known, and the list has the ordinals that are counted for it.
 pub record IsListOf (config : Config) (labels : List (List (List ℕ))) (list : List ℕ) (doc : Doc) : Type 0 where
-  pub leaves : map (slice_get labels) list ≡ map Some doc.labels
   pub accepted : Accepts config doc
+  pub known : IsTrue (knows labels doc)
+  pub counted : list ≡ counted_ordinals labels config doc.labels

@@ -1,15 +1,19 @@
-ghost use Rattle.std.specs.Prelude.{◌≡◌, ◌<◌, ◌≤◌, ◌^◌, ℕ, List, Some, false, not, pos, negsuc, length, slice_index_or, option_map, if◌then◌else◌, IfOk};
+ghost use Rattle.std.specs.Prelude.{◌≡◌, ◌<◌, ◌≤◌, ◌^◌, ◌∷◌, [], ℕ, List, Some, None, true, not, nat_lt, pos, negsuc, length, map, slice_index_or, option_map, if◌then◌else◌, IfOk};
 ghost use Rattle.std.specs.List.{AllZip};
-ghost use Rattle.facet_names.specs.Labels.{IsLabelList, place};
-ghost use Rattle.facet_model.specs.Documents.{Doc, dim_of};
+ghost use Rattle.facet_names.specs.Labels.{place};
+ghost use Rattle.facet_model.specs.Asks.{one_value, ask_fault, is_kept_path};
+ghost use Rattle.facet_model.specs.Documents.{Doc, dim_of, count};
 ghost use Rattle.facet_model.specs.Flags.{flags};
 ghost use Rattle.facet_model.specs.ResultViews.{result_view};
-ghost use Rattle.facet_model.specs.Results.{IsTop};
+ghost use Rattle.facet_model.specs.Results.{IsTop, AreAllDims, specific};
+ghost use Rattle.facet_counts.specs.Dims.{AreDims};
 ghost use Rattle.facet_counts.specs.Kept.{IsTotals};
 ghost use Rattle.facet_counts.specs.Lists.{IsListOf, lists_at};
 ghost use Rattle.facet_counts.specs.Tallies.{AreCounts};
 
 use crate::children::{children_below, sum_of};
+use crate::dims::{note_dim, order_dims};
+use crate::links::{child_of, sibling_of};
 use facet_config::FacetsConfig;
 use facet_model::{DimFlags, FacetResult};
 use facet_names::{NoMemory, Path};
@@ -69,6 +73,8 @@ impl<'a> Counts<'a> {
         requires within { ord < length self.now.labels }
         ensures total { result ≡ slice_index_or self.now.totals ord 0 }
         ensures counts { (lists : List (List ℕ)) → AreCounts self.now lists → result ≡ lists_at self.now.config self.now.labels lists ord }
+        // Where the lists are those of documents: the number of these that have the path, where its count is kept.
+        ensures documents { (docs : List Doc) (lists : List (List ℕ)) (path : List (List ℕ)) → AreCounts self.now lists → AllZip (IsListOf self.now.config self.now.labels) lists docs → place self.now.labels path ≡ Some ord → is_kept_path self.now.config path ≡ true → result ≡ count docs path }
     {
         self.totals[ord as usize]
     }
@@ -79,7 +85,7 @@ impl<'a> Counts<'a> {
     /// It walks over the path's children, and takes memory for each that has a document.
     pub fn top(&self, alloc: Global, path: &Path, n: u32) -> Result<Option<FacetResult>, NoMemory>
         requires { 0 < n }
-        ensures { IfOk result (λ r. (docs : List Doc) (lists : List (List ℕ)) → (flags self.now.config (dim_of path.now)).multi_valued ≡ false → AreCounts self.now lists → AllZip (IsListOf self.now.config self.now.labels) lists docs → IsTop self.now.config docs path.now n (option_map result_view r)) }
+        ensures { IfOk result (λ r. (docs : List Doc) (lists : List (List ℕ)) → AreCounts self.now lists → AllZip (IsListOf self.now.config self.now.labels) lists docs → IsTop self.now.config docs path.now n (option_map result_view r)) }
     {
         let dim_flags = self.config.flags(path.dim());
         match self.view.ordinal_of(path) {
@@ -100,7 +106,7 @@ impl<'a> Counts<'a> {
         requires flags { dim_flags ≡ flags self.now.config (dim_of path.now) }
         requires some { 0 < length path.now }
         requires place { place self.now.labels path.now ≡ Some ord }
-        ensures { IfOk result (λ r. (docs : List Doc) (lists : List (List ℕ)) → (flags self.now.config (dim_of path.now)).multi_valued ≡ false → AreCounts self.now lists → AllZip (IsListOf self.now.config self.now.labels) lists docs → IsTop self.now.config docs path.now n (option_map result_view r)) }
+        ensures { IfOk result (λ r. (docs : List Doc) (lists : List (List ℕ)) → AreCounts self.now lists → AllZip (IsListOf self.now.config self.now.labels) lists docs → IsTop self.now.config docs path.now n (option_map result_view r)) }
     {
         let mut children = children_below(alloc, self.view, &self.totals, ord)?;
         children.sort()?;
@@ -118,5 +124,52 @@ impl<'a> Counts<'a> {
             children,
             child_count,
         }))
+    }
+
+    /// The number of documents that have a path, as Lucene's `getSpecificValue`. `exists` says whether a document of the whole snapshot has
+    /// it: where none does the answer is -1. One look-up in a hash table; it takes no memory.
+    pub fn specific(&self, path: &Path, exists: bool) -> i64
+        requires kept { ask_fault self.now.config (one_value path.now) ≡ None }
+        ensures { (docs snapshot : List Doc) (lists : List (List ℕ)) → AreCounts self.now lists → AllZip (IsListOf self.now.config self.now.labels) lists docs → exists ≡ nat_lt 0 (count snapshot path.now) → result ≡ specific snapshot docs path.now }
+    {
+        // Its clause says that a path has a component.
+        let _ = path.dim();
+        if !exists {
+            return -1;
+        }
+        match self.view.ordinal_of(path) {
+            Some(ord) => i64::from(self.totals[ord as usize]),
+            None => 0,
+        }
+    }
+
+    /// The `n` children of each dimension that the most documents have, as Lucene's `getAllDims`. A dimension without a result is left out.
+    /// They are ordered by value falling, ties by the dimension's bytes rising.
+    ///
+    /// It walks over the dimensions and their children, and takes memory for each child that has a document.
+    pub fn all_dims(&self, alloc: Global, n: u32) -> Result<Vec<FacetResult>, NoMemory>
+        requires { 0 < n }
+        ensures { IfOk result (λ v. (docs : List Doc) (lists : List (List ℕ)) → AreCounts self.now lists → AllZip (IsListOf self.now.config self.now.labels) lists docs → AreAllDims self.now.config (λ _. docs) n (map result_view v.items)) }
+    {
+        let mut results = self.each_dim(alloc, n)?;
+        order_dims(&mut results);
+        Ok(results)
+    }
+
+    // The results of all dimensions, the one that was added last first.
+    fn each_dim(&self, alloc: Global, n: u32) -> Result<Vec<FacetResult>, NoMemory>
+        requires { 0 < n }
+        ensures { IfOk result (λ v. (docs : List Doc) (lists : List (List ℕ)) → AreCounts self.now lists → AllZip (IsListOf self.now.config self.now.labels) lists docs → AreDims (λ _. true) self.now.config (λ _. docs) n (map result_view v.items)) }
+    {
+        // Its clause says that the root is a label.
+        let _ = self.view.size();
+        let mut results = Vec::new(alloc);
+        let mut next = child_of(self.view, 0);
+        while let Some(ord) = next {
+            let top = self.top(alloc, self.view.path_of(ord), n)?;
+            note_dim(&mut results, top)?;
+            next = sibling_of(self.view, ord);
+        }
+        Ok(results)
     }
 }

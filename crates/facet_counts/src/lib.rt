@@ -1,14 +1,21 @@
 //! Counting by ordinals, as Lucene's `TaxonomyFacetCounts`: the ordinals of each document are counted, the counts are rolled up to the parents
-//! in dimensions that are hierarchical and not multi-valued, and the children of a path are listed by their counts.
+//! in dimensions that are hierarchical and not multi-valued. Of documents' ordinals the counts are document counts, by which the children of
+//! a path are listed.
 #![tactic(auto)]
 
+mod ask;
 mod children;
 mod counter;
 mod counts;
+mod dims;
+mod laws;
 mod links;
 mod rolled;
 #[cfg(test)]
 mod tests;
 
+pub use ask::{AskFault, check_ask};
 pub use counter::Counter;
 pub use counts::Counts;
+pub use dims::{note_dim, order_dims};
+pub use laws::{may_be_counted, no_result_elsewhere, none_elsewhere, one_all_dims};

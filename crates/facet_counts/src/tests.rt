@@ -1,9 +1,11 @@
-ghost use Rattle.std.specs.Prelude.{◌≡◌, ◌<◌, ◌≤◌, length, IfOk};
+ghost use Rattle.std.specs.Prelude.{◌≡◌, ◌<◌, ◌≤◌, true, length, IfOk};
 ghost use Rattle.facet_names.specs.Labels.{above, stands};
+ghost use Rattle.facet_model.specs.Flags.{flags};
+ghost use Rattle.facet_counts.specs.Lists.{IsCounted, dim_at};
 
-use crate::{Counter, Counts};
+use crate::{AskFault, Counter, Counts, check_ask};
 use facet_config::FacetsConfig;
-use facet_model::{Child, DimFlags};
+use facet_model::{Ask, Child, DimFlags, FacetResult};
 use facet_names::{NoMemory, Path};
 use std::alloc::Global;
 use std::process::Abort;
@@ -61,55 +63,72 @@ fn view_of(rt: &impl Abort, alloc: Global, labels: &[&str]) -> Result<TaxoView, 
     Ok(list.view()?)
 }
 
-// One dimension is hierarchical.
-fn config_of(alloc: Global, dim: &str) -> Result<FacetsConfig, Fail> {
-    let mut config = FacetsConfig::new(alloc);
-    let flags = DimFlags {
+// The flags of one hierarchical dimension.
+fn flags_of(multi_valued: bool, require_dim_count: bool) -> DimFlags {
+    DimFlags {
         hierarchical: true,
-        multi_valued: false,
-        require_dim_count: false,
-    };
+        multi_valued,
+        require_dim_count,
+    }
+}
+
+fn config_of(alloc: Global, dim: &str, flags: DimFlags) -> Result<FacetsConfig, Fail> {
+    let mut config = FacetsConfig::new(alloc);
     config.declare(dim, flags)?;
     Ok(config)
 }
 
-// The counts of documents with one ordinal each.
+fn is_multi_valued(view: &TaxoView, config: &FacetsConfig, ord: u32) -> bool
+    requires some { 0 < ord }
+    requires within { ord < length view.now }
+    ensures { result ≡ (flags config.now (dim_at view.now ord)).multi_valued }
+{
+    config.flags(view.path_of(ord).dim()).multi_valued
+}
+
+// Whether the ordinals rise, in dimensions that are multi-valued; one alone may be in any.
+fn may_be_added(view: &TaxoView, config: &FacetsConfig, ords: &[u32]) -> bool
+    ensures { result ≡ true → IsCounted config.now view.now ords.now }
+{
+    let mut last = 0;
+    for ord in ords {
+        if *ord <= last || *ord >= view.size() {
+            return false;
+        }
+        if ords.len() > 1 && !is_multi_valued(view, config, *ord) {
+            return false;
+        }
+        last = *ord;
+    }
+    true
+}
+
+// The counts of these lists.
 fn counts_of<'a>(
     rt: &impl Abort,
     alloc: Global,
     view: &'a TaxoView,
     config: &'a FacetsConfig,
-    ords: &[u32],
+    lists: &[&[u32]],
 ) -> Result<Counts<'a>, Fail>
-    requires { length ords.now < 1000 }
-    ensures { IfOk result (λ c. c.labels ≡ view.now) }
+    requires { length lists.now < 1000 }
+    ensures labels { IfOk result (λ c. c.labels ≡ view.now) }
+    ensures config { IfOk result (λ c. c.config ≡ config.now) }
 {
     let mut counter = Counter::new(alloc, view, config)?;
-    for ord in ords {
-        let within = 0 < *ord && *ord < view.size();
-        assert!(rt; within);
-        counter.add_doc(&[*ord]);
+    for list in lists {
+        let may = may_be_added(view, config, *list);
+        assert!(rt; may);
+        counter.add_doc(*list);
     }
     Ok(counter.roll_up())
 }
 
-// Whether the top of a path has this value and these children.
-fn lists(
-    alloc: Global,
-    counts: &Counts,
-    text: &str,
-    n: u32,
-    value: i64,
-    children: &[(&str, u32)],
-) -> Result<bool, Fail>
-    requires { 0 < n }
-{
-    let path = path(alloc, text)?;
-    match counts.top(alloc, &path, n)? {
-        Some(result) => Ok(result.value == value && are_children(&result.children, children)),
-        None => Ok(false),
-    }
-}
+// A path, how many of its children, and the value and the children that are shown; no child for no result.
+type TopRow<'a> = (&'a str, u32, i64, &'a [(&'a str, u32)]);
+
+// A path, whether a document of the snapshot has it, and its value; none where it may not be asked.
+type ValueRow<'a> = (&'a str, bool, Option<i64>);
 
 fn are_children(found: &[Child], children: &[(&str, u32)]) -> bool {
     found.len() == children.len()
@@ -117,13 +136,71 @@ fn are_children(found: &[Child], children: &[(&str, u32)]) -> bool {
             && child.count == *count)
 }
 
+fn has_top(alloc: Global, counts: &Counts, row: &TopRow) -> Result<bool, Fail> {
+    let (text, n, value, children) = row;
+    if *n == 0 {
+        return Ok(false);
+    }
+    let path = path(alloc, *text)?;
+    match counts.top(alloc, &path, *n)? {
+        Some(top) => Ok(top.value == *value && are_children(&top.children, *children)),
+        None => Ok(children.is_empty()),
+    }
+}
+
+fn has_value(
+    alloc: Global,
+    counts: &Counts,
+    config: &FacetsConfig,
+    row: &ValueRow,
+) -> Result<bool, Fail>
+    requires { counts.now.config ≡ config.now }
+{
+    let (text, exists, expected) = row;
+    let ask = Ask::Specific {
+        path: path(alloc, *text)?,
+    };
+    if check_ask(config, &ask).is_err() {
+        return Ok(expected.is_none());
+    }
+    match &ask {
+        Ask::Specific { path } => Ok(Some(counts.specific(path, *exists)) == *expected),
+        _ => Ok(false),
+    }
+}
+
+// Whether the lists of ordinals give these values and tops, where the first label is a dimension with these flags.
+fn gives(
+    rt: &impl Abort,
+    alloc: Global,
+    labels: &[&str],
+    dim_flags: (&str, DimFlags),
+    lists: &[&[u32]],
+    values: &[ValueRow],
+    tops: &[TopRow],
+) -> Result<bool, Fail>
+    requires { length lists.now < 1000 }
+{
+    let view = view_of(rt, alloc, labels)?;
+    let config = config_of(alloc, dim_flags.0, dim_flags.1)?;
+    let counts = counts_of(rt, alloc, &view, &config, lists)?;
+    let mut all = true;
+    for row in values {
+        all = all && has_value(alloc, &counts, &config, row)?;
+    }
+    for row in tops {
+        all = all && has_top(alloc, &counts, row)?;
+    }
+    Ok(all)
+}
+
 #[test]
 fn counts_by_ordinals(rt: HostRuntime) -> Result<(), Fail> {
     let alloc = rt.alloc();
     let view = view_of(&rt, alloc, BOOKS)?;
     assert!(rt; view.size() == 18);
-    let config = config_of(alloc, "Publish Date")?;
-    let counts = counts_of(&rt, alloc, &view, &config, &[6, 6, 1])?;
+    let config = config_of(alloc, "Publish Date", flags_of(false, false))?;
+    let counts = counts_of(&rt, alloc, &view, &config, &[&[6], &[6], &[1]])?;
     for ord in 3..7 {
         assert!(rt; counts.at(ord) == 2);
     }
@@ -133,69 +210,112 @@ fn counts_by_ordinals(rt: HostRuntime) -> Result<(), Fail> {
 }
 
 #[test]
-fn lists_the_dates(rt: HostRuntime) -> Result<(), Fail> {
-    let alloc = rt.alloc();
-    let view = view_of(&rt, alloc, BOOKS)?;
-    let config = config_of(alloc, "Publish Date")?;
-    let dates = counts_of(&rt, alloc, &view, &config, &[6, 8, 11, 13, 17])?;
-    let all = lists(
-        alloc,
-        &dates,
-        "Publish Date",
-        10,
-        5,
-        &[("2010", 2), ("2012", 2), ("1999", 1)],
-    )?;
-    assert!(rt; all);
-    let two = lists(
-        alloc,
-        &dates,
-        "Publish Date",
-        2,
-        5,
-        &[("2010", 2), ("2012", 2)],
-    )?;
-    assert!(rt; two);
-    let none = dates.top(alloc, &path(alloc, "Publish Date/2010/10/15")?, 10)?;
-    assert!(rt; none.is_none());
+fn lists_the_books(rt: HostRuntime) -> Result<(), Fail> {
+    let dates = ("Publish Date", flags_of(false, false));
+    let days: &[&[u32]] = &[&[6], &[8], &[11], &[13], &[17]];
+    let date_tops: &[TopRow] = &[
+        (
+            "Publish Date",
+            10,
+            5,
+            &[("2010", 2), ("2012", 2), ("1999", 1)],
+        ),
+        ("Publish Date", 2, 5, &[("2010", 2), ("2012", 2)]),
+        ("Publish Date/2010/10/15", 10, 0, &[]),
+    ];
+    let by_date = gives(&rt, rt.alloc(), BOOKS, dates, days, &[], date_tops)?;
+    // A dimension that was not declared is not rolled up.
+    let authors: &[&[u32]] = &[&[2], &[7], &[7], &[12], &[14]];
+    let author_tops: &[TopRow] = &[
+        (
+            "Author",
+            10,
+            5,
+            &[("Lisa", 2), ("Bob", 1), ("Frank", 1), ("Susan", 1)],
+        ),
+        ("Place", 10, 0, &[]),
+    ];
+    let by_author = gives(&rt, rt.alloc(), BOOKS, dates, authors, &[], author_tops)?;
+    assert!(rt; by_date && by_author);
     Ok(())
 }
 
-#[test]
-fn lists_the_authors(rt: HostRuntime) -> Result<(), Fail> {
-    let alloc = rt.alloc();
-    let view = view_of(&rt, alloc, BOOKS)?;
-    assert!(rt; view.size() == 18);
-    let config = config_of(alloc, "Publish Date")?;
-    let authors = counts_of(&rt, alloc, &view, &config, &[2, 7, 7, 12, 14])?;
-    // A dimension that was not declared is not rolled up.
-    assert!(rt; authors.at(1) == 0);
-    let all = lists(
-        alloc,
-        &authors,
-        "Author",
-        10,
-        5,
-        &[("Lisa", 2), ("Bob", 1), ("Frank", 1), ("Susan", 1)],
-    )?;
-    assert!(rt; all);
-    let none = authors.top(alloc, &path(alloc, "Place")?, 10)?;
-    assert!(rt; none.is_none());
-    Ok(())
-}
+const PLACES: &[&str] = &["D", "D/a", "D/a/b"];
 
 // A document at the path itself counts for the path, and not in the value of its children.
 #[test]
 fn counts_at_the_path_itself(rt: HostRuntime) -> Result<(), Fail> {
+    let flags = ("D", flags_of(false, false));
+    let values: &[ValueRow] = &[
+        ("D/a", true, Some(2)),
+        ("D", true, Some(2)),
+        ("D/z", false, Some(-1)),
+    ];
+    let tops: &[TopRow] = &[("D/a", 10, 1, &[("b", 1)]), ("D", 10, 2, &[("a", 2)])];
+    let both = gives(&rt, rt.alloc(), PLACES, flags, &[&[2], &[3]], values, tops)?;
+    // Of the two the first alone is a hit.
+    let rest: &[ValueRow] = &[("D/a/b", true, Some(0)), ("D/a", true, Some(1))];
+    let first = gives(&rt, rt.alloc(), PLACES, flags, &[&[2]], rest, &[])?;
+    assert!(rt; both && first);
+    Ok(())
+}
+
+const TAGS: &[&str] = &["Tag", "Tag/a", "Tag/a/b", "Tag/a/c"];
+
+// A document with two labels below a path counts once for it.
+#[test]
+fn counts_two_labels_once(rt: HostRuntime) -> Result<(), Fail> {
+    let plain = ("Tag", flags_of(true, false));
+    let values: &[ValueRow] = &[("Tag/a", true, Some(1)), ("Tag", true, None)];
+    let tops: &[TopRow] = &[("Tag/a", 10, -1, &[("b", 1), ("c", 1)])];
+    let without = gives(&rt, rt.alloc(), TAGS, plain, &[&[2, 3, 4]], values, tops)?;
+    let counted = ("Tag", flags_of(true, true));
+    let values: &[ValueRow] = &[("Tag/a", true, Some(1)), ("Tag", true, Some(1))];
+    let tops: &[TopRow] = &[
+        ("Tag/a", 10, 1, &[("b", 1), ("c", 1)]),
+        ("Tag", 10, 1, &[("a", 1)]),
+    ];
+    let with = gives(
+        &rt,
+        rt.alloc(),
+        TAGS,
+        counted,
+        &[&[1, 2, 3, 4]],
+        values,
+        tops,
+    )?;
+    assert!(rt; without && with);
+    Ok(())
+}
+
+fn is_dim(top: &FacetResult, dim: &str, value: i64, child: (&str, u32)) -> bool {
+    top.path.dim() == dim && top.value == value && are_children(&top.children, &[child])
+}
+
+#[test]
+fn lists_all_dimensions(rt: HostRuntime) -> Result<(), Fail> {
     let alloc = rt.alloc();
-    let view = view_of(&rt, alloc, &["D", "D/a", "D/a/b"])?;
-    assert!(rt; view.size() == 4);
-    let config = config_of(alloc, "D")?;
-    let counts = counts_of(&rt, alloc, &view, &config, &[2, 3])?;
-    assert!(rt; counts.at(2) == 2);
-    let below = lists(alloc, &counts, "D/a", 10, 1, &[("b", 1)])?;
-    assert!(rt; below);
-    let all = lists(alloc, &counts, "D", 10, 2, &[("a", 2)])?;
+    let labels = &["A", "A/a", "T", "T/x", "Y", "Y/1", "A/b", "Z"];
+    let view = view_of(&rt, alloc, labels)?;
+    let config = config_of(alloc, "T", flags_of(true, false))?;
+    let counts = counts_of(&rt, alloc, &view, &config, &[&[2], &[6], &[7], &[6], &[4]])?;
+    let tops = counts.all_dims(alloc, 1)?;
+    let all = tops.len() == 3
+        && is_dim(&tops[0], "A", 2, ("a", 1))
+        && is_dim(&tops[1], "Y", 2, ("1", 2))
+        && is_dim(&tops[2], "T", -1, ("x", 1));
     assert!(rt; all);
+    Ok(())
+}
+
+#[test]
+fn asks_for_no_child(rt: HostRuntime) -> Result<(), Fail> {
+    let alloc = rt.alloc();
+    let config = config_of(alloc, "Tag", flags_of(true, false))?;
+    let path = path(alloc, "Tag")?;
+    let top = check_ask(&config, &Ask::Top { path, n: 0 });
+    let all = check_ask(&config, &Ask::AllDims { n: 0 });
+    assert!(rt; top == Err(AskFault::TopZero) && all == top);
+    assert!(rt; check_ask(&config, &Ask::AllDims { n: 1 }).is_ok());
     Ok(())
 }

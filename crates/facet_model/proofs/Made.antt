@@ -17,7 +17,7 @@ use Rattle.std.proofs.lemmas.Map.Text.{is_eq-slice_cmp}
 use Rattle.std.proofs.lemmas.List.{get_or-map, length-map}
 use Rattle.std.proofs.lemmas.List.Sums.{sum_by-cons}
 use Rattle.std.proofs.lemmas.List.Sorted.{IsPermutation-map, All-permutation, sum_by-IsPermutation}
-use Rattle.facet_model.specs.Listing.{Counted, IsListing, counted_child, listing_cmp}
+use Rattle.facet_model.specs.Listing.{PartCount, IsListing, counted_child, listing_cmp}
 use Rattle.facet_model.specs.Words.{word_cmp}
 use Rattle.facet_model.specs.declared.result.Child.{Child}
 use Rattle.facet_model.proofs.Unique.{times, times-cons, one_if}
@@ -26,14 +26,14 @@ abbrev at_word : List ℕ → List ℕ → Bool
 at_word q k = is_eq (slice_cmp nat_cmp q k)
 
 -- no later entry has the key of one that is below them
-none_later : (q k : List ℕ) (es : List Counted) → k ≡ q → AllByRecursion (λ y. word_cmp k y ≡ Less) (keys_of es) → times q es ≡ 0
+none_later : (q k : List ℕ) (es : List PartCount) → k ≡ q → AllByRecursion (λ y. word_cmp k y ≡ Less) (keys_of es) → times q es ≡ 0
 none_later q k [] same below = refl
 none_later q k (e ∷ es) same below =
     let order : slice_cmp nat_cmp q e.0 ≡ Less = rw (← same) below.0 in
     let apart : bytes_eq q e.0 ≡ false = sym (is_eq-slice_cmp q e.0) ∙ ap is_eq order in
     times-cons q e es ∙ rw (apart, none_later q k es same below.1) refl
 
-one_entry : (q : List ℕ) (e : Counted) (es : List Counted) (others : ℕ) (b : Bool) → bytes_eq q e.0 ≡ b → (b ≡ true → others ≡ 0) → (b ≡ false → others ≡ one_if (is_some (lookup (at_word q) es)))
+one_entry : (q : List ℕ) (e : PartCount) (es : List PartCount) (others : ℕ) (b : Bool) → bytes_eq q e.0 ≡ b → (b ≡ true → others ≡ 0) → (b ≡ false → others ≡ one_if (is_some (lookup (at_word q) es)))
     → one_if (bytes_eq q e.0) + others ≡ one_if (is_some (lookup (at_word q) (e ∷ es)))
 one_entry q e es others true h same differs =
     let t : at_word q e.0 ≡ true = is_eq-slice_cmp q e.0 ∙ h in
@@ -43,7 +43,7 @@ one_entry q e es others false h same differs =
     rw (h, t, differs refl) (omega arith)
 
 -- each key stands once
-count_at : (q : List ℕ) (es : List Counted) → IsStrictlySortedBy word_cmp (keys_of es) → times q es ≡ one_if (is_some (lookup (at_word q) es))
+count_at : (q : List ℕ) (es : List PartCount) → IsStrictlySortedBy word_cmp (keys_of es) → times q es ≡ one_if (is_some (lookup (at_word q) es))
 unfolding IsStrictlySortedBy
 count_at q [] s = refl
 count_at q (e ∷ es) s =
@@ -68,14 +68,14 @@ ordered_images (y ∷ ys) h = λ k d low high.
     rw (here, next) (h k y low long)
 
 -- the count of each entry is what a look-up of its key gives
-counts_at : (es : List Counted) (count_of : List ℕ → ℕ) → IsStrictlySortedBy word_cmp (keys_of es) → ((q : List ℕ) → unwrap_or (lookup (at_word q) es) 0 ≡ count_of q) → All (λ c. c.1 ≡ count_of c.0) es
+counts_at : (es : List PartCount) (count_of : List ℕ → ℕ) → IsStrictlySortedBy word_cmp (keys_of es) → ((q : List ℕ) → unwrap_or (lookup (at_word q) es) 0 ≡ count_of q) → All (λ c. c.1 ≡ count_of c.0) es
 counts_at es count_of s counts k d lt =
     let e = get_or es k d in
     let found : lookup (at_word e.0) es ≡ Some e.1 = lookup_from_place (eq_by_cmp_equiv nat_list_cmp_total) es k e.0 e.1 (IsDistinct-from_sorted word_cmp (keys_of es) s) (slice_get-get_or es k d lt) in
     sym (ap (λ o. unwrap_or o 0) found) ∙ counts e.0
 
 -- what is counted in a map, put into a list of children and sorted, is a listing
-pub listing_made : (es : List Counted) (xs ys : List Child) (count_of : List ℕ → ℕ) → IsStrictlySortedBy word_cmp (keys_of es)
+pub listing_made : (es : List PartCount) (xs ys : List Child) (count_of : List ℕ → ℕ) → IsStrictlySortedBy word_cmp (keys_of es)
     → ((q : List ℕ) → unwrap_or (lookup (at_word q) es) 0 ≡ count_of q) → ((q : List ℕ) → IfSome (lookup (at_word q) es) (λ n. 0 < n))
     → map counted_child xs ≡ es → IsPermutation xs ys → IsSorted child_cmp ys → IsListing count_of (map counted_child ys)
 listing_made es xs ys count_of s counts positive same moved sorted =
@@ -87,7 +87,7 @@ listing_made es xs ys count_of s counts positive same moved sorted =
     }
 
 -- one more of a key adds one to the sum
-pub one_more : (es new : List Counted) (k : List ℕ) (n : ℕ) → IsStrictlySortedBy word_cmp (keys_of es) → n ≡ unwrap_or (lookup (at_word k) es) 0 + 1
+pub one_more : (es new : List PartCount) (k : List ℕ) (n : ℕ) → IsStrictlySortedBy word_cmp (keys_of es) → n ≡ unwrap_or (lookup (at_word k) es) 0 + 1
     → new ≡ insert_entry word_cmp es k n → sum_by (λ n. n) (values_of new) ≡ sum_by (λ n. n) (values_of es) + 1
 one_more es new k n s next made =
     let whole = sum_by-insert_entry (λ n. n) nat_list_cmp_total es k n s in
@@ -99,10 +99,10 @@ one_more es new k n s next made =
     plain (Some n) = refl
 
 -- the sum of the children's counts
-pub total_made : (es : List Counted) (xs ys : List Child) (n : ℕ) → sum_by (λ n. n) (values_of es) ≡ n → map counted_child xs ≡ es → IsPermutation xs ys → sum_by (λ c. c.1) (map counted_child ys) ≡ n
+pub total_made : (es : List PartCount) (xs ys : List Child) (n : ℕ) → sum_by (λ n. n) (values_of es) ≡ n → map counted_child xs ≡ es → IsPermutation xs ys → sum_by (λ c. c.1) (map counted_child ys) ≡ n
 total_made es xs ys n total same moved =
-    sum_by-IsPermutation (λ c. c.1) (map counted_child xs) (map counted_child ys) (IsPermutation-map counted_child xs ys moved) ∙ ap (sum_by (λ (c : Counted). c.1)) same ∙ entries es ∙ total
+    sum_by-IsPermutation (λ c. c.1) (map counted_child xs) (map counted_child ys) (IsPermutation-map counted_child xs ys moved) ∙ ap (sum_by (λ (c : PartCount). c.1)) same ∙ entries es ∙ total
   where
-    entries : (es : List Counted) → sum_by (λ (c : Counted). c.1) es ≡ sum_by (λ n. n) (values_of es)
+    entries : (es : List PartCount) → sum_by (λ (c : PartCount). c.1) es ≡ sum_by (λ n. n) (values_of es)
     entries [] = refl
-    entries (e ∷ es) = sum_by-cons (λ (c : Counted). c.1) e es ∙ ap (λ n. e.1 + n) (entries es) ∙ sym (sum_by-cons (λ n. n) e.1 (values_of es))
+    entries (e ∷ es) = sum_by-cons (λ (c : PartCount). c.1) e es ∙ ap (λ n. e.1 + n) (entries es) ∙ sym (sum_by-cons (λ n. n) e.1 (values_of es))

@@ -2,12 +2,12 @@
 use Rattle.std.specs.Prelude.{◌≡◌, ℕ, List, Option}
 use Rattle.facet_model.specs.Documents.{Doc}
 use Rattle.facet_model.specs.Flags.{Config}
-use Rattle.facet_model.specs.Listing.{Counted, IsListing}
+use Rattle.facet_model.specs.Listing.{PartCount, IsListing}
 use Rattle.facet_model.specs.Results.{Listed, IsTop}
 
 -- two listings of one count of components are equal
 abbrev pub OneListing : Type 0
-OneListing = (count_of : List ℕ → ℕ) (xs ys : List Counted) → IsListing count_of xs → IsListing count_of ys → xs ≡ ys
+OneListing = (count_of : List ℕ → ℕ) (xs ys : List PartCount) → IsListing count_of xs → IsListing count_of ys → xs ≡ ys
 
 -- two results of one path are equal
 abbrev pub OneTop : Type 0

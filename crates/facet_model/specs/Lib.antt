@@ -13,3 +13,9 @@ pub mod Shapes
 pub mod Histories
 pub mod Core
 pub mod CoreStates
+pub mod CountedPaths
+pub mod Queries
+pub mod QueryViews
+pub mod Hits
+pub mod Terms
+pub mod Stored

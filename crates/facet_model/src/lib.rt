@@ -2,19 +2,27 @@
 #![tactic(auto)]
 
 mod ask;
+mod counted;
 mod document;
+mod drill;
 mod flags;
 mod laws;
 mod plain;
+mod query;
 mod result;
 #[cfg(test)]
 mod tests;
 mod word;
+mod word_list;
 
 pub use ask::Ask;
+pub use counted::{Counted, Resolved};
 pub use document::{DocShape, Document};
+pub use drill::Drill;
 pub use flags::DimFlags;
 pub use laws::{one_listing, one_top};
 pub use plain::plain_top;
-pub use result::{Child, FacetResult};
+pub use query::Query;
+pub use result::{Child, FacetAnswer, FacetResult};
 pub use word::Word;
+pub use word_list::{WordList, words};

@@ -55,3 +55,14 @@ pub struct FacetResult {
     /// The number of all children with a document.
     pub child_count: u32,
 }
+
+/// The answer to one ask.
+#[derive(Debug, Drop)]
+pub enum FacetAnswer {
+    /// None where no child has a document.
+    Top(Option<FacetResult>),
+    /// The number of documents that have the path, and -1 where no document of the whole snapshot has it.
+    Specific { path: Path, value: i64 },
+    /// The results of the dimensions that have one, by value falling, ties by the dimension's bytes rising.
+    AllDims(Vec<FacetResult>),
+}

@@ -1,4 +1,4 @@
-use crate::{Ask, DimFlags, DocShape, Document, FacetResult, Word, plain_top};
+use crate::{Ask, DimFlags, DocShape, Document, FacetResult, Query, Word, plain_top, words};
 use facet_names::{Path, PathFault};
 use std::alloc::Global;
 use std::test::Fail;
@@ -91,8 +91,10 @@ fn documents(rt: HostRuntime) -> Result<(), Fail> {
     assert_eq!(rt; copy.text(), "");
     assert_eq!(rt; copy.facets(), doc.facets());
     assert!(rt; copy.has(&author));
-    let Ask::Top { path, n } = (Ask::Top { path: author, n: 3 });
-    assert_eq!(rt; (path.part(0), n), ("Author", 3));
+    let ask = Ask::Top { path: author, n: 3 };
+    if let Ask::Top { path, n } = ask {
+        assert_eq!(rt; (path.part(0), n), ("Author", 3));
+    }
     Ok(())
 }
 
@@ -120,5 +122,29 @@ fn shapes(rt: HostRuntime) -> Result<(), Fail> {
     assert_eq!(rt; word.dup(alloc)?.text(), "Wörter");
     assert_eq!(rt; Word::new(alloc, "")?, None);
     assert_eq!(rt; Word::new(alloc, long_text.as_str())?, None);
+    Ok(())
+}
+
+#[test]
+fn word_lists_and_queries(rt: HostRuntime) -> Result<(), Fail> {
+    let alloc = rt.alloc();
+    let list = words(alloc, "\tÄ  Rust\r\nin\u{b}RUST\n")?;
+    let expected = ["Ä", "rust", "in\u{b}rust"];
+    assert_eq!(rt; list.len(), 3);
+    for (at, word) in expected.iter().enumerate() {
+        if at < list.len() {
+            assert_eq!(rt; list.at(at), *word);
+        }
+    }
+    assert_eq!(rt; words(alloc, " \t")?.len(), 0);
+    let term = Query::Term(Word::new(alloc, "rust")?.ok_or("no word")?);
+    let query = Query::Bool {
+        must: vec![in alloc; term]?,
+        should: vec![in alloc; Query::All]?,
+        must_not: Vec::new(alloc),
+    };
+    let shown = format!(in alloc; "{query:?}")?;
+    let copy = format!(in alloc; "{:?}", query.dup(alloc)?)?;
+    assert_eq!(rt; copy.as_str(), shown.as_str());
     Ok(())
 }

@@ -1,2 +1,4 @@
+pub mod LabelLists
 pub mod Parts
+pub mod TermTexts
 mod Rows

@@ -8,7 +8,7 @@ use Rattle.std.specs.Prelude.{◌&&◌, ◌==◌, nat_lt, nat_le, Option, Some, 
 use Rattle.std.specs.List.{flat_map}
 use Rattle.std.specs.Hash.{slice, str, usize}
 use Rattle.std.proofs.Common.{◌++◌}
-use Rattle.std.proofs.lemmas.List.{length-map, length-take-le, take-map, get_or-map}
+use Rattle.std.proofs.lemmas.List.{length-map, length-take-le, take-map, get_or-map, map-append, take_more}
 use Rattle.std.proofs.lemmas.Option.{slice_get-get_or}
 use Rattle.std.specs.List.{starts_with}
 use Rattle.std.specs.String.{string_eq}
@@ -43,7 +43,7 @@ hash_images parts = λ i. usize (sym (length-map parts string_bytes) i) ++ image
 
 -- ---- a front of a path
 
-no_fault : (at : ℕ) (p : List ℕ) (rest : Option PathFault) → cond (length p == 0) (Some (EmptyPart at)) (cond (nat_lt 1024 (length p)) (Some (PartTooLong at (length p))) rest) ≡ None
+pub no_fault : (at : ℕ) (p : List ℕ) (rest : Option PathFault) → cond (length p == 0) (Some (EmptyPart at)) (cond (nat_lt 1024 (length p)) (Some (PartTooLong at (length p))) rest) ≡ None
     → (rest ≡ None) × (length p == 0 ≡ false) × (nat_lt 1024 (length p) ≡ false)
 no_fault at p rest e = by (length p == 0) (nat_lt 1024 (length p)) e
   where
@@ -59,7 +59,7 @@ part_fault_front (suc n) at (p ∷ ps) e =
     let parts = no_fault at p (part_fault (at + 1) ps) e in
     rw (parts.1, parts.2) (part_fault_front n (at + 1) ps parts.0)
 
-part_of_path : (ps : List (List ℕ)) → IsPath ps → (part_fault 0 ps ≡ None) × (nat_lt 32 (length ps) ≡ false)
+pub part_of_path : (ps : List (List ℕ)) → IsPath ps → (part_fault 0 ps ≡ None) × (nat_lt 32 (length ps) ≡ false)
 part_of_path ps fits = by (length ps == 0) (nat_lt 32 (length ps)) fits
   where
     by : (a b : Bool) → cond a (Some NoPart) (cond b (Some (TooManyParts (length ps))) (part_fault 0 ps)) ≡ None → (part_fault 0 ps ≡ None) × (b ≡ false)
@@ -96,6 +96,13 @@ pub under_images : (xs ys : List (String Global)) → starts_with string_eq xs y
 under_images xs ys =
     pointwise_images (pointwise nat_eq) string_bytes ys (take (length ys) xs)
     ∙ ap (λ t. path_eq (map string_bytes ys) t) (sym (take-map string_bytes (length ys) xs) ∙ ap (λ n. take n (map string_bytes xs)) (sym (length-map ys string_bytes)))
+
+-- one text more
+pub texts_more : (xs : List (String Global)) (n : ℕ) (s : String Global) → n < length xs → s ≡ get_or xs n s → texts (take (n + 1) xs) ≡ texts (take n xs) ++ string_bytes s ∷ []
+texts_more xs n s within is = ap texts (take_more xs n s within ∙ ap (λ t. take n xs ++ t ∷ []) (sym is)) ∙ map-append string_bytes (take n xs) (s ∷ [])
+
+pub length_texts : (n : ℕ) (xs : List (String Global)) → n ≤ length xs → length (texts (take n xs)) ≡ n
+length_texts n xs within = length-map (take n xs) string_bytes ∙ length-take-le n xs within
 
 -- ---- the parts of a path have 1 to 1,024 bytes
 

@@ -1,8 +1,10 @@
-ghost use Rattle.std.specs.Prelude.{◌≡◌, ◌≢◌, ◌<◌, ◌≤◌, ◌++◌, [], ◌∷◌, Some, None, length, slice_get, IfOk, IfErr, IsOk, take};
+ghost use Rattle.std.specs.Prelude.{◌≡◌, ◌≢◌, ◌<◌, ◌≤◌, ◌++◌, [], ◌∷◌, Some, None, length, slice_get, IfOk, IfErr, IsOk, take, List, ℕ, MatchOption, string_bytes};
 ghost use Rattle.facet_names.specs.Paths.{texts, is_under, parent_of};
 ghost use Rattle.facet_names.specs.Faults.{IsPath, path_fault, part_fault};
+ghost use Rattle.facet_names.specs.Terms.{term_text, IsTermText};
 
 use crate::fault::{NoMemory, PathFault};
+use crate::term::{joined, split};
 use std::alloc::Global;
 use std::cmp::Ordering;
 use std::hash::{Hash, Hasher};
@@ -153,6 +155,28 @@ impl Path {
         ensures { result ≡ is_under self.now other.now }
     {
         self.parts.starts_with(&other.parts)
+    }
+
+    /// The path's drill-down term: the components with U+001F between them, and a U+001E before each U+001E or U+001F inside one. As Lucene's
+    /// `FacetsConfig.pathToString`. It has at most 65,567 bytes.
+    pub fn term_text(&self, alloc: Global) -> Result<String, NoMemory>
+        ensures { IfOk result (λ text. string_bytes text ≡ term_text self.now) }
+    {
+        joined(alloc, &self.parts)
+    }
+
+    /// The path whose term text this is; None where it is that of no path. It takes memory for the components, and time by the text's length.
+    pub fn from_term_text(alloc: Global, text: &str) -> Result<Option<Path>, NoMemory>
+        ensures { IfOk result
+            (λ o. MatchOption o ((path : List (List ℕ)) → ¬ IsTermText text.now path) (λ path. IsTermText text.now path)) }
+    {
+        let Some(parts) = split(alloc, text)? else {
+            return Ok(None);
+        };
+        match check(&parts) {
+            Ok(()) => Ok(Some(Path { parts })),
+            Err(_) => Ok(None),
+        }
     }
 
     /// An equal path with memory of its own.

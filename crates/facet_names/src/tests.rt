@@ -94,3 +94,26 @@ fn order_and_hash(rt: HostRuntime) -> Result<(), Fail> {
     }
     Ok(())
 }
+
+#[test]
+fn term_texts(rt: HostRuntime) -> Result<(), Fail> {
+    let alloc = rt.alloc();
+    let rows: [(&[&str], &str); 4] = [
+        (
+            &["A", "x\u{1f}y\u{1e}z"],
+            "A\u{1f}x\u{1e}\u{1f}y\u{1e}\u{1e}z",
+        ),
+        (&["A", "x", "y"], "A\u{1f}x\u{1f}y"),
+        (&["A", "x\u{1f}y"], "A\u{1f}x\u{1e}\u{1f}y"),
+        (&["é"], "é"),
+    ];
+    for (parts, text) in rows {
+        let path = path(alloc, parts)?;
+        assert_eq!(rt; path.term_text(alloc)?.as_str(), text);
+        assert_eq!(rt; Path::from_term_text(alloc, text)?, Some(path));
+    }
+    for text in ["A\u{1e}", "\u{1e}A", "A\u{1f}", ""] {
+        assert_eq!(rt; Path::from_term_text(alloc, text)?, None);
+    }
+    Ok(())
+}

@@ -1,2 +1,5 @@
+pub mod Grown
+pub mod Ordinals
+pub mod Entered
 pub mod Replies
-mod Grown
+pub mod Searched

@@ -1,22 +1,15 @@
 -- Replies, made order by order.
 use Rattle.std.proofs.Common.{◌≡◌, ◌+◌, ◌<◌, ℕ, Bool, true, false, List, [], ◌∷◌, ◌++◌, map, take, drop, get_or, length, Option, Some, None, option_map, if◌then◌else◌, refl, sym, ap, ◌∙◌, subst, append_assoc, arith, add-one}
 use Rattle.std.specs.Prelude.{slice_get, filter_map}
-use Rattle.std.proofs.Math.Seq.{drop-cons}
 use Rattle.std.proofs.lemmas.List.{append-nil, map_push, take_more, length-map, get_or-map}
 use Rattle.std.specs.List.{AllZip, enumerate_from, cons_option}
-use Rattle.facet_model.specs.Asks.{Asked, ask_fault, top_of_none}
-use Rattle.facet_model.specs.AskViews.{ask_view}
-use Rattle.facet_model.specs.Documents.{Doc}
-use Rattle.facet_model.specs.Flags.{Config}
-use Rattle.facet_model.specs.declared.ask.Ask.{Ask}
-use Rattle.facet_words.specs.Answers.{Shelf, empty_shelf, IsAnswer, RightReply, RightReplies}
+use Rattle.facet_words.specs.Answers.{Shelf, empty_shelf, RightReply, RightReplies}
 use Rattle.facet_words.specs.CommandViews.{command_view, order_view}
 use Rattle.facet_words.specs.Commands.{Order, Settings}
-use Rattle.facet_words.specs.ReplyViews.{answer_view, reply_view}
+use Rattle.facet_words.specs.ReplyViews.{reply_view}
 use Rattle.facet_words.specs.declared.command.Order as read
-use Rattle.facet_words.specs.declared.reply.FacetAnswer.{FacetAnswer}
 use Rattle.facet_words.specs.declared.reply.Reply as written
-use Rattle.facet_words.specs.Replies.{Refusal, Reply, top_zero}
+use Rattle.facet_words.specs.Replies.{Reply}
 use Rattle.facet_words.specs.ReplyLines.{reply_line, reply_lines}
 
 pub all_zip_push : {A B : Type 0} (R : A → B → Type 0) (xs : List A) (ys : List B) (x : A) (y : B) → AllZip R xs ys → R x y → AllZip R (xs ++ x ∷ []) (ys ++ y ∷ [])
@@ -57,34 +50,8 @@ replies_end settings done shelf bytes part = (
   sym (append-nil bytes) ∙ sym (part.lines [] []) ∙ ap (λ (os : List Order). reply_lines os (part.replies ++ [])) (append-nil done) ∙ ap (λ (rs : List Reply). reply_lines done rs) (append-nil part.replies),
 )
 
--- one ask more is answered
-pub answers_go_on : (config : Config) (docs : List Doc) (asks : List Ask) (found now : List FacetAnswer) (i : ℕ) (ask d : Ask) (one : FacetAnswer) → i < length asks → ask ≡ get_or asks i d → now ≡ found ++ one ∷ []
-    → AllZip (IsAnswer config docs) (map ask_view (take i asks)) (map answer_view found) → IsAnswer config docs (ask_view ask) (answer_view one) → AllZip (IsAnswer config docs) (map ask_view (take (i + 1) asks)) (map answer_view now)
-answers_go_on config docs asks found now i ask d one lt is pushed before here =
-    rw (pushed, map_push answer_view found one, take_more asks i d lt, ← is, map_push ask_view (take i asks) ask) (all_zip_push (IsAnswer config docs) (map ask_view (take i asks)) (map answer_view found) (ask_view ask) (answer_view one) before here)
-
 -- one order more is replied to
 pub replied : (settings : Settings) (done : List read.Order) (order : read.Order) (shelf next : Shelf) (bytes now : List ℕ) (reply : written.Reply) → AreRepliesTo settings (map order_view done) shelf bytes
     → RightReply settings shelf (command_view order.command) (reply_view reply) next → now ≡ bytes ++ reply_line order.session order.line (reply_view reply) → AreRepliesTo settings (map order_view (done ++ order ∷ [])) next now
 replied settings done order shelf next bytes now reply before here written =
     rw (written, map_push order_view done order) (replies_go_on settings (map order_view done) shelf next bytes (order_view order) (reply_view reply) before here)
-
--- the refusal of an ask with its place
-abbrev refusal_at : ℕ × Asked → Option Refusal
-refusal_at e = option_map (λ f. top_zero e.0) (ask_fault e.1)
-
--- the first refusal of the asks from a place on
-pub refusal_from : (asks : List Ask) (i : ℕ) (ask : Ask) (b : Bool) → i < length asks → get_or asks i ask ≡ ask → ask_fault (ask_view ask) ≡ (if b then Some top_of_none else None)
-    → slice_get (filter_map (λ e. option_map (λ f. top_zero e.0) (ask_fault e.1)) (enumerate_from i (drop i (map ask_view asks)))) 0
-    ≡ (if b then Some (top_zero i) else slice_get (filter_map (λ e. option_map (λ f. top_zero e.0) (ask_fault e.1)) (enumerate_from (i + 1) (drop (i + 1) (map ask_view asks)))) 0)
-refusal_from asks i ask b lt at fault =
-    let step : drop i (map ask_view asks) ≡ ask_view ask ∷ drop (i + 1) (map ask_view asks) =
-    rw (add-one) (drop-cons (map ask_view asks) i (ask_view ask) (omega (arith, lt, length-map asks ask_view))) ∙ ap (λ a. a ∷ drop (i + 1) (map ask_view asks)) (get_or-map ask_view asks i ask (ask_view ask) lt ∙ ap ask_view at) in
-    ap (λ l. slice_get (filter_map refusal_at (enumerate_from i l)) 0) step ∙ by b fault
-  where
-    rest : List Refusal
-    rest = filter_map refusal_at (enumerate_from (i + 1) (drop (i + 1) (map ask_view asks)))
-
-    by : (b : Bool) → ask_fault (ask_view ask) ≡ (if b then Some top_of_none else None) → slice_get (cons_option (refusal_at (i, ask_view ask)) rest) 0 ≡ (if b then Some (top_zero i) else slice_get rest 0)
-    by true fault = ap (λ o. slice_get (cons_option (option_map (λ f. top_zero i) o) rest) 0) fault
-    by false fault = ap (λ o. slice_get (cons_option (option_map (λ f. top_zero i) o) rest) 0) fault

@@ -1,3 +1,5 @@
+pub mod Entries
+pub mod Kept
 pub mod Growing
 pub mod Sessions
 pub mod Statuses

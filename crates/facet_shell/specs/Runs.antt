@@ -1,10 +1,11 @@
 -- What a run reads and writes, and how it ends.
-use Rattle.std.specs.Prelude.{◌≡◌, ◌≤◌, ◌+◌, ◌⊎◌, ℕ, nat_lt, if◌then◌else◌, List, length, take, Option, Some, None, is_some}
+use Rattle.std.specs.Prelude.{◌≡◌, ◌≤◌, ◌+◌, ◌⊎◌, ℕ, nat_lt, if◌then◌else◌, List, length, take, Option, Err, is_ok}
 use Rattle.std.specs.Io.KnownBytes.{Appends, Consumes, IsAtEnd}
-use Rattle.std.specs.Global.{Vec}
 use Rattle.facet_io.specs.Faults.{Rose}
 use Rattle.facet_words.specs.Answers.{Outputs}
+use Rattle.facet_words.specs.ReplyLines.{fault_line}
 use Rattle.facet_words.specs.Scripts.{script}
+use Rattle.facet_words.specs.declared.fault.ScriptFault.{ScriptFault}
 use Rattle.facet_shell.specs.declared.status.Status.{Status}
 use Rattle.facet_shell.specs.declared.status.Status.TheVariants.{Done, BadScript, TooLong}
 
@@ -26,9 +27,14 @@ ReadsSome before now = (input : List ℕ) × (length input ≤ script_limit + 1)
 abbrev pub ReadsTooMuch : Option (List ℕ) → Option (List ℕ) → Type 0
 ReadsTooMuch before now = (input : List ℕ) × (length input ≡ script_limit + 1) × Consumes before now input
 
--- what was read is no script
-abbrev pub ReadsNoScript : Option (List ℕ) → Option (List ℕ) → Type 0
-ReadsNoScript before now = (input : List ℕ) × ReadsWhole before now input × (script input ≡ None)
+-- the line was written, or where a count of faults rose a prefix of it
+abbrev pub WritesLine : ℕ → ℕ → Option (List ℕ) → Option (List ℕ) → List ℕ → Type 0
+WritesLine faults_before faults_now before now line = Appends before now line ⊎ (Rose faults_before faults_now × ((n : ℕ) × Appends before now (take n line)))
+
+-- what was read is no script, and the line of its first fault was written, or where a count of faults rose a prefix of it
+abbrev pub TellsOfScript : Option (List ℕ) → Option (List ℕ) → ℕ → ℕ → Option (List ℕ) → Option (List ℕ) → Type 0
+TellsOfScript left_before left_now faults_before faults_now written_before written_now =
+    (input : List ℕ) × (fault : ScriptFault) × ReadsWhole left_before left_now input × (script input ≡ Err fault) × WritesLine faults_before faults_now written_before written_now (fault_line fault)
 
 -- what was read is a script, and its output was written
 abbrev pub Answers : Option (List ℕ) → Option (List ℕ) → Option (List ℕ) → Option (List ℕ) → Type 0
@@ -40,15 +46,6 @@ abbrev pub AnswersPartly : Option (List ℕ) → Option (List ℕ) → Option (L
 AnswersPartly left_before left_now written_before written_now =
     (input : List ℕ) × (bytes : List ℕ) × ReadsWhole left_before left_now input × Outputs input bytes × ((n : ℕ) × Appends written_before written_now (take n bytes))
 
--- the line was written, or where a count of faults rose a prefix of it
-abbrev pub WritesLine : ℕ → ℕ → Option (List ℕ) → Option (List ℕ) → List ℕ → Type 0
-WritesLine faults_before faults_now before now line = Appends before now line ⊎ (Rose faults_before faults_now × ((n : ℕ) × Appends before now (take n line)))
-
 -- how a run over these bytes ends where nothing fails and there is memory
 abbrev pub expected : List ℕ → Status
-expected input = if nat_lt script_limit (length input) then TooLong else (if is_some (script input) then Done else BadScript)
-
--- the output of an input that is a script, and None for one that is none
-abbrev pub IsOutput : List ℕ → Option (Vec ℕ) → Type 0
-IsOutput input None = script input ≡ None
-IsOutput input (Some v) = Outputs input v.items
+expected input = if nat_lt script_limit (length input) then TooLong else (if is_ok (script input) then Done else BadScript)

@@ -13,12 +13,12 @@ exit_code BadScript = 5
 exit_code NoMemory = 8
 exit_code TooLong = 9
 
--- the line that tells of a fault, if it has one
-abbrev pub fault_line : Status → List ℕ
-fault_line Done = []
-fault_line WriteFault = []
-fault_line BadWords = codes "{\"fault\":\"bad_words\"}" ++ 10 ∷ []
-fault_line ReadFault = codes "{\"fault\":\"read_fault\"}" ++ 10 ∷ []
-fault_line BadScript = codes "{\"fault\":\"bad_script\"}" ++ 10 ∷ []
-fault_line NoMemory = codes "{\"fault\":\"no_memory\"}" ++ 10 ∷ []
-fault_line TooLong = codes "{\"fault\":\"too_long\"}" ++ 10 ∷ []
+-- the line that tells of a fault; none at an end without one, nor where the line names more than the status
+abbrev pub status_line : Status → List ℕ
+status_line Done = []
+status_line WriteFault = []
+status_line BadScript = []
+status_line BadWords = codes "{\"fault\":\"bad_words\"}" ++ 10 ∷ []
+status_line ReadFault = codes "{\"fault\":\"read_fault\"}" ++ 10 ∷ []
+status_line NoMemory = codes "{\"fault\":\"no_memory\"}" ++ 10 ∷ []
+status_line TooLong = codes "{\"fault\":\"too_long\"}" ++ 10 ∷ []

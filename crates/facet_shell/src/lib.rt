@@ -2,6 +2,7 @@
 #![tactic(auto)]
 
 mod adding;
+mod entry;
 mod labels;
 mod program;
 mod searching;
@@ -11,5 +12,7 @@ mod status;
 pub use program::run;
 pub use status::{Ended, Status};
 
+#[cfg(test)]
+mod rows;
 #[cfg(test)]
 mod tests;

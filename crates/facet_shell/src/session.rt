@@ -1,4 +1,4 @@
-ghost use Rattle.std.specs.Prelude.{◌≡◌, ◌<◌, ◌≤◌, ◌+◌, ℕ, IfOk, length, map};
+ghost use Rattle.std.specs.Prelude.{◌≡◌, ℕ, List, IfOk, length, map};
 ghost use Rattle.facet_model.specs.AskViews.{ask_view};
 ghost use Rattle.facet_words.specs.Answers.{RightReply, empty_shelf};
 ghost use Rattle.facet_words.specs.CommandViews.{command_view, settings_view};
@@ -7,34 +7,38 @@ ghost use Rattle.facet_words.specs.ReplyViews.{reply_view};
 ghost use Rattle.facet_shell.specs.Sessions.{AreReplies};
 
 use crate::adding::add;
+use crate::entry::Entry;
 use crate::searching::search;
 use facet_model::{Ask, Document};
 use facet_names::NoMemory;
 use facet_words::{Command, Order, Refusal, Reply, Settings, write_reply};
 use std::alloc::Global;
 use std::marker::Model;
-use taxo_list::Taxonomy;
+use taxo_list::{TaxoView, Taxonomy};
 
-/// What the orders of one session work on: the settings, the labels, the documents, and how many of them the last refresh took.
+/// What the orders of one session work on: the settings, the labels, the documents, how many of them the last refresh took, and the labels as
+/// they stood then.
 #[derive(Drop)]
 pub struct Session {
     alloc: Global,
     settings: Settings,
     labels: Taxonomy,
-    docs: Vec<Document>,
+    entries: Vec<Entry>,
+    view: TaxoView,
     taken: usize,
 }
 
 impl Model for Session {
-    ghost use Rattle.std.specs.Prelude.{◌≤◌, length, vec_len};
     ghost use Rattle.facet_words.specs.CommandViews.{settings_view};
+    ghost use Rattle.facet_shell.specs.Entries.{docs_of};
+    ghost use Rattle.facet_shell.specs.Kept.{IsKept};
     ghost use Rattle.facet_shell.specs.Sessions.{State};
 
     ghost Value = { State };
 
-    ghost view = { λ s. record { settings = settings_view s.settings; shelf = record { labels = s.labels; docs = s.docs.items; taken = s.taken } } };
+    ghost view = { λ s. record { settings = settings_view s.settings; shelf = record { labels = s.labels; docs = docs_of s.entries.items; taken = s.taken } } };
 
-    ghost invariant = { λ s. (s.taken ≤ vec_len s.docs) × (length s.labels ≤ s.settings.max_labels) };
+    ghost invariant = { λ s. IsKept s.settings.config s.settings.max_docs s.settings.max_labels s.labels s.view s.entries.items s.taken };
 }
 
 impl Session {
@@ -43,11 +47,13 @@ impl Session {
         ensures { IfOk result (λ s. s ≡ record { settings = settings_view settings; shelf = empty_shelf }) }
     {
         let labels = Taxonomy::new(alloc)?;
+        let view = labels.view()?;
         Ok(Session {
             alloc,
             settings,
             labels,
-            docs: Vec::new(alloc),
+            entries: Vec::new(alloc),
+            view,
             taken: 0,
         })
     }
@@ -55,13 +61,12 @@ impl Session {
     fn add(&mut self, doc: Document) -> Reply
         ensures right { RightReply self.old.settings self.old.shelf (add_command doc) (reply_view result) self.new.shelf }
         ensures same { self.new.settings ≡ self.old.settings }
-        ensures more { length self.new.shelf.docs ≤ length self.old.shelf.docs + 1 }
     {
         add(
             self.alloc,
             &self.settings,
             &mut self.labels,
-            &mut self.docs,
+            &mut self.entries,
             doc,
         )
     }
@@ -69,25 +74,31 @@ impl Session {
     fn refresh(&mut self) -> Reply
         ensures right { RightReply self.old.settings self.old.shelf refresh_command (reply_view result) self.new.shelf }
         ensures same { self.new.settings ≡ self.old.settings }
-        ensures more { length self.new.shelf.docs ≤ length self.old.shelf.docs + 1 }
     {
-        self.taken = self.docs.len();
-        Reply::Number {
-            n: self.taken as u64,
+        match self.labels.view() {
+            Ok(view) => {
+                self.view = view;
+                self.taken = self.entries.len();
+                Reply::Number {
+                    n: self.taken as u64,
+                }
+            }
+            Err(NoMemory) => Reply::Refused(Refusal::NoMemory),
         }
     }
 
-    fn search(&self, asks: &[Ask]) -> Reply
-        requires few { length self.now.shelf.docs < 10000 }
-        ensures right { RightReply self.now.settings self.now.shelf (search_command (record { asks = map ask_view asks.now })) (reply_view result) self.now.shelf }
+    fn search(&self, asks: &[Ask], hits: u32) -> Reply
+        ensures right { RightReply self.now.settings self.now.shelf (search_command (record { asks = map ask_view asks.now; hits = hits })) (reply_view result) self.now.shelf }
     {
-        let (taken, _) = self.docs.split_at(self.taken);
+        let (taken, _) = self.entries.split_at(self.taken);
         match search(
             self.alloc,
             &self.settings.config,
+            &self.view,
             self.taken as u64,
             taken,
             asks,
+            hits,
         ) {
             Ok(reply) => reply,
             Err(NoMemory) => Reply::Refused(Refusal::NoMemory),
@@ -96,23 +107,20 @@ impl Session {
 
     /// Carries out a command, and answers it.
     pub fn step(&mut self, command: Command) -> Reply
-        requires few { length self.old.shelf.docs < 10000 }
         ensures right { RightReply self.old.settings self.old.shelf (command_view command) (reply_view result) self.new.shelf }
         ensures same { self.new.settings ≡ self.old.settings }
-        ensures more { length self.new.shelf.docs ≤ length self.old.shelf.docs + 1 }
     {
         match command {
             Command::Add { doc } => self.add(doc),
             Command::Refresh => self.refresh(),
-            Command::Search { asks } => self.search(&asks),
+            Command::Search { asks, hits } => self.search(&asks, hits),
         }
     }
 }
 
 #[tactic(auto, using(crate::proofs::Replies::replied, crate::proofs::Replies::replies_start, crate::proofs::Replies::replies_end))]
 fn reply_each(alloc: Global, session: &mut Session, orders: Vec<Order>) -> Result<Vec<u8>, NoMemory>
-    requires few { length orders.items < 10000 }
-    requires start { session.old.shelf ≡ empty_shelf }
+    requires { session.old.shelf ≡ empty_shelf }
     ensures { IfOk result (λ v. AreReplies session.old.settings orders.items v.items) }
 {
     let mut out = Vec::new(alloc);
@@ -134,7 +142,6 @@ pub fn reply_to_all(
     settings: Settings,
     orders: Vec<Order>,
 ) -> Result<Vec<u8>, NoMemory>
-    requires { length orders.items < 10000 }
     ensures { IfOk result (λ v. AreReplies (settings_view settings) orders.items v.items) }
 {
     let mut session = Session::new(alloc, settings)?;

@@ -1,5 +1,5 @@
 ghost use Rattle.std.specs.Prelude.{◌≡◌};
-ghost use Rattle.facet_shell.specs.Statuses.{exit_code, fault_line};
+ghost use Rattle.facet_shell.specs.Statuses.{exit_code, status_line};
 
 /// How a run ended.
 #[derive(Clone, Copy, Debug, PartialEq, Eq)]
@@ -36,16 +36,16 @@ impl Status {
         }
     }
 
-    /// The line that tells of a fault; empty at Done and at WriteFault.
+    /// The line that tells of a fault; empty at Done, at WriteFault, and at BadScript, whose line names the line of the script.
     pub fn line(self) -> &'static [u8]
-        ensures { result.now ≡ fault_line self }
+        ensures { result.now ≡ status_line self }
     {
         match self {
             Status::Done => b"",
             Status::BadWords => b"{\"fault\":\"bad_words\"}\n",
             Status::ReadFault => b"{\"fault\":\"read_fault\"}\n",
             Status::WriteFault => b"",
-            Status::BadScript => b"{\"fault\":\"bad_script\"}\n",
+            Status::BadScript => b"",
             Status::NoMemory => b"{\"fault\":\"no_memory\"}\n",
             Status::TooLong => b"{\"fault\":\"too_long\"}\n",
         }

@@ -1,15 +1,15 @@
 -- Which replies of one session are right, and which bytes are a script's output.
-use Rattle.std.specs.Prelude.{◌≡◌, ◌≤◌, ◌⊎◌, ℕ, nat_lt, if◌then◌else◌, List, [], ◌∷◌, ◌++◌, length, take, filter_map, flat_map, fold, slice_get, Option, Some, None, option_map}
+use Rattle.std.specs.Prelude.{◌≡◌, ◌≤◌, ◌⊎◌, ℕ, max, nat_le, nat_lt, if◌then◌else◌, List, [], ◌∷◌, ◌++◌, length, take, map, filter_map, flat_map, fold, slice_get, Option, Some, None, Ok, option_map}
 use Rattle.std.specs.List.{AllZip, enumerate_from}
 use Rattle.facet_names.specs.Labels.{with_label, prefixes}
 use Rattle.facet_model.specs.Flags.{Config}
 use Rattle.facet_model.specs.Documents.{Doc}
 use Rattle.facet_model.specs.Accepts.{Broken, first_broken}
-use Rattle.facet_model.specs.Asks.{Asked, top, ask_fault}
-use Rattle.facet_model.specs.Results.{Listed, IsTop}
+use Rattle.facet_model.specs.Asks.{Asked, AskFault, top_of_none, value_not_kept, ask_fault}
+use Rattle.facet_model.specs.Results.{Answer, IsAnswer}
 use Rattle.facet_words.specs.Commands.{Settings, Search, Command, add, refresh, search, Order, Script}
 use Rattle.facet_words.specs.Scripts.{script}
-use Rattle.facet_words.specs.Replies.{Answer, top_answer, Refusal, broken, labels_full, top_zero, no_memory, Reply, placed, numbered, found, refused}
+use Rattle.facet_words.specs.Replies.{Refusal, broken, labels_full, docs_full, top_zero, dim_value_not_kept, no_memory, Reply, placed, numbered, found, refused}
 use Rattle.facet_words.specs.ReplyLines.{reply_lines}
 
 -- what a session works on: the labels with the root, the documents, and how many of them the last refresh took
@@ -32,34 +32,48 @@ snapshot shelf = take shelf.taken shelf.docs
 abbrev pub with_labels : List (List (List ℕ)) → Doc → List (List (List ℕ))
 with_labels labels doc = fold with_label labels (flat_map prefixes doc.labels)
 
+-- how many labels there may be: never fewer than there are
+abbrev pub room : Settings → Shelf → ℕ
+room settings shelf = max settings.max_labels (length shelf.labels)
+
 -- The reply to an add, and what it leaves. The labels that were added before it was refused stay.
 abbrev pub added : Settings → Shelf → Doc → Option Broken → Reply × Shelf
 added settings shelf doc (Some b) = (refused (broken b), shelf)
 added settings shelf doc None =
     let all = with_labels shelf.labels doc in
-    if nat_lt settings.max_labels (length all) then (refused (labels_full settings.max_labels), record shelf { labels = take settings.max_labels all })
-    else (placed (length shelf.docs), record shelf { labels = all; docs = shelf.docs ++ doc ∷ [] })
+    if nat_lt (room settings shelf) (length all) then (refused (labels_full (room settings shelf)), record shelf { labels = take (room settings shelf) all })
+    else (if nat_le settings.max_docs (length shelf.docs) then (refused (docs_full (length shelf.docs)), record shelf { labels = all })
+    else (placed (length shelf.docs), record shelf { labels = all; docs = shelf.docs ++ doc ∷ [] }))
 
 -- without memory an add leaves the first of the labels that it would have left
 abbrev pub LeavesSome : Settings → Shelf → Doc → Option Broken → Shelf → Type 0
 LeavesSome settings shelf doc (Some b) next = next ≡ shelf
-LeavesSome settings shelf doc None next = (k : ℕ) × (length shelf.labels ≤ k) × (k ≤ settings.max_labels) × (next ≡ record shelf { labels = take k (with_labels shelf.labels doc) })
+LeavesSome settings shelf doc None next = (k : ℕ) × (length shelf.labels ≤ k) × (k ≤ room settings shelf) × (next ≡ record shelf { labels = take k (with_labels shelf.labels doc) })
 
 -- ---- search
 
+-- the documents that a search hits: all, as no search has a query yet
+abbrev pub hits_of : List Doc → Search → List Doc
+hits_of docs s = docs
+
+-- the first hits, each with its place among the documents and its id
+abbrev pub first_hits : List Doc → Search → List (ℕ × List ℕ)
+first_hits docs s = take s.hits (map (λ e. (e.0, e.1.id)) (enumerate_from 0 docs))
+
+-- why the ask at a place is refused
+abbrev pub ask_refusal : ℕ → AskFault → Refusal
+ask_refusal at top_of_none = top_zero at
+ask_refusal at value_not_kept = dim_value_not_kept at
+
 -- the first ask that is refused
-abbrev pub first_refused : List Asked → Option Refusal
-first_refused asks = slice_get (filter_map (λ e. option_map (λ f. top_zero e.0) (ask_fault e.1)) (enumerate_from 0 asks)) 0
+abbrev pub first_refused : Config → List Asked → Option Refusal
+first_refused config asks = slice_get (filter_map (λ e. option_map (ask_refusal e.0) (ask_fault config e.1)) (enumerate_from 0 asks)) 0
 
--- the answer to an ask over these documents
-abbrev pub IsAnswer : Config → List Doc → Asked → Answer → Type 0
-IsAnswer config docs (top path n) a = (r : Option Listed) × IsTop config docs path n r × (a ≡ top_answer r)
-
--- The reply to a search over these documents, which so many operations made. Without a query every document is a hit.
+-- The reply to a search over these documents, which so many operations made. Each dimension is counted over the hits.
 abbrev pub IsFound : Config → ℕ → List Doc → Search → Option Refusal → Reply → Type 0
 IsFound config operations docs s (Some r) reply = reply ≡ refused r
-IsFound config operations docs s None reply = (answers : List Answer) × AllZip (IsAnswer config docs) s.asks answers
-    × (reply ≡ found (record { operations = operations; hit_count = length docs; answers = answers }))
+IsFound config operations docs s None reply = (answers : List Answer) × AllZip (IsAnswer config docs (λ dim. hits_of docs s)) s.asks answers
+    × (reply ≡ found (record { operations = operations; hit_count = length (hits_of docs s); hits = first_hits docs s; answers = answers }))
 
 -- ---- each command
 
@@ -67,7 +81,7 @@ IsFound config operations docs s None reply = (answers : List Answer) × AllZip 
 abbrev pub IsRight : Settings → Shelf → Command → Reply → Shelf → Type 0
 IsRight settings shelf (add doc) reply next = let r = added settings shelf doc (first_broken settings.config doc) in (reply ≡ r.0) × (next ≡ r.1)
 IsRight settings shelf refresh reply next = (reply ≡ numbered (length shelf.docs)) × (next ≡ record shelf { taken = length shelf.docs })
-IsRight settings shelf (search s) reply next = IsFound settings.config shelf.taken (snapshot shelf) s (first_refused s.asks) reply × (next ≡ shelf)
+IsRight settings shelf (search s) reply next = IsFound settings.config shelf.taken (snapshot shelf) s (first_refused settings.config s.asks) reply × (next ≡ shelf)
 
 -- what a command leaves that found no memory
 abbrev pub IsLeft : Settings → Shelf → Command → Shelf → Type 0
@@ -94,4 +108,4 @@ RightOutput s bytes = (replies : List Reply) × RightReplies s.settings empty_sh
 
 -- the bytes are the output of an input that is a script
 abbrev pub Outputs : List ℕ → List ℕ → Type 0
-Outputs input bytes = (s : Script) × (script input ≡ Some s) × RightOutput s bytes
+Outputs input bytes = (s : Script) × (script input ≡ Ok s) × RightOutput s bytes

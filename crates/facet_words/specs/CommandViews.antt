@@ -11,13 +11,13 @@ use Rattle.facet_words.specs.declared.command.Settings.{Settings}
 abbrev pub command_view : Command → plain.Command
 command_view (commands.Add doc) = plain.add doc
 command_view commands.Refresh = plain.refresh
-command_view (commands.Search asks) = plain.search (record { asks = map ask_view asks.items })
+command_view (commands.Search asks hits) = plain.search (record { asks = map ask_view asks.items; hits = hits })
 
 abbrev pub order_view : Order → plain.Order
 order_view o = record { session = o.session; line = o.line; command = command_view o.command }
 
 abbrev pub settings_view : Settings → plain.Settings
-settings_view s = record { config = s.config; max_labels = s.max_labels }
+settings_view s = record { config = s.config; max_docs = s.max_docs; max_labels = s.max_labels; stripes = s.stripes; cache = s.cache }
 
 abbrev pub script_view : Script → plain.Script
 script_view s = record { settings = settings_view s.settings; orders = map order_view s.orders.items }

@@ -4,14 +4,18 @@ use Rattle.facet_model.specs.Flags.{Config}
 use Rattle.facet_model.specs.Documents.{Doc}
 use Rattle.facet_model.specs.Asks.{Asked}
 
--- what the config line sets: the declared dimensions, and how many labels there may be, with the root
+-- what the config line sets: the declared dimensions, how many documents and labels there may be, the latter with the root, and how the cache of labels is made
 pub record Settings : Type 0 where
   pub config : Config
+  pub max_docs : ℕ
   pub max_labels : ℕ
+  pub stripes : ℕ
+  pub cache : ℕ
 
--- what a search asks to be counted
+-- what a search asks to be counted, and how many hits it lists
 pub record Search : Type 0 where
   pub asks : List Asked
+  pub hits : ℕ
 
 pub data Command : Type 0 where
   add : Doc → Command

@@ -1,24 +1,26 @@
--- What a line is: the settings, or an order.
-use Rattle.std.specs.Prelude.{ℕ, nat_le, not, if◌then◌else◌, Bool, false, List, [], ◌∷◌, codes, map, take, Option, Some, None}
+-- What the value of a line is: the settings, or a command with its session.
+use Rattle.std.specs.Prelude.{ℕ, not, if◌then◌else◌, Bool, false, List, [], ◌∷◌, codes, map, take, Option, Some, None}
 use Rattle.std.specs.List.{list_any, list_all, enumerate_from}
+use Rattle.std.specs.Option.{option_or}
 use Rattle.std.specs.Str.{bytes_eq}
 use Rattle.serde_json.specs.Data.{Data}
 use Rattle.serde_json.specs.Find.{as_str, as_bool}
 use Rattle.facet_model.specs.declared.flags.DimFlags.{DimFlags}
 use Rattle.facet_model.specs.Flags.{Config}
-use Rattle.facet_model.specs.Asks.{Asked, top}
-use Rattle.facet_words.specs.Commands.{Settings, Command, add, refresh, search, Order}
-use Rattle.facet_words.specs.Lines.{line_data}
-use Rattle.facet_words.specs.Shapes.{◌>>=◌, when, text_within, whole_within, list_of, list_within, path, key, key_or, keys_among}
+use Rattle.facet_model.specs.Asks.{Asked, top, one_value, all_dims}
+use Rattle.facet_words.specs.Commands.{Settings, Command, add, refresh, search}
+use Rattle.facet_words.specs.Shapes.{◌>>=◌, when, whole, text_within, whole_within, list_of, list_within, path, key, key_or, keys_among}
 
--- ---- the config line
+-- ---- the settings
 
 -- a dimension and its flags
 unfoldable pub dimension_of : Data → Option (List ℕ × DimFlags)
 dimension_of d = do
   dim ← key (codes "dim") (text_within 1 1024) d
   hierarchical ← key_or (codes "hierarchical") false as_bool d
-  when (keys_among (codes "dim" ∷ codes "hierarchical" ∷ []) d) (dim, record { hierarchical = hierarchical; multi_valued = false; require_dim_count = false })
+  multi_valued ← key_or (codes "multi_valued") false as_bool d
+  require_dim_count ← key_or (codes "require_dim_count") false as_bool d
+  when (keys_among (codes "dim" ∷ codes "hierarchical" ∷ codes "multi_valued" ∷ codes "require_dim_count" ∷ []) d) (dim, record { hierarchical = hierarchical; multi_valued = multi_valued; require_dim_count = require_dim_count })
 
 -- the name at a place differs from all before it
 abbrev pub is_new : List (List ℕ) → ℕ × List ℕ → Bool
@@ -32,18 +34,32 @@ unfoldable pub settings_of : Data → Option Settings
 settings_of d = do
   dims ← key_or (codes "dims") [] (list_of dimension_of) d
   config ← config_from dims
+  max_docs ← key_or (codes "max_docs") 1000000 (whole_within 1 1000000) d
   max_labels ← key_or (codes "max_labels") 1000000 (whole_within 1 1000000) d
-  when (keys_among (codes "cmd" ∷ codes "dims" ∷ codes "max_labels" ∷ []) d) (record { config = config; max_labels = max_labels })
+  stripes ← key_or (codes "stripes") 16 (whole_within 1 64) d
+  cache ← key_or (codes "cache") 4096 (whole_within 1 65536) d
+  when (keys_among (codes "cmd" ∷ codes "dims" ∷ codes "max_docs" ∷ codes "max_labels" ∷ codes "stripes" ∷ codes "cache" ∷ []) d) (record { config = config; max_docs = max_docs; max_labels = max_labels; stripes = stripes; cache = cache })
 
-unfoldable pub config_of : Data → Option Settings
-config_of d = do
-  name ← key (codes "cmd") as_str d
-  if bytes_eq name (codes "config") then settings_of d else None
+-- ---- the asks of a search
 
-unfoldable pub config_at : List ℕ → Option Settings
-config_at bytes = do
-  d ← line_data bytes
-  config_of d
+unfoldable pub top_ask : Data → Option Asked
+top_ask d = do
+  parts ← key (codes "top") path d
+  n ← key (codes "n") (whole_within 0 4294967295) d
+  when (keys_among (codes "top" ∷ codes "n" ∷ []) d) (top parts n)
+
+unfoldable pub value_ask : Data → Option Asked
+value_ask d = do
+  parts ← key (codes "specific") path d
+  when (keys_among (codes "specific" ∷ []) d) (one_value parts)
+
+unfoldable pub dims_ask : Data → Option Asked
+dims_ask d = do
+  n ← key (codes "all") (whole_within 0 4294967295) d
+  when (keys_among (codes "all" ∷ []) d) (all_dims n)
+
+unfoldable pub ask_of : Data → Option Asked
+ask_of d = option_or (top_ask d) (option_or (value_ask d) (dims_ask d))
 
 -- ---- the commands
 
@@ -56,18 +72,11 @@ add_of d = do
 unfoldable pub refresh_of : Data → Option Command
 refresh_of d = when (keys_among (codes "cmd" ∷ codes "s" ∷ []) d) refresh
 
-unfoldable pub ask_of : Data → Option Asked
-ask_of d = do
-  parts ← key (codes "top") path d
-  n ← key (codes "n") (whole_within 0 4294967295) d
-  when (keys_among (codes "top" ∷ codes "n" ∷ []) d) (top parts n)
-
--- no hits are asked for yet
 unfoldable pub search_of : Data → Option Command
 search_of d = do
-  hits ← key (codes "hits") (whole_within 0 0) d
-  asks ← key (codes "ask") (list_within 1 64 ask_of) d
-  when (keys_among (codes "cmd" ∷ codes "s" ∷ codes "hits" ∷ codes "ask" ∷ []) d) (search (record { asks = asks }))
+  asks ← key_or (codes "ask") [] (list_within 0 64 ask_of) d
+  hits ← key_or (codes "hits") 10 (whole_within 0 1000000) d
+  when (keys_among (codes "cmd" ∷ codes "s" ∷ codes "ask" ∷ codes "hits" ∷ []) d) (search (record { asks = asks; hits = hits }))
 
 unfoldable pub command_named : List ℕ → Data → Option Command
 command_named name d =
@@ -76,14 +85,10 @@ command_named name d =
     else (if bytes_eq name (codes "search") then search_of d
     else None))
 
--- there is one session yet, 1
-unfoldable pub order_of : ℕ → Data → Option Order
-order_of line d = do
-  session ← key (codes "s") (whole_within 1 1) d
+-- the session's number, and the command
+unfoldable pub command_of : Data → Option (ℕ × Command)
+command_of d = do
+  session ← key (codes "s") whole d
   name ← key (codes "cmd") as_str d
   command ← command_named name d
-  Some (record { session = session; line = line; command = command })
-
--- the order of a line's bytes; a script has at most 10,000 lines
-unfoldable pub order_at : ℕ → List ℕ → Option Order
-order_at line bytes = if nat_le line 10000 then line_data bytes >>= order_of line else None
+  Some (session, command)

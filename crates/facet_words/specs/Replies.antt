@@ -1,23 +1,22 @@
 -- Replies, as plain data.
-use Rattle.std.specs.Prelude.{ℕ, List, Option}
+use Rattle.std.specs.Prelude.{ℕ, List}
 use Rattle.facet_model.specs.Accepts.{Broken}
-use Rattle.facet_model.specs.Results.{Listed}
+use Rattle.facet_model.specs.Results.{Answer}
 
--- the answer to an ask
-pub data Answer : Type 0 where
-  top_answer : Option Listed → Answer
-
--- a facet is broken; the label list has this size and is full; the ask at this place asks for no child
+-- A facet is broken. The label list has this size, or there are so many documents, and no more fit. The ask at this place asks for no child, or for a value that is not kept.
 pub data Refusal : Type 0 where
   broken : Broken → Refusal
   labels_full : ℕ → Refusal
+  docs_full : ℕ → Refusal
   top_zero : ℕ → Refusal
+  dim_value_not_kept : ℕ → Refusal
   no_memory : Refusal
 
--- the number of operations that a search saw, and what it found of them
+-- the number of operations that a search saw, and what it found of them: how many hits, the first of them with their places and ids, and the answers to the asks
 pub record Found : Type 0 where
   pub operations : ℕ
   pub hit_count : ℕ
+  pub hits : List (ℕ × List ℕ)
   pub answers : List Answer
 
 pub data Reply : Type 0 where

@@ -1,14 +1,16 @@
--- The lines that replies are written as.
-use Rattle.std.specs.Prelude.{ℕ, List, [], ◌∷◌, ◌++◌, codes, map, Some, None}
+-- The lines that replies, and the fault of a script, are written as.
+use Rattle.std.specs.Prelude.{ℕ, ℤ, List, [], ◌∷◌, ◌++◌, codes, map, Some, None}
 use Rattle.serde_json.specs.Data.{Data, null, number, string, array, object, unsigned, no_items, item, Members, no_members, put}
 use Rattle.serde_json.specs.Find.{of_integer}
 use Rattle.serde_json.specs.View.{items_of}
 use Rattle.serde_json.specs.Written.{compact_text}
 use Rattle.facet_model.specs.Accepts.{Broken, no_component, not_hierarchical, not_multi_valued}
-use Rattle.facet_model.specs.Listing.{Counted}
-use Rattle.facet_model.specs.Results.{Listed}
+use Rattle.facet_model.specs.Listing.{PartCount}
+use Rattle.facet_model.specs.Results.{Listed, Answer, top_answer, value_answer, dims_answer}
+use Rattle.facet_words.specs.declared.fault.ScriptFault.{ScriptFault}
+use Rattle.facet_words.specs.declared.fault.ScriptFault.TheVariants as faults
 use Rattle.facet_words.specs.Commands.{Order}
-use Rattle.facet_words.specs.Replies.{Answer, top_answer, Refusal, broken, labels_full, top_zero, no_memory, Reply, placed, numbered, found, refused}
+use Rattle.facet_words.specs.Replies.{Refusal, broken, labels_full, docs_full, top_zero, dim_value_not_kept, no_memory, Reply, placed, numbered, found, refused}
 
 -- keys with their values, in any order
 abbrev pub Fields : Type 0
@@ -34,15 +36,27 @@ path_data = list_data string
 -- ---- answers
 
 -- [component, count]
-abbrev pub child_data : Counted → Data
+abbrev pub child_data : PartCount → Data
 child_data c = array (item (string c.0) (item (whole_data c.1) no_items))
 
 unfoldable pub listed_data : Listed → Data
 listed_data r = fields ((codes "child_count", whole_data r.child_count) ∷ (codes "children", list_data child_data r.children) ∷ (codes "path", path_data r.path) ∷ (codes "value", number (of_integer r.value)) ∷ [])
 
+unfoldable pub value_data : List (List ℕ) → ℤ → Data
+value_data path value = fields ((codes "path", path_data path) ∷ (codes "value", number (of_integer value)) ∷ [])
+
+unfoldable pub dims_data : List Listed → Data
+dims_data rs = fields ((codes "dims", list_data listed_data rs) ∷ [])
+
 abbrev pub answer_data : Answer → Data
 answer_data (top_answer None) = null
 answer_data (top_answer (Some r)) = listed_data r
+answer_data (value_answer path value) = value_data path value
+answer_data (dims_answer rs) = dims_data rs
+
+-- a hit's place and its id
+unfoldable pub hit_data : ℕ × List ℕ → Data
+hit_data hit = fields ((codes "at", whole_data hit.0) ∷ (codes "id", string hit.1) ∷ [])
 
 -- ---- replies
 
@@ -54,14 +68,16 @@ broken_fields (not_multi_valued facet) = (codes "refused", string (codes "not_mu
 abbrev pub refusal_fields : Refusal → Fields
 refusal_fields (broken b) = broken_fields b
 refusal_fields (labels_full size) = (codes "refused", string (codes "labels_full")) ∷ (codes "size", whole_data size) ∷ []
+refusal_fields (docs_full count) = (codes "refused", string (codes "docs_full")) ∷ (codes "count", whole_data count) ∷ []
 refusal_fields (top_zero ask) = (codes "refused", string (codes "top_zero")) ∷ (codes "ask", whole_data ask) ∷ []
+refusal_fields (dim_value_not_kept ask) = (codes "refused", string (codes "dim_value_not_kept")) ∷ (codes "ask", whole_data ask) ∷ []
 refusal_fields no_memory = (codes "refused", string (codes "no_memory")) ∷ []
 
--- What a reply has besides its line and its session. No hits are listed yet.
+-- what a reply has besides its line and its session
 abbrev pub reply_fields : Reply → Fields
 reply_fields (placed at) = (codes "at", whole_data at) ∷ []
 reply_fields (numbered n) = (codes "n", whole_data n) ∷ []
-reply_fields (found f) = (codes "n", whole_data f.operations) ∷ (codes "hit_count", whole_data f.hit_count) ∷ (codes "hits", array no_items) ∷ (codes "results", list_data answer_data f.answers) ∷ []
+reply_fields (found f) = (codes "n", whole_data f.operations) ∷ (codes "hit_count", whole_data f.hit_count) ∷ (codes "hits", list_data hit_data f.hits) ∷ (codes "results", list_data answer_data f.answers) ∷ []
 reply_fields (refused r) = refusal_fields r
 
 unfoldable pub reply_data : ℕ → ℕ → Reply → Data
@@ -80,3 +96,22 @@ abbrev pub reply_lines : List Order → List Reply → List ℕ
 reply_lines [] rs = []
 reply_lines (o ∷ os) [] = []
 reply_lines (o ∷ os) (r ∷ rs) = reply_line o.session o.line r ++ reply_lines os rs
+
+-- ---- the line of a fault
+
+abbrev pub at_line : List ℕ → ℕ → Fields
+at_line fault line = (codes "fault", string fault) ∷ (codes "line", whole_data line) ∷ []
+
+abbrev pub fault_fields : ScriptFault → Fields
+fault_fields (faults.NotJson line) = at_line (codes "not_json") line
+fault_fields (faults.BadShape line) = at_line (codes "bad_shape") line
+fault_fields (faults.BadSession line) = at_line (codes "bad_session") line
+fault_fields faults.NoConfigFirst = (codes "fault", string (codes "no_config_first")) ∷ []
+fault_fields faults.NoMemory = (codes "fault", string (codes "no_memory")) ∷ []
+
+unfoldable pub fault_data : ScriptFault → Data
+fault_data fault = fields (fault_fields fault)
+
+-- the line that tells why bytes are no script
+unfoldable pub fault_line : ScriptFault → List ℕ
+fault_line fault = json_line (fault_data fault)

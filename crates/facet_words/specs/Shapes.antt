@@ -33,10 +33,14 @@ text_within low high d = do
   text ← as_str d
   when (is_within low high (length text)) text
 
+-- a whole number: of 64 bits, without a fraction, an exponent or a sign
+abbrev pub whole : Data → Option ℕ
+whole d = option_and_then as_u64 (as_number d)
+
 -- a whole number in these limits
 abbrev pub whole_within : ℕ → ℕ → Data → Option ℕ
 whole_within low high d = do
-  n ← option_and_then as_u64 (as_number d)
+  n ← whole d
   when (is_within low high n) n
 
 abbrev pub items_list : Items → List Data

@@ -10,8 +10,8 @@ pub enum Command {
     Add { doc: Document },
     /// Lets later searches see all documents that were added so far.
     Refresh,
-    /// Counts what is asked over the documents of the last refresh.
-    Search { asks: Vec<Ask> },
+    /// Counts what is asked over the documents of the last refresh, and lists the first `hits` of them.
+    Search { asks: Vec<Ask>, hits: u32 },
 }
 
 /// A command with the number of its session and of its line, each from 1.
@@ -26,10 +26,22 @@ pub struct Order {
 #[derive(Drop)]
 pub struct Settings {
     pub config: FacetsConfig,
+    /// How many documents there may be: 1 to 1,000,000.
+    pub max_docs: u32,
     /// How many labels there may be, with the root: 1 to 1,000,000.
     pub max_labels: u32,
-    ghost some: { 1 ≤ max_labels },
-    ghost few: { max_labels ≤ 1000000 },
+    /// Of how many parts the cache of labels is made: 1 to 64.
+    pub stripes: u32,
+    /// How many labels each of these parts holds: 1 to 65,536.
+    pub cache: u32,
+    ghost some_docs: { 1 ≤ max_docs },
+    ghost few_docs: { max_docs ≤ 1000000 },
+    ghost some_labels: { 1 ≤ max_labels },
+    ghost few_labels: { max_labels ≤ 1000000 },
+    ghost some_stripes: { 1 ≤ stripes },
+    ghost few_stripes: { stripes ≤ 64 },
+    ghost some_cache: { 1 ≤ cache },
+    ghost few_cache: { cache ≤ 65536 },
 }
 
 /// The settings of a script and its orders, in line order.

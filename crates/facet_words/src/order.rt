@@ -1,13 +1,16 @@
-ghost use Rattle.std.specs.Prelude.{◌≡◌, ◌≤◌, [], IfOk, IfSome, OnSome, IsTrue, option_map, map, length, codes};
+ghost use Rattle.std.specs.Prelude.{◌≡◌, ◌≢◌, ◌≤◌, [], IfOk, IfErr, IfSome, IsTrue, Ok, Err, option_map, map, length, codes};
 ghost use Rattle.serde_json.specs.View.{view};
 ghost use Rattle.facet_model.specs.AskViews.{ask_view};
 ghost use Rattle.facet_words.specs.CommandViews.{command_view, order_view};
-ghost use Rattle.facet_words.specs.Orders.{add_of, refresh_of, ask_of, search_of, command_named, order_of, order_at};
-ghost use Rattle.facet_words.specs.Shapes.{key, key_or, list_within, is_within, path};
+ghost use Rattle.facet_words.specs.Orders.{add_of, refresh_of, ask_of, search_of, command_named, command_of};
+ghost use Rattle.facet_words.specs.Scripts.{order_of, order_at};
+ghost use Rattle.facet_words.specs.Shapes.{key_or, list_within, is_within, path};
+ghost use Rattle.facet_words.specs.declared.fault.ScriptFault.TheVariants.{NoMemory as Memory};
 
 use crate::command::{Command, Order};
+use crate::fault::ScriptFault;
 use crate::lines::line_value;
-use crate::shape::{Shaped, keys_among, list_in, name_at, read_at, text_at, whole_at};
+use crate::shape::{keys_among, list_in, name_at, number_at, text_at, whole_or};
 use facet_model::{Ask, DocShape, Document};
 use facet_names::{NoMemory, Path};
 use serde_json::Value;
@@ -64,45 +67,12 @@ fn refresh_in(value: &Value) -> Option<Command>
     }
 }
 
-#[tactic(auto, unfolding(crate::specs::Orders::ask_of))]
-fn ask_in(alloc: Global, value: &Value) -> Result<Option<Ask>, NoMemory>
-    ensures { IfOk result (λ o. option_map ask_view o ≡ ask_of (view value.now)) }
-{
-    let Some(path) = read_at::<Path>(alloc, value, "top")? else {
-        return Ok(None);
-    };
-    let Some(n) = whole_at(value, "n", 0, 4_294_967_295) else {
-        return Ok(None);
-    };
-    if keys_among(value, &["top", "n"]) {
-        Ok(Some(Ask::Top { path, n: n as u32 }))
-    } else {
-        Ok(None)
-    }
-}
-
-impl Shaped for Ask {
-    ghost use Rattle.facet_model.specs.AskViews.{ask_view};
-    ghost use Rattle.facet_model.specs.Asks.{Asked};
-    ghost use Rattle.facet_words.specs.Orders.{ask_of};
-
-    ghost Plain = { Asked };
-
-    ghost plain = { ask_view };
-
-    ghost shape = { ask_of };
-
-    fn read(alloc: Global, value: &Value) -> Result<Option<Ask>, NoMemory> {
-        ask_in(alloc, value)
-    }
-}
-
 fn asks_in(alloc: Global, value: &Value) -> Result<Option<Vec<Ask>>, NoMemory>
-    ensures { IfOk result (λ o. option_map (λ v. map ask_view v.items) o ≡ key (codes "ask") (list_within 1 64 ask_of) (view value.now)) }
+    ensures { IfOk result (λ o. option_map (λ v. map ask_view v.items) o ≡ key_or (codes "ask") [] (list_within 0 64 ask_of) (view value.now)) }
 {
     match value.get("ask") {
-        Some(list) => list_in(alloc, list, 1, 64),
-        None => Ok(None),
+        Some(list) => list_in(alloc, list, 0, 64),
+        None => Ok(Some(Vec::new(alloc))),
     }
 }
 
@@ -110,14 +80,17 @@ fn asks_in(alloc: Global, value: &Value) -> Result<Option<Vec<Ask>>, NoMemory>
 fn search_in(alloc: Global, value: &Value) -> Result<Option<Command>, NoMemory>
     ensures { IfOk result (λ o. option_map command_view o ≡ search_of (view value.now)) }
 {
-    if whole_at(value, "hits", 0, 0).is_none() {
-        return Ok(None);
-    }
     let Some(asks) = asks_in(alloc, value)? else {
         return Ok(None);
     };
-    if keys_among(value, &["cmd", "s", "hits", "ask"]) {
-        Ok(Some(Command::Search { asks }))
+    let Some(hits) = whole_or(value, "hits", 10, 0, 1_000_000) else {
+        return Ok(None);
+    };
+    if keys_among(value, &["cmd", "s", "ask", "hits"]) {
+        Ok(Some(Command::Search {
+            asks,
+            hits: hits as u32,
+        }))
     } else {
         Ok(None)
     }
@@ -135,11 +108,12 @@ fn command_in(alloc: Global, name: &str, value: &Value) -> Result<Option<Command
     }
 }
 
-#[tactic(auto, unfolding(crate::specs::Orders::order_of))]
-fn order_in(alloc: Global, line: u32, value: &Value) -> Result<Option<Order>, NoMemory>
-    ensures { IfOk result (λ o. option_map order_view o ≡ order_of line (view value.now)) }
+// The number of the session, whether there is such a session or not, and the command.
+#[tactic(auto, unfolding(crate::specs::Orders::command_of))]
+fn numbered_command_in(alloc: Global, value: &Value) -> Result<Option<(u64, Command)>, NoMemory>
+    ensures { IfOk result (λ o. option_map (λ c. (c.0, command_view c.1)) o ≡ command_of (view value.now)) }
 {
-    let Some(session) = whole_at(value, "s", 1, 1) else {
+    let Some(session) = number_at(value, "s") else {
         return Ok(None);
     };
     let Some(name) = name_at(value, "cmd") else {
@@ -148,24 +122,36 @@ fn order_in(alloc: Global, line: u32, value: &Value) -> Result<Option<Order>, No
     let Some(command) = command_in(alloc, name, value)? else {
         return Ok(None);
     };
-    Ok(Some(Order {
-        session: session as u32,
-        line,
-        command,
-    }))
+    Ok(Some((session, command)))
 }
 
-/// The order of a line's bytes, or None where they are none.
-#[tactic(auto, unfolding(crate::specs::Orders::order_at))]
-pub fn read_order(alloc: Global, line: u32, bytes: &[u8]) -> Result<Option<Order>, NoMemory>
-    ensures order { IfOk result (λ o. option_map order_view o ≡ order_at line bytes.now) }
-    ensures early { IfOk result (λ o. OnSome o (line ≤ 10000)) }
+#[tactic(auto, unfolding(crate::specs::Scripts::order_of))]
+fn order_in(alloc: Global, line: u32, value: &Value) -> Result<Order, ScriptFault>
+    ensures ok { IfOk result (λ o. order_of line (view value.now) ≡ Ok (order_view o)) }
+    ensures err { IfErr result (λ e. e ≢ Memory → order_of line (view value.now) ≡ Err e) }
 {
-    if line > 10_000 {
-        return Ok(None);
+    let Some((session, command)) = numbered_command_in(alloc, value)? else {
+        return Err(ScriptFault::BadShape { line: line as u64 });
+    };
+    if session == 1 {
+        Ok(Order {
+            session: session as u32,
+            line,
+            command,
+        })
+    } else {
+        Err(ScriptFault::BadSession { line: line as u64 })
     }
+}
+
+/// The order of a line's bytes, or why they are none.
+#[tactic(auto, unfolding(crate::specs::Scripts::order_at))]
+pub fn read_order(alloc: Global, line: u32, bytes: &[u8]) -> Result<Order, ScriptFault>
+    ensures ok { IfOk result (λ o. order_at line bytes.now ≡ Ok (order_view o)) }
+    ensures err { IfErr result (λ e. e ≢ Memory → order_at line bytes.now ≡ Err e) }
+{
     match line_value(alloc, bytes)? {
         Some(value) => order_in(alloc, line, &value),
-        None => Ok(None),
+        None => Err(ScriptFault::NotJson { line: line as u64 }),
     }
 }

@@ -1,7 +1,7 @@
 ghost use Rattle.std.specs.Prelude.{◌≡◌, IfOk};
 ghost use Rattle.serde_json.specs.View.{view};
 ghost use Rattle.facet_model.specs.Accepts.{no_component, not_hierarchical, not_multi_valued};
-ghost use Rattle.facet_words.specs.Replies.{broken, labels_full, top_zero, no_memory, refused};
+ghost use Rattle.facet_words.specs.Replies.{broken, labels_full, docs_full, top_zero, dim_value_not_kept, no_memory, refused};
 ghost use Rattle.facet_words.specs.ReplyLines.{reply_data};
 ghost use Rattle.facet_words.specs.ReplyViews.{refusal_view};
 
@@ -54,10 +54,29 @@ fn labels_full_value(alloc: Global, session: u32, line: u32, size: u64) -> Resul
 }
 
 #[tactic(auto, unfolding(crate::specs::ReplyLines::reply_data))]
+fn docs_full_value(alloc: Global, session: u32, line: u32, count: u64) -> Result<Value, NoMemory>
+    ensures { IfOk result (λ v. view v ≡ reply_data session line (refused (docs_full count))) }
+{
+    Ok(json!(in alloc; {"count": count, "line": line, "refused": "docs_full", "s": session})?)
+}
+
+#[tactic(auto, unfolding(crate::specs::ReplyLines::reply_data))]
 fn top_zero_value(alloc: Global, session: u32, line: u32, ask: u64) -> Result<Value, NoMemory>
     ensures { IfOk result (λ v. view v ≡ reply_data session line (refused (top_zero ask))) }
 {
     Ok(json!(in alloc; {"ask": ask, "line": line, "refused": "top_zero", "s": session})?)
+}
+
+#[tactic(auto, unfolding(crate::specs::ReplyLines::reply_data))]
+fn dim_value_not_kept_value(
+    alloc: Global,
+    session: u32,
+    line: u32,
+    ask: u64,
+) -> Result<Value, NoMemory>
+    ensures { IfOk result (λ v. view v ≡ reply_data session line (refused (dim_value_not_kept ask))) }
+{
+    Ok(json!(in alloc; {"ask": ask, "line": line, "refused": "dim_value_not_kept", "s": session})?)
 }
 
 #[tactic(auto, unfolding(crate::specs::ReplyLines::reply_data))]
@@ -83,7 +102,9 @@ pub fn refused_value(
         }
         Refusal::NotMultiValued { facet } => not_multi_valued_value(alloc, session, line, facet),
         Refusal::LabelsFull { size } => labels_full_value(alloc, session, line, size),
+        Refusal::DocsFull { count } => docs_full_value(alloc, session, line, count),
         Refusal::TopZero { ask } => top_zero_value(alloc, session, line, ask),
+        Refusal::DimValueNotKept { ask } => dim_value_not_kept_value(alloc, session, line, ask),
         Refusal::NoMemory => no_memory_value(alloc, session, line),
     }
 }

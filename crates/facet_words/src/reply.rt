@@ -1,10 +1,10 @@
-use facet_model::FacetResult;
+use facet_model::{FacetAnswer, Word};
 
-/// The answer to one ask.
+/// A hit of a search: the document's place in the snapshot, from 0, and its id.
 #[derive(Debug, Drop)]
-pub enum FacetAnswer {
-    /// None where no child has a document.
-    Top(Option<FacetResult>),
+pub struct HitLine {
+    pub at: u32,
+    pub id: Word,
 }
 
 /// Why a command was refused.
@@ -18,8 +18,12 @@ pub enum Refusal {
     NotMultiValued { facet: u64 },
     /// A label is missing, and the list of labels has this size, with the root, and may not grow.
     LabelsFull { size: u64 },
+    /// There are this many documents, and there may be no more.
+    DocsFull { count: u64 },
     /// The ask at this place, from 0, asks for no child.
     TopZero { ask: u64 },
+    /// The ask at this place asks for the value of a dimension alone, which is not kept.
+    DimValueNotKept { ask: u64 },
     /// An allocation was refused.
     NoMemory,
 }
@@ -35,10 +39,11 @@ pub enum Reply {
     Number {
         n: u64,
     },
-    /// To a search: the number of documents that it saw, how many matched, and one answer for each ask.
+    /// To a search: the number of documents that it saw, how many matched, the first of these in their order, and one answer for each ask.
     Found {
         n: u64,
         hit_count: u64,
+        hits: Vec<HitLine>,
         results: Vec<FacetAnswer>,
     },
     Refused(Refusal),

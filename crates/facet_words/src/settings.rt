@@ -1,13 +1,16 @@
-ghost use Rattle.std.specs.Prelude.{◌≡◌, ◌≤◌, [], false, IfOk, IfSome, option_map, map, string_bytes, codes};
+ghost use Rattle.std.specs.Prelude.{◌≡◌, ◌≢◌, [], false, Ok, Err, IfOk, IfErr, option_map, map, string_bytes, codes};
 ghost use Rattle.serde_json.specs.Find.{as_bool};
 ghost use Rattle.serde_json.specs.View.{view};
 ghost use Rattle.facet_words.specs.CommandViews.{settings_view};
-ghost use Rattle.facet_words.specs.Orders.{dimension_of, config_from, settings_of, config_of, config_at};
-ghost use Rattle.facet_words.specs.Shapes.{key_or, list_of, whole_within};
+ghost use Rattle.facet_words.specs.Orders.{dimension_of, config_from, settings_of};
+ghost use Rattle.facet_words.specs.Scripts.{config_of, config_at};
+ghost use Rattle.facet_words.specs.Shapes.{key_or, list_of};
+ghost use Rattle.facet_words.specs.declared.fault.ScriptFault.TheVariants.{NoMemory as Memory};
 
 use crate::command::Settings;
+use crate::fault::ScriptFault;
 use crate::lines::line_value;
-use crate::shape::{Shaped, keys_among, list_of_in, name_at, text_at, whole_in};
+use crate::shape::{Shaped, keys_among, list_of_in, name_at, text_at, whole_or};
 use facet_config::{DeclareFault, FacetsConfig};
 use facet_model::DimFlags;
 use facet_names::NoMemory;
@@ -57,12 +60,21 @@ fn dimension_in(alloc: Global, value: &Value) -> Result<Option<Dimension>, NoMem
     let Some(hierarchical) = flag_at(value, "hierarchical") else {
         return Ok(None);
     };
-    if keys_among(value, &["dim", "hierarchical"]) {
+    let Some(multi_valued) = flag_at(value, "multi_valued") else {
+        return Ok(None);
+    };
+    let Some(require_dim_count) = flag_at(value, "require_dim_count") else {
+        return Ok(None);
+    };
+    if keys_among(
+        value,
+        &["dim", "hierarchical", "multi_valued", "require_dim_count"],
+    ) {
         let name = String::from_str(alloc, name)?;
         let flags = DimFlags {
             hierarchical,
-            multi_valued: false,
-            require_dim_count: false,
+            multi_valued,
+            require_dim_count,
         };
         Ok(Some(Dimension { name, flags }))
     } else {
@@ -96,17 +108,6 @@ fn declared(alloc: Global, dims: &[Dimension]) -> Result<Option<FacetsConfig>, N
     Ok(Some(config))
 }
 
-fn max_labels_in(value: &Value) -> Option<u64>
-    ensures labels { result ≡ key_or (codes "max_labels") 1000000 (whole_within 1 1000000) (view value.now) }
-    ensures some { IfSome result (λ n. 1 ≤ n) }
-    ensures few { IfSome result (λ n. n ≤ 1000000) }
-{
-    match value.get("max_labels") {
-        Some(found) => whole_in(found, 1, 1_000_000),
-        None => Some(1_000_000),
-    }
-}
-
 #[tactic(auto, unfolding(crate::specs::Orders::settings_of))]
 fn settings_in(alloc: Global, value: &Value) -> Result<Option<Settings>, NoMemory>
     ensures { IfOk result (λ o. option_map settings_view o ≡ settings_of (view value.now)) }
@@ -117,37 +118,57 @@ fn settings_in(alloc: Global, value: &Value) -> Result<Option<Settings>, NoMemor
     let Some(config) = declared(alloc, &dims)? else {
         return Ok(None);
     };
-    let Some(max_labels) = max_labels_in(value) else {
+    let Some(max_docs) = whole_or(value, "max_docs", 1_000_000, 1, 1_000_000) else {
         return Ok(None);
     };
-    if keys_among(value, &["cmd", "dims", "max_labels"]) {
+    let Some(max_labels) = whole_or(value, "max_labels", 1_000_000, 1, 1_000_000) else {
+        return Ok(None);
+    };
+    let Some(stripes) = whole_or(value, "stripes", 16, 1, 64) else {
+        return Ok(None);
+    };
+    let Some(cache) = whole_or(value, "cache", 4_096, 1, 65_536) else {
+        return Ok(None);
+    };
+    if keys_among(
+        value,
+        &["cmd", "dims", "max_docs", "max_labels", "stripes", "cache"],
+    ) {
         Ok(Some(Settings {
             config,
+            max_docs: max_docs as u32,
             max_labels: max_labels as u32,
+            stripes: stripes as u32,
+            cache: cache as u32,
         }))
     } else {
         Ok(None)
     }
 }
 
-#[tactic(auto, unfolding(crate::specs::Orders::config_of))]
-fn config_in(alloc: Global, value: &Value) -> Result<Option<Settings>, NoMemory>
-    ensures { IfOk result (λ o. option_map settings_view o ≡ config_of (view value.now)) }
+#[tactic(auto, unfolding(crate::specs::Scripts::config_of))]
+fn config_in(alloc: Global, value: &Value) -> Result<Settings, ScriptFault>
+    ensures ok { IfOk result (λ s. config_of (view value.now) ≡ Ok (settings_view s)) }
+    ensures err { IfErr result (λ e. e ≢ Memory → config_of (view value.now) ≡ Err e) }
 {
     match name_at(value, "cmd") {
-        Some("config") => settings_in(alloc, value),
-        Some(_) => Ok(None),
-        None => Ok(None),
+        Some("config") => match settings_in(alloc, value)? {
+            Some(settings) => Ok(settings),
+            None => Err(ScriptFault::BadShape { line: 1 }),
+        },
+        Some(_) => Err(ScriptFault::NoConfigFirst),
+        None => Err(ScriptFault::NoConfigFirst),
     }
 }
 
-/// The settings of the config line's bytes, or None where they are none.
-#[tactic(auto, unfolding(crate::specs::Orders::config_at))]
-pub fn read_settings(alloc: Global, line: &[u8]) -> Result<Option<Settings>, NoMemory>
-    ensures { IfOk result (λ o. option_map settings_view o ≡ config_at line.now) }
+/// The settings of the first line's bytes, or why they are none.
+#[tactic(auto, unfolding(crate::specs::Scripts::config_at))]
+pub fn read_settings(alloc: Global, line: &[u8]) -> Result<Settings, ScriptFault>
+    ensures ok { IfOk result (λ s. config_at line.now ≡ Ok (settings_view s)) }
+    ensures err { IfErr result (λ e. e ≢ Memory → config_at line.now ≡ Err e) }
 {
     match line_value(alloc, line)? {
         Some(value) => config_in(alloc, &value),
-        None => Ok(None),
+        None => Err(ScriptFault::NotJson { line: 1 }),
     }
 }

@@ -6,27 +6,48 @@ ghost use Rattle.serde_json.specs.Data.{Data};
 ghost use Rattle.serde_json.specs.Find.{as_str};
 ghost use Rattle.serde_json.specs.View.{view};
 ghost use Rattle.facet_names.specs.Paths.{texts};
-ghost use Rattle.facet_words.specs.Shapes.{key, whole_within, text_within, list_of, list_within, all_some, path, path_from, keys_among as among};
+ghost use Rattle.facet_words.specs.Shapes.{key, key_or, whole, whole_within, text_within, list_of, list_within, all_some, path, path_from, keys_among as among};
 
 use facet_names::{NoMemory, Path, PathFault};
 use serde_json::{Map, Value};
 use std::alloc::Global;
 
-/// A whole number in these limits.
-pub fn whole_in(value: &Value, low: u64, high: u64) -> Option<u64>
+/// The whole number under a key.
+pub fn number_at(value: &Value, name: &str) -> Option<u64>
+    ensures { result ≡ key name.now whole (view value.now) }
+{
+    value.get(name).and_then(Value::as_u64)
+}
+
+// A whole number in these limits.
+fn whole_in(value: &Value, low: u64, high: u64) -> Option<u64>
     ensures { result ≡ whole_within low high (view value.now) }
 {
     let n = value.as_u64()?;
     if low <= n && n <= high { Some(n) } else { None }
 }
 
-/// The whole number under a key.
+/// The whole number in these limits under a key.
 pub fn whole_at(value: &Value, name: &str, low: u64, high: u64) -> Option<u64>
     ensures { result ≡ key name.now (whole_within low high) (view value.now) }
 {
     match value.get(name) {
         Some(found) => whole_in(found, low, high),
         None => None,
+    }
+}
+
+/// The whole number in these limits under a key, or the default where the key is not there.
+pub fn whole_or(value: &Value, name: &str, default: u64, low: u64, high: u64) -> Option<u64>
+    requires low { low ≤ default }
+    requires high { default ≤ high }
+    ensures value { result ≡ key_or name.now default (whole_within low high) (view value.now) }
+    ensures some { IfSome result (λ n. low ≤ n) }
+    ensures few { IfSome result (λ n. n ≤ high) }
+{
+    match value.get(name) {
+        Some(found) => whole_in(found, low, high),
+        None => Some(default),
     }
 }
 

@@ -1,87 +1,46 @@
-ghost use Rattle.std.specs.Prelude.{◌≡◌, ◌++◌, ◌∷◌, [], IfOk, OnOk, OnErr, false, string_bytes, map, codes, option_map};
-ghost use Rattle.serde_json.specs.Data.{array as array_of, string as string_of, number, unsigned, no_items};
-ghost use Rattle.serde_json.specs.Find.{of_integer};
-ghost use Rattle.serde_json.specs.View.{view, items_of};
+ghost use Rattle.std.specs.Prelude.{◌≡◌, ◌++◌, ◌∷◌, [], IfOk, OnOk, OnErr, false, string_bytes, map, codes};
+ghost use Rattle.serde_json.specs.View.{view};
 ghost use Rattle.serde_json.specs.Written.{has_float};
-ghost use Rattle.facet_model.specs.Listing.{counted_child};
-ghost use Rattle.facet_model.specs.ResultViews.{result_view};
 ghost use Rattle.facet_words.specs.Replies.{placed, numbered, found, refused};
-ghost use Rattle.facet_words.specs.ReplyLines.{fields, whole_data, list_data, path_data, child_data, listed_data, answer_data, reply_data, json_line, reply_line};
-ghost use Rattle.facet_words.specs.ReplyViews.{answer_view, reply_view, refusal_view};
+ghost use Rattle.facet_words.specs.ReplyLines.{fields, whole_data, list_data, hit_data, reply_data, json_line, reply_line, at_line, fault_data, fault_line};
+ghost use Rattle.facet_words.specs.ReplyViews.{hit_view, reply_view, refusal_view};
 
+use crate::answering::answers_value;
+use crate::fault::ScriptFault;
 use crate::refusing::refused_value;
-use crate::reply::{FacetAnswer, Reply};
-use facet_model::{Child, FacetResult};
-use facet_names::{NoMemory, Path};
+use crate::reply::{HitLine, Reply};
+use crate::values::{ToValue, list_value};
+use facet_names::NoMemory;
 use serde_json::{Value, json};
 use std::alloc::{AllocError, Global};
 
-fn child_value(alloc: Global, child: &Child) -> Result<Value, NoMemory>
-    ensures { IfOk result (λ v. view v ≡ child_data (counted_child child.now)) }
+#[tactic(auto, unfolding(crate::specs::ReplyLines::hit_data))]
+fn hit_value(alloc: Global, hit: &HitLine) -> Result<Value, NoMemory>
+    ensures { IfOk result (λ v. view v ≡ hit_data (hit_view hit.now)) }
 {
-    Ok(json!(in alloc; [child.part.text(), child.count])?)
+    Ok(json!(in alloc; {"at": hit.at, "id": hit.id.text()})?)
 }
 
-fn children_value(alloc: Global, children: &[Child]) -> Result<Value, NoMemory>
-    ensures { IfOk result (λ v. view v ≡ list_data child_data (map counted_child children.now)) }
-{
-    let mut list = Vec::new(alloc);
-    for child in children {
-        let pair = child_value(alloc, child)?;
-        list.push(pair)?;
-    }
-    Ok(Value::Array(list))
-}
+impl ToValue for HitLine {
+    ghost use Rattle.std.specs.Prelude.{ℕ, List};
+    ghost use Rattle.facet_words.specs.ReplyLines.{hit_data};
+    ghost use Rattle.facet_words.specs.ReplyViews.{hit_view};
 
-fn path_value(alloc: Global, path: &Path) -> Result<Value, NoMemory>
-    ensures { IfOk result (λ v. view v ≡ path_data path.now) }
-{
-    let mut list = Vec::new(alloc);
-    for at in 0..path.len() {
-        list.push(Value::try_from_str(alloc, path.part(at))?)?;
-    }
-    Ok(Value::Array(list))
-}
+    ghost Plain = { ℕ × List ℕ };
 
-fn fields_value(
-    alloc: Global,
-    child_count: u32,
-    children: Value,
-    path: Value,
-    value: i64,
-) -> Result<Value, AllocError>
-    ensures { IfOk result (λ v. view v ≡ fields ((codes "child_count", whole_data child_count) ∷ (codes "children", view children) ∷ (codes "path", view path) ∷ (codes "value", number (of_integer value)) ∷ [])) }
-{
-    json!(in alloc; {"child_count": child_count, "children": children, "path": path, "value": value})
-}
+    ghost plain = { hit_view };
 
-#[tactic(auto, unfolding(crate::specs::ReplyLines::listed_data))]
-fn counts_value(alloc: Global, counts: &FacetResult) -> Result<Value, NoMemory>
-    ensures { IfOk result (λ v. view v ≡ listed_data (result_view counts.now)) }
-{
-    let children = children_value(alloc, &counts.children)?;
-    let path = path_value(alloc, &counts.path)?;
-    let value = fields_value(alloc, counts.child_count, children, path, counts.value)?;
-    Ok(value)
-}
+    ghost json = { hit_data };
 
-fn answer_value(alloc: Global, answer: &FacetAnswer) -> Result<Value, NoMemory>
-    ensures { IfOk result (λ v. view v ≡ answer_data (answer_view answer.now)) }
-{
-    match answer {
-        FacetAnswer::Top(Some(counts)) => counts_value(alloc, counts),
-        FacetAnswer::Top(None) => Ok(Value::Null),
+    fn to_value(&self, alloc: Global) -> Result<Value, NoMemory> {
+        hit_value(alloc, self)
     }
 }
 
-fn answers_value(alloc: Global, answers: &[FacetAnswer]) -> Result<Value, NoMemory>
-    ensures { IfOk result (λ v. view v ≡ list_data answer_data (map answer_view answers.now)) }
+fn hits_value(alloc: Global, hits: &[HitLine]) -> Result<Value, NoMemory>
+    ensures { IfOk result (λ v. view v ≡ list_data hit_data (map hit_view hits.now)) }
 {
-    let mut list = Vec::new(alloc);
-    for answer in answers {
-        list.push(answer_value(alloc, answer)?)?;
-    }
-    Ok(Value::Array(list))
+    list_value(alloc, hits)
 }
 
 #[tactic(auto, unfolding(crate::specs::ReplyLines::reply_data))]
@@ -104,11 +63,12 @@ fn found_value(
     line: u32,
     n: u64,
     hit_count: u64,
+    hits: Value,
     results: Value,
 ) -> Result<Value, AllocError>
-    ensures { IfOk result (λ v. view v ≡ fields ((codes "line", whole_data line) ∷ (codes "s", whole_data session) ∷ (codes "n", whole_data n) ∷ (codes "hit_count", whole_data hit_count) ∷ (codes "hits", array_of no_items) ∷ (codes "results", view results) ∷ [])) }
+    ensures { IfOk result (λ v. view v ≡ fields ((codes "line", whole_data line) ∷ (codes "s", whole_data session) ∷ (codes "n", whole_data n) ∷ (codes "hit_count", whole_data hit_count) ∷ (codes "hits", view hits) ∷ (codes "results", view results) ∷ [])) }
 {
-    json!(in alloc; {"hit_count": hit_count, "hits": [], "line": line, "n": n, "results": results, "s": session})
+    json!(in alloc; {"hit_count": hit_count, "hits": hits, "line": line, "n": n, "results": results, "s": session})
 }
 
 #[tactic(auto, unfolding(crate::specs::ReplyLines::reply_data))]
@@ -121,10 +81,12 @@ fn reply_value(alloc: Global, session: u32, line: u32, reply: &Reply) -> Result<
         Reply::Found {
             n,
             hit_count,
+            hits,
             results,
         } => {
+            let hits = hits_value(alloc, hits)?;
             let results = answers_value(alloc, results)?;
-            let value = found_value(alloc, session, line, *n, *hit_count, results)?;
+            let value = found_value(alloc, session, line, *n, *hit_count, hits, results)?;
             Ok(value)
         }
         Reply::Refused(refusal) => refused_value(alloc, session, line, *refusal),
@@ -154,6 +116,37 @@ pub fn write_reply(
     ensures err { OnErr result (out.new.items ≡ out.old.items) }
 {
     let value = reply_value(alloc, session, line, reply)?;
+    let text = to_line(alloc, &value)?;
+    out.extend_from_slice(text.as_bytes())?;
+    Ok(())
+}
+
+fn fault_at_value(alloc: Global, fault: &str, line: u64) -> Result<Value, AllocError>
+    ensures { IfOk result (λ v. view v ≡ fields (at_line fault.now line)) }
+{
+    json!(in alloc; {"fault": fault, "line": line})
+}
+
+#[tactic(auto, unfolding(crate::specs::ReplyLines::fault_data))]
+fn fault_value(alloc: Global, fault: ScriptFault) -> Result<Value, AllocError>
+    ensures { IfOk result (λ v. view v ≡ fault_data fault) }
+{
+    match fault {
+        ScriptFault::NotJson { line } => fault_at_value(alloc, "not_json", line),
+        ScriptFault::BadShape { line } => fault_at_value(alloc, "bad_shape", line),
+        ScriptFault::BadSession { line } => fault_at_value(alloc, "bad_session", line),
+        ScriptFault::NoConfigFirst => json!(in alloc; {"fault": "no_config_first"}),
+        ScriptFault::NoMemory => json!(in alloc; {"fault": "no_memory"}),
+    }
+}
+
+/// Appends the line that tells why bytes are no script, in the form of a reply's line.
+#[tactic(auto, unfolding(crate::specs::ReplyLines::fault_line))]
+pub fn write_fault(alloc: Global, out: &mut Vec<u8>, fault: ScriptFault) -> Result<(), NoMemory>
+    ensures ok { OnOk result (out.new.items ≡ out.old.items ++ fault_line fault) }
+    ensures err { OnErr result (out.new.items ≡ out.old.items) }
+{
+    let value = fault_value(alloc, fault)?;
     let text = to_line(alloc, &value)?;
     out.extend_from_slice(text.as_bytes())?;
     Ok(())

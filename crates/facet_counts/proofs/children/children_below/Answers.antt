@@ -4,7 +4,7 @@ use Rattle.std.specs.Option.{option_map_or}
 use Rattle.std.proofs.lemmas.List.{append-nil, length-map}
 use Rattle.std.proofs.lemmas.Option.{IfSome_then}
 use Rattle.facet_names.specs.Arrays.{is_child, greatest, sibling_at}
-use Rattle.facet_model.specs.Listing.{Counted, counted_child}
+use Rattle.facet_model.specs.Listing.{PartCount, counted_child}
 use Rattle.facet_counts.specs.Children.{children_from, children_at}
 use Rattle.facet_counts.proofs.Walk.{walk_starts, walk_goes_on, greatest_passes, sibling_is, children_few, smaller_next}
 use Rattle.facet_counts.proofs.children.children_below.Goals as goal

@@ -1,5 +1,5 @@
 use Rattle.std.proofs.Common.{arith, ◌<◌, ◌∙◌}
-use Rattle.facet_counts.proofs.Dims.{parent_rolled}
+use Rattle.facet_counts.proofs.Parents.{parent_rolled}
 use Rattle.facet_counts.proofs.rolled.mark_of.Goals as goal
 
 pub returns-else-parent-eq0 : goal.returns-else-parent-eq0

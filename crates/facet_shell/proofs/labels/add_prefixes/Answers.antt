@@ -1,13 +1,17 @@
-use Rattle.std.proofs.Common.{rules, arith, ℕ, List, ◌≡◌, ◌<◌, ◌≤◌, ◌∙◌, ◌+◌, false, take, length, sym, ap, refl, subst}
+use Rattle.std.proofs.Common.{rules, arith, ℕ, List, map, slice_get, Some, ◌≡◌, ◌<◌, ◌≤◌, ◌∙◌, ◌+◌, false, take, length, sym, ap, refl, subst}
 use Rattle.std.specs.Prelude.{fold}
 use Rattle.std.proofs.lemmas.List.{take_all}
 use Rattle.facet_names.specs.Labels.{above, prefixes, stands, with_label}
 use Rattle.taxo_list.specs.declared.fault.TaxoFault.TheVariants.{LabelsFull}
 use Rattle.facet_shell.proofs.Grown.{root_stands, prefix_at, above_prefix, as_many_prefixes, one_more, is_longer, room_for, with_label_stands, between_now}
+use Rattle.facet_names.specs.Labels.{place}
+use Rattle.facet_names.proofs.LabelLists.{label_at}
+use Rattle.facet_shell.proofs.Ordinals.{all_stay, one_ordinal_more}
+use Rattle.facet_shell.proofs.Grown.{all_go_on, stays}
 use Rattle.facet_shell.proofs.labels.add_prefixes.Goals as goal
 
 pub loop-n-init : goal.loop-n-init
-loop-n-init c = record { grown = refl; few = c.requires.room; parent = root_stands c.args.labels.now c.size.ensures.list }
+loop-n-init c = record { grown = refl; few = c.requires.room; ordinals = ap (map (slice_get c.args.labels.now)) c.in_ok-ords.ensures.items; parent = root_stands c.args.labels.now c.size.ensures.list }
 
 pub add-requires : goal.add-requires
 add-requires c =
@@ -51,6 +55,8 @@ loop-n-preserved c =
     record {
       grown = grown;
       few = subst (λ (l : List (List (List ℕ))). length l ≤ c.args.limit) (sym c.in-Ok.ensures.added) (room_for c.loop-n.labels c.in_ok-prefix.prefix c.args.limit c.loop-n.invariant.few (λ missing full. absurd (search (rules, c.in-Ok.is, c.in-Ok.ensures.full missing full))));
+      ordinals = one_ordinal_more c.add.new.self c.loop-n.ords.items c.push.new.self.items (prefixes path) n c.in-Ok.ord (take (n + 1) path) (omega (arith, lt, as_many_prefixes path)) (prefix_at path n lt) (all_stay c.loop-n.labels c.add.new.self c.in-Ok.ensures.goes_on c.loop-n.ords.items (take n (prefixes path)) c.loop-n.invariant.ordinals)
+          (label_at c.add.new.self c.in-Ok.ord (take (n + 1) path) (ap (place c.add.new.self) (sym front) ∙ c.in-Ok.ensures.ordinal)) c.in_ok-push.ensures.items;
       parent = ap (λ l. stands l (take (n + 1) path)) added ∙ with_label_stands c.loop-n.labels (take (n + 1) path);
     }
 
@@ -61,3 +67,21 @@ returns-clause-ok c =
 
 pub returns-clause-between : goal.returns-clause-between
 returns-clause-between c = between_now c.args.labels.now (prefixes c.args.path.now) c.loop-n.n c.loop-n.labels c.loop-n.invariant.grown
+
+pub returns-in_err-ords-clause-between : goal.returns-in_err-ords-clause-between
+returns-in_err-ords-clause-between c = (stays c.args.labels.now, all_go_on c.args.labels.now (prefixes c.args.path.now))
+
+pub returns-in_err-push-clause-between : goal.returns-in_err-push-clause-between
+returns-in_err-push-clause-between c =
+    let path = c.args.path.now in
+    let n = c.loop-n.n in
+    let lt : n < length path = omega (arith, c.loop-n-test.true, c.len-n-end.ensures.len) in
+    let front : c.in_ok-prefix.prefix ≡ take (n + 1) path = c.in_ok-prefix.ensures in
+    let added : c.add.new.self ≡ with_label c.loop-n.labels (take (n + 1) path) = c.in-Ok.ensures.added ∙ ap (with_label c.loop-n.labels) front in
+    let grown = added ∙ ap (λ l. with_label l (take (n + 1) path)) c.loop-n.invariant.grown ∙ sym (one_more c.args.labels.now (prefixes path) n (take (n + 1) path) (omega (arith, lt, as_many_prefixes path)) (prefix_at path n lt)) in
+    between_now c.args.labels.now (prefixes path) (n + 1) c.add.new.self grown
+
+pub returns-clause-ordinals : goal.returns-clause-ordinals
+returns-clause-ordinals c =
+    let size = as_many_prefixes c.args.path.now in
+    ap (map (slice_get c.loop-n.labels)) c.new.ensures ∙ c.loop-n.invariant.ordinals ∙ ap (map Some) (take_all c.loop-n.n (prefixes c.args.path.now) (omega (arith, size, c.loop-n-test.false, c.len-n-end.ensures.len)))

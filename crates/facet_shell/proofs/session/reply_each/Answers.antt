@@ -1,5 +1,5 @@
-use Rattle.std.proofs.Common.{◌∷◌, [], List, ◌∙◌, arith, subst, sym}
-use Rattle.std.proofs.lemmas.List.{length-append, map-id}
+use Rattle.std.proofs.Common.{◌∷◌, [], List, ◌∙◌, subst, sym}
+use Rattle.std.proofs.lemmas.List.{map-id}
 use Rattle.std.proofs.lemmas.Iterator.Adapters.{YieldsList-from_vec}
 use Rattle.std.proofs.lemmas.Iterator.Consumers.{YieldsList-end}
 use Rattle.facet_words.specs.Answers.{RightReply}
@@ -17,7 +17,6 @@ loop-order-preserved c =
     record {
       settings = c.step-reply.ensures.same ∙ c.loop-order.invariant.settings;
       replies = replied _ c.loop-order.yielded c.in-Some.order c.loop-order.session.shelf c.step-reply.new.self.shelf c.loop-order.out.items c.write_reply.new.out.items c.step-reply.result c.loop-order.invariant.replies right c.in_ok-write_reply.ensures.ok;
-      few = omega (arith, c.step-reply.ensures.more, c.loop-order.invariant.few, length-append c.loop-order.yielded (c.in-Some.order ∷ []));
     }
 
 pub returns : goal.returns

@@ -1,4 +1,4 @@
-use Rattle.std.proofs.Common.{◌≡◌, ◌≤◌, ◌+◌, map, length}
+use Rattle.std.proofs.Common.{◌≤◌, ◌+◌, map, length}
 use Rattle.facet_words.specs.CommandViews.{order_view}
 use Rattle.facet_words.specs.Lines.{lines_of}
 use Rattle.facet_words.specs.Scripts.{orders_from}
@@ -8,8 +8,7 @@ use Rattle.facet_words.proofs.script.read_orders.Given as goal
 abbrev pub invariant-loop-rest : goal.invariant-loop-rest
 invariant-loop-rest l = record {
   read : IsReadTo (map order_view l.orders.items) l.line (lines_of l.rest) (orders_from 2 (lines_of l.bytes));
-  count : length l.orders.items + 2 ≡ l.line;
-  early : l.line ≤ 10001;
+  early : l.line + length l.rest ≤ 67108866;
 }
 
 abbrev pub decreases-loop-rest : goal.decreases-loop-rest

@@ -1,0 +1,37 @@
+//! The results of dimensions, put together.
+ghost use Rattle.std.specs.Prelude.{◌≡◌, ◌||◌, ◌∷◌, [], ℕ, List, Bool, false, None, OnOk, map, option_map};
+ghost use Rattle.std.specs.Str.{bytes_eq};
+ghost use Rattle.facet_model.specs.Documents.{Doc};
+ghost use Rattle.facet_model.specs.Flags.{Config};
+ghost use Rattle.facet_model.specs.ResultViews.{result_view};
+ghost use Rattle.facet_model.specs.Results.{IsTop, AreAllDims, dims_cmp};
+ghost use Rattle.facet_counts.specs.Dims.{AreDims};
+
+use facet_model::FacetResult;
+use facet_names::NoMemory;
+use std::cmp::Ordering;
+
+/// Puts the result of one more dimension to those of others, if it has one. Each dimension may be counted over documents of its own.
+pub fn note_dim(results: &mut Vec<FacetResult>, top: Option<FacetResult>) -> Result<(), NoMemory>
+    ensures { OnOk result ((among : List ℕ → Bool) (config : Config) (docs_of : List ℕ → List Doc) (n : ℕ) (dim : List ℕ) → among dim ≡ false → IsTop config (docs_of dim) (dim ∷ []) n (option_map result_view top) → AreDims among config docs_of n (map result_view results.old.items) → AreDims (λ d. bytes_eq d dim || among d) config docs_of n (map result_view results.new.items)) }
+{
+    if let Some(top) = top {
+        results.push(top)?;
+    }
+    Ok(())
+}
+
+// By value falling, ties by the dimension's bytes rising.
+fn by_value(a: &FacetResult, b: &FacetResult) -> Ordering
+    ensures { result ≡ dims_cmp (result_view a.now) (result_view b.now) }
+{
+    b.value.cmp(&a.value).then(a.path.cmp(&b.path))
+}
+
+/// Orders the results of all dimensions that have one: by value falling, so that values of -1 come last, ties by the dimension's bytes
+/// rising. It takes no memory.
+pub fn order_dims(results: &mut Vec<FacetResult>)
+    ensures { (among : List ℕ → Bool) (config : Config) (docs_of : List ℕ → List Doc) (n : ℕ) → ((dim : List ℕ) → among dim ≡ false → IsTop config (docs_of dim) (dim ∷ []) n None) → AreDims among config docs_of n (map result_view results.old.items) → AreAllDims config docs_of n (map result_view results.new.items) }
+{
+    results.sort_unstable_by(|a, b| by_value(a, b));
+}

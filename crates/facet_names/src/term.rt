@@ -1,0 +1,74 @@
+ghost use Rattle.std.specs.Prelude.{◌≡◌, ◌<◌, ◌++◌, length, List, ℕ, string_bytes, IfOk, OnOk, MatchOption};
+ghost use Rattle.facet_names.specs.Paths.{texts};
+ghost use Rattle.facet_names.specs.Terms.{escaped, is_special, term_text};
+
+use crate::fault::NoMemory;
+use std::alloc::Global;
+use std::mem;
+
+const ESCAPE: char = '\u{1e}';
+
+const SEPARATOR: char = '\u{1f}';
+
+fn is_special(ch: char) -> bool
+    ensures { result ≡ is_special ch }
+{
+    ch == ESCAPE || ch == SEPARATOR
+}
+
+fn push_escaped(text: &mut String, part: &str) -> Result<(), NoMemory>
+    ensures { OnOk result (string_bytes text.new ≡ string_bytes text.old ++ escaped part.now) }
+{
+    for ch in part.chars() {
+        if is_special(ch) {
+            text.push(ESCAPE)?;
+        }
+        text.push(ch)?;
+    }
+    Ok(())
+}
+
+pub fn joined(alloc: Global, parts: &[String]) -> Result<String, NoMemory>
+    ensures { IfOk result (λ text. string_bytes text ≡ term_text (texts parts.now)) }
+{
+    let mut text = String::new(alloc);
+    for (at, part) in parts.iter().enumerate() {
+        if at > 0 {
+            text.push(SEPARATOR)?;
+        }
+        push_escaped(&mut text, part.as_str())?;
+    }
+    Ok(text)
+}
+
+/// The components that a text joins; None where an escape stands before neither of the two characters, or at the end.
+pub fn split(alloc: Global, text: &str) -> Result<Option<Vec<String>>, NoMemory>
+    ensures { IfOk result
+        (λ o. MatchOption o
+        ((parts : List (List ℕ)) → ¬ (text.now ≡ term_text parts))
+        (λ v. (0 < length v.items) × (text.now ≡ term_text (texts v.items)))) }
+{
+    let mut parts = Vec::new(alloc);
+    let mut part = String::new(alloc);
+    let mut after_escape = false;
+    for ch in text.chars() {
+        if !is_special(ch) {
+            if after_escape {
+                return Ok(None);
+            }
+            part.push(ch)?;
+        } else if after_escape {
+            part.push(ch)?;
+            after_escape = false;
+        } else if ch == ESCAPE {
+            after_escape = true;
+        } else {
+            parts.push(mem::replace(&mut part, String::new(alloc)))?;
+        }
+    }
+    if after_escape {
+        return Ok(None);
+    }
+    parts.push(part)?;
+    Ok(Some(parts))
+}
