@@ -6,7 +6,7 @@ use Rattle.std.specs.Option.{option_map_or}
 use Rattle.std.proofs.lemmas.Bool.{and_parts, and_from, le-leb}
 use Rattle.std.proofs.lemmas.List.Folds.{list_all-map, list_all-append}
 use Rattle.facet_names.specs.Labels.{stands}
-use Rattle.facet_core.proofs.Fronts.{weaker, knows_its_labels}
+use Rattle.facet_model.proofs.Fronts.{weaker, knows_its_labels}
 use Rattle.facet_model.specs.Histories.{Operation, docs, knows, covers, never_falls, is_pair, are_publications}
 use Rattle.facet_model.specs.Core.{State, Refresh, Commit, with_index, with_labels_taken, publish_pair, with_publication, without_refresh, with_commit, without_commit}
 use Rattle.facet_model.specs.CoreStates.{Valid, is_at_least, operations_of, labels_of, are_labels_taken, is_good_refresh, is_good_index}

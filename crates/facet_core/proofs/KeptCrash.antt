@@ -11,7 +11,7 @@ use Rattle.facet_model.specs.Documents.{Doc}
 use Rattle.facet_model.specs.Histories.{Operation, docs, knows, covers}
 use Rattle.facet_model.specs.Core.{State, after_crash, with_crash}
 use Rattle.facet_model.specs.CoreStates.{Valid, is_good_index, is_kept}
-use Rattle.facet_core.proofs.Fronts.{weaker, take_less, among_more, own_stands}
+use Rattle.facet_model.proofs.Fronts.{weaker, take_less, among_more, own_stands}
 
 front_in_place : (labels : List (List (List ℕ))) (a n k : ℕ) (xs : List (List (List ℕ))) → k + n ≤ a → list_all (is_in_place labels) (enumerate_from k xs) ≡ true → list_all (is_in_place (take a labels)) (enumerate_from k (take n xs)) ≡ true
 front_in_place labels a zero k xs fits h = refl

@@ -8,7 +8,7 @@ use Rattle.std.proofs.lemmas.List.Folds.{list_all-append, list_all-map, list_any
 use Rattle.facet_model.specs.Histories.{covers}
 use Rattle.facet_model.specs.Core.{State, Commit, device_done, device_failed, labels_of_commit, with_device}
 use Rattle.facet_model.specs.CoreStates.{Valid, is_at_least, operations_of, are_labels_taken, is_good_index, is_good_commit, has_renamed, is_kept, is_same_pair, is_alone}
-use Rattle.facet_core.proofs.Fronts.{weaker}
+use Rattle.facet_model.proofs.Fronts.{weaker}
 use Rattle.facet_core.proofs.Kept.{map_push, itself, all_cover}
 
 push : {A : Type 0} (p : A → Bool) (xs : List A) (x : A) → list_all p xs ≡ true → p x ≡ true → list_all p (xs ++ x ∷ []) ≡ true

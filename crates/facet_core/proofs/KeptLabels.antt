@@ -12,7 +12,7 @@ use Rattle.facet_model.specs.Documents.{Doc}
 use Rattle.facet_model.specs.Histories.{Operation, docs, knows, covers, never_falls, is_pair}
 use Rattle.facet_model.specs.Core.{State, Refresh, Commit, with_label}
 use Rattle.facet_model.specs.CoreStates.{Valid, is_at_least, operations_of, labels_of, are_labels_taken, is_good_refresh, is_good_commit, is_good_index}
-use Rattle.facet_core.proofs.Fronts.{weaker, take_front}
+use Rattle.facet_model.proofs.Fronts.{weaker, take_front}
 
 -- ---- a longer list
 

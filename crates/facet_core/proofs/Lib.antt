@@ -1,5 +1,4 @@
 pub mod Roots
-pub mod Fronts
 pub mod Kept
 pub mod KeptLabels
 pub mod KeptOperations

@@ -3,3 +3,4 @@ pub mod Made
 pub mod Below
 pub mod Tops
 pub mod Cut
+pub mod Fronts
