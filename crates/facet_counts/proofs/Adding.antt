@@ -1,9 +1,9 @@
 -- One more list that is counted.
-use Rattle.std.proofs.Common.{◌≡◌, ◌≢◌, ℕ, suc, ◌+◌, ◌<◌, ◌≤◌, ◌⊎◌, Bool, true, false, ◌||◌, cond, List, [], ◌∷◌, ◌++◌, length, take, get_or, set, nat_eq, refl, sym, ap, subst, ◌∙◌, arith, rules, inl, inr}
+use Rattle.std.proofs.Common.{◌≡◌, ◌≢◌, ℕ, suc, ◌+◌, ◌<◌, ◌≤◌, ◌⊎◌, Bool, true, false, ◌||◌, cond, List, [], ◌∷◌, ◌++◌, length, take, drop, get_or, set, nat_eq, refl, sym, ap, subst, ◌∙◌, arith, rules, inl, inr}
 use Rattle.std.specs.Prelude.{count_by, All}
 use Rattle.std.specs.List.{list_any, AllPairs}
 use Rattle.std.proofs.lemmas.Bool.{cases_eq, cases_lt, eq-eqb, ne_eqb, eqb-true, false_from_ne_true}
-use Rattle.std.proofs.lemmas.List.{get_or-set_same, get_or-set_other, get_or-take, length-take-le, length_push, get_or_append_left, get_or_push}
+use Rattle.std.proofs.lemmas.List.{get_or-set_same, get_or-set_other, get_or-take, length-take-le, length_push, get_or_append_left, get_or_push, drop_more, length-drop, take_all}
 use Rattle.std.proofs.lemmas.List.Folds.{list_any_more}
 use Rattle.std.proofs.lemmas.List.Sums.{sum_by-cons}
 use Rattle.facet_counts.specs.Lists.{IsCounted, lists_at}
@@ -22,6 +22,17 @@ not_yet ords distinct k lt = false_from_ne_true (list_any (nat_eq (get_or ords k
         let found = place_of (nat_eq (get_or ords k 0)) (take k ords) 0 e in
         let low : found.0 < k = omega (arith, found.1) in
         distinct found.0 k 0 low lt (sym (get_or-take k ords found.0 0 low) ∙ sym (eqb-true (get_or ords k 0) (get_or (take k ords) found.0 0) found.2))
+
+-- what is left of a list begins with the element there
+pub next_left : (xs rest : List ℕ) (k x : ℕ) → k ≤ length xs → drop k xs ≡ x ∷ rest → (k < length xs) × (get_or xs k 0 ≡ x) × (rest ≡ drop (k + 1) xs)
+next_left xs rest k x le e =
+    let lt : k < length xs = omega (arith, ap length e, length-drop k xs) in
+    let both : get_or xs k 0 ∷ drop (k + 1) xs ≡ x ∷ rest = sym (drop_more xs k 0 lt) ∙ e in
+    (lt, cc, cc)
+
+-- all of a list is before a place where nothing is left
+pub none_left : (xs : List ℕ) (k : ℕ) → drop k xs ≡ [] → take k xs ≡ xs
+none_left xs k e = take_all k xs (omega (arith, ap length e, length-drop k xs))
 
 -- one more of the ordinals has been added
 pub added_next : (start counts ords : List ℕ) (k : ℕ) → AllPairs (λ a b. a ≡ b → ⊥) ords → k < length ords → get_or ords k 0 < length counts

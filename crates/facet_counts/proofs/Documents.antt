@@ -57,7 +57,7 @@ unbroken config labels at label fits = by (nat_le (length label) 1) refl (flags 
     by false e false true f false true fits = absurd cc
     by false e false true f false false fits = (leb-false (length label) 1 e, λ x. eqb-true (length label) 2 f, λ x. refl)
 
-each_unbroken : (config : Config) (doc : Doc) → Accepts config doc → (k : ℕ) → k < length doc.labels → (1 < length (get_or doc.labels k [])) × ((flags config (dim_of (get_or doc.labels k []))).hierarchical ≡ false → length (get_or doc.labels k []) ≡ 2) × ((flags config (dim_of (get_or doc.labels k []))).multi_valued ≡ false → list_any (λ l. bytes_eq (dim_of l) (dim_of (get_or doc.labels k []))) (take k doc.labels) ≡ false)
+pub each_unbroken : (config : Config) (doc : Doc) → Accepts config doc → (k : ℕ) → k < length doc.labels → (1 < length (get_or doc.labels k [])) × ((flags config (dim_of (get_or doc.labels k []))).hierarchical ≡ false → length (get_or doc.labels k []) ≡ 2) × ((flags config (dim_of (get_or doc.labels k []))).multi_valued ≡ false → list_any (λ l. bytes_eq (dim_of l) (dim_of (get_or doc.labels k []))) (take k doc.labels) ≡ false)
 each_unbroken config doc accepted k lt =
     let all : All (λ e. broken_at config doc.labels e ≡ None) (enumerate_from 0 doc.labels) = none_left (broken_at config doc.labels) (enumerate_from 0 doc.labels) accepted in
     let at : broken_at config doc.labels (get_or (enumerate_from 0 doc.labels) k (0, [])) ≡ None = all k (0, []) (omega (arith, length-enumerate_from 0 doc.labels)) in

@@ -7,6 +7,7 @@ use crate::counts::Counts;
 use crate::rolled::{roll, rolled_labels};
 use facet_config::FacetsConfig;
 use facet_names::NoMemory;
+use seg_postings::Ords;
 use std::alloc::Global;
 use std::marker::Model;
 use taxo_list::TaxoView;
@@ -33,14 +34,14 @@ impl<'a> Model for Counter<'a> {
 }
 
 // Adds one at each of these ordinals.
-fn add_each(counts: &mut [u32], ords: &[u32])
-    requires within { All (λ ord. ord < length counts.old) ords.now }
-    requires distinct { AllPairs (λ a b. a ≡ b → ⊥) ords.now }
+fn add_each(counts: &mut [u32], mut ords: Ords<'_>)
+    requires within { All (λ ord. ord < length counts.old) ords }
+    requires distinct { AllPairs (λ a b. a ≡ b → ⊥) ords }
     requires room { (ord : ℕ) → ord < length counts.old → slice_index_or counts.old ord 0 + 1 < 2 ^ 32 }
-    ensures { (ord : ℕ) → ord < length counts.old → slice_index_or counts.new ord 0 ≡ slice_index_or counts.old ord 0 + (if list_any (nat_eq ord) ords.now then 1 else 0) }
+    ensures { (ord : ℕ) → ord < length counts.old → slice_index_or counts.new ord 0 ≡ slice_index_or counts.old ord 0 + (if list_any (nat_eq ord) ords.entry then 1 else 0) }
 {
-    for ord in ords {
-        counts[*ord as usize] += 1;
+    while let Some(ord) = ords.next() {
+        counts[ord as usize] += 1;
     }
 }
 
@@ -69,10 +70,10 @@ impl<'a> Counter<'a> {
     }
 
     /// Counts a document, by its ordinals. Fewer than a million were counted before.
-    pub fn add_doc(&mut self, counted: &[u32])
-        requires counted { IsCounted self.old.config self.old.labels counted.now }
+    pub fn add_doc(&mut self, counted: Ords<'_>)
+        requires counted { IsCounted self.old.config self.old.labels counted }
         requires few { self.old.added < 1000000 }
-        ensures added { (lists : List (List ℕ)) → HasAdded self.old lists → HasAdded self.new (lists ++ counted.now ∷ []) }
+        ensures added { (lists : List (List ℕ)) → HasAdded self.old lists → HasAdded self.new (lists ++ counted.entry ∷ []) }
         ensures number { self.new.added ≡ self.old.added + 1 }
         ensures labels { self.new.labels ≡ self.old.labels }
         ensures config { self.new.config ≡ self.old.config }

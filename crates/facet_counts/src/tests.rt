@@ -2,11 +2,14 @@ ghost use Rattle.std.specs.Prelude.{◌≡◌, ◌<◌, ◌≤◌, true, length,
 ghost use Rattle.facet_names.specs.Labels.{above, stands};
 ghost use Rattle.facet_model.specs.Flags.{flags};
 ghost use Rattle.facet_counts.specs.Lists.{IsCounted, dim_at};
+ghost use Rattle.seg_postings.specs.Bytes.{AreNumbers};
 
 use crate::{AskFault, Counter, Counts, check_ask};
+use facet_codec::put_u32;
 use facet_config::FacetsConfig;
 use facet_model::{Ask, Child, DimFlags, FacetResult};
 use facet_names::{NoMemory, Path};
+use seg_postings::Ords;
 use std::alloc::Global;
 use std::process::Abort;
 use std::test::Fail;
@@ -103,6 +106,17 @@ fn may_be_added(view: &TaxoView, config: &FacetsConfig, ords: &[u32]) -> bool
     true
 }
 
+// The bytes of these ordinals.
+fn spelled(alloc: Global, ords: &[u32]) -> Result<Vec<u8>, facet_codec::NoMemory>
+    ensures { IfOk result (λ bytes. AreNumbers bytes.items ords.now) }
+{
+    let mut out = Vec::new(alloc);
+    for ord in ords {
+        put_u32(&mut out, *ord)?;
+    }
+    Ok(out)
+}
+
 // The counts of these lists.
 fn counts_of<'a>(
     rt: &impl Abort,
@@ -119,7 +133,8 @@ fn counts_of<'a>(
     for list in lists {
         let may = may_be_added(view, config, *list);
         assert!(rt; may);
-        counter.add_doc(*list);
+        let bytes = spelled(alloc, *list)?;
+        counter.add_doc(Ords::new(&bytes));
     }
     Ok(counter.roll_up())
 }

@@ -8,7 +8,7 @@ use Rattle.seg_postings.specs.Rising.{IsRising, from_place}
 use Rattle.seg_postings.specs.Steps.{IsFirstFrom}
 use Rattle.seg_postings.proofs.Order.{rising_get, rising_drop, from_drop}
 use Rattle.facet_codec.specs.Laws.{IsBelow}
-use Rattle.seg_postings.specs.Bytes.{bytes_of, place_of, places_of, ArePlaces, AreRisingPlaces}
+use Rattle.seg_postings.specs.Bytes.{bytes_of, place_of, places_of, ArePlaces, AreRisingPlaces, AreNumbers}
 
 -- the places that the bytes are
 abbrev pub places_in : List ℕ → List ℕ
@@ -29,6 +29,9 @@ places_back ps h =
 
 pub places_are : (bytes places : List ℕ) → ArePlaces bytes places → places_in bytes ≡ places
 places_are bytes places h = rw h.spelled (places_back places h.fit)
+
+pub numbers_are : (bytes numbers : List ℕ) → AreNumbers bytes numbers → places_in bytes ≡ numbers
+numbers_are bytes numbers h = rw h.spelled (places_back numbers h.fit)
 
 pub rising_in : (bytes : List ℕ) → AreRisingPlaces bytes → IsRising (places_in bytes)
 rising_in bytes h = rw (places_are bytes h.0 h.1) h.1.rise

@@ -27,3 +27,12 @@ pub record ArePlaces (bytes places : List ℕ) : Type 0 where
 -- the bytes are strictly rising places and nothing else
 abbrev pub AreRisingPlaces : List ℕ → Type 0
 AreRisingPlaces bytes = (places : List ℕ) × ArePlaces bytes places
+
+-- The bytes are these numbers, which fit, and nothing else.
+pub record AreNumbers (bytes numbers : List ℕ) : Type 0 where
+  pub spelled : bytes ≡ bytes_of numbers
+  pub fit : AllByRecursion (IsBelow (2 ^ 32)) numbers
+
+-- the bytes are numbers and nothing else
+abbrev pub IsOfNumbers : List ℕ → Type 0
+IsOfNumbers bytes = (numbers : List ℕ) × AreNumbers bytes numbers

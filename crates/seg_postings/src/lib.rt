@@ -5,6 +5,7 @@
 mod difference;
 mod intersection;
 pub mod laws;
+mod ords;
 mod peek;
 mod places;
 mod postings;
@@ -15,6 +16,7 @@ mod union;
 
 pub use difference::Difference;
 pub use intersection::Intersection;
+pub use ords::Ords;
 pub use places::Places;
 pub use postings::{Postings, PostingsCursor};
 pub use union::Union;

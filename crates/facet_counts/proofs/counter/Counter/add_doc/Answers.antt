@@ -14,11 +14,11 @@ invariant_of-self c =
     let value : c.deref_mut.result.now ≡ c.self.inside.counts.items = c.deref_mut.ensures.value in
     let size : length c.add_each.new.counts ≡ length c.self.inside.counts.items = omega (arith, ap length value) in
     let new : (with_items c.self.inside.counts c.add_each.new.counts).items ≡ c.add_each.new.counts = with_items_is c.self.inside.counts c.add_each.new.counts (omega (arith, size, c.self.inside.counts.ok.0)) in
-    let counted : IsCounted tally.config tally.labels c.args.counted.now = subst (λ (t : Tally). IsCounted t.config t.labels c.args.counted.now) (sym c.self.view_is) c.requires.counted in
+    let counted : IsCounted tally.config tally.labels c.args.counted = subst (λ (t : Tally). IsCounted t.config t.labels c.args.counted) (sym c.self.view_is) c.requires.counted in
     let few : c.self.inside.added < 1000000 = subst (λ (t : Tally). t.added < 1000000) (sym c.self.view_is) c.requires.few in
-    let plus : (i : ℕ) → i < length c.self.inside.view.now → get_or c.add_each.new.counts i 0 ≡ get_or c.self.inside.counts.items i 0 + cond (list_any (nat_eq i) c.args.counted.now) 1 0 =
-    λ i lt. c.add_each.ensures i (omega (arith, ap length value, c.self.invariant.sized)) ∙ ap (λ l. get_or l i 0 + cond (list_any (nat_eq i) c.args.counted.now) 1 0) value in
-    subst (λ own. IsCounter (record { labels = c.self.inside.view.now; config = c.self.inside.config.now; own = own; added = c.self.inside.added + 1 }) c.self.inside.rolled.items) (sym new) (counter_more tally c.self.inside.rolled.items c.self.invariant few c.add_each.new.counts c.args.counted.now size counted plus)
+    let plus : (i : ℕ) → i < length c.self.inside.view.now → get_or c.add_each.new.counts i 0 ≡ get_or c.self.inside.counts.items i 0 + cond (list_any (nat_eq i) c.args.counted) 1 0 =
+    λ i lt. c.add_each.ensures i (omega (arith, ap length value, c.self.invariant.sized)) ∙ ap (λ l. get_or l i 0 + cond (list_any (nat_eq i) c.args.counted) 1 0) value in
+    subst (λ own. IsCounter (record { labels = c.self.inside.view.now; config = c.self.inside.config.now; own = own; added = c.self.inside.added + 1 }) c.self.inside.rolled.items) (sym new) (counter_more tally c.self.inside.rolled.items c.self.invariant few c.add_each.new.counts c.args.counted size counted plus)
 
 pub returns-clause-added : goal.returns-clause-added
 returns-clause-added c = λ lists added.
@@ -26,7 +26,7 @@ returns-clause-added c = λ lists added.
     let value : c.deref_mut.result.now ≡ c.self.inside.counts.items = c.deref_mut.ensures.value in
     let size : length c.add_each.new.counts ≡ length c.self.inside.counts.items = omega (arith, ap length value) in
     let new : (with_items c.self.inside.counts c.add_each.new.counts).items ≡ c.add_each.new.counts = with_items_is c.self.inside.counts c.add_each.new.counts (omega (arith, size, c.self.inside.counts.ok.0)) in
-    let counted : IsCounted tally.config tally.labels c.args.counted.now = subst (λ (t : Tally). IsCounted t.config t.labels c.args.counted.now) (sym c.self.view_is) c.requires.counted in
-    let plus : (i : ℕ) → i < length c.self.inside.view.now → get_or c.add_each.new.counts i 0 ≡ get_or c.self.inside.counts.items i 0 + cond (list_any (nat_eq i) c.args.counted.now) 1 0 =
-    λ i lt. c.add_each.ensures i (omega (arith, ap length value, c.self.invariant.sized)) ∙ ap (λ l. get_or l i 0 + cond (list_any (nat_eq i) c.args.counted.now) 1 0) value in
-    subst (λ own. HasAdded (record { labels = c.self.inside.view.now; config = c.self.inside.config.now; own = own; added = c.self.inside.added + 1 }) (lists ++ c.args.counted.now ∷ [])) (sym new) (one_more_list tally c.add_each.new.counts c.args.counted.now counted plus lists (subst (λ t. HasAdded t lists) (sym c.self.view_is) added))
+    let counted : IsCounted tally.config tally.labels c.args.counted = subst (λ (t : Tally). IsCounted t.config t.labels c.args.counted) (sym c.self.view_is) c.requires.counted in
+    let plus : (i : ℕ) → i < length c.self.inside.view.now → get_or c.add_each.new.counts i 0 ≡ get_or c.self.inside.counts.items i 0 + cond (list_any (nat_eq i) c.args.counted) 1 0 =
+    λ i lt. c.add_each.ensures i (omega (arith, ap length value, c.self.invariant.sized)) ∙ ap (λ l. get_or l i 0 + cond (list_any (nat_eq i) c.args.counted) 1 0) value in
+    subst (λ own. HasAdded (record { labels = c.self.inside.view.now; config = c.self.inside.config.now; own = own; added = c.self.inside.added + 1 }) (lists ++ c.args.counted ∷ [])) (sym new) (one_more_list tally c.add_each.new.counts c.args.counted counted plus lists (subst (λ t. HasAdded t lists) (sym c.self.view_is) added))
