@@ -1,0 +1,5 @@
+mod Tables
+mod Noted
+mod Pieces
+pub mod TermLists
+pub mod DocPlaces

@@ -1,0 +1,36 @@
+use Rattle.std.proofs.Common.{rules, ◌≡◌, ℕ, ◌<◌, List, ◌∷◌, [], ◌++◌, ◌+◌, subst, sym, ap, ◌∙◌, arith, length, take, map, string_bytes}
+use Rattle.std.specs.Prelude.{codes, cond, nat_eq}
+use Rattle.std.specs.List.{range_with_len}
+use Rattle.std.proofs.lemmas.List.{length-take-le, take_more}
+use Rattle.std.proofs.lemmas.Option.{get_or_from_slice_get}
+use Rattle.facet_names.specs.Terms.{term_text, escaped}
+use Rattle.seg_terms.specs.Noting.{Table, AreNoted, path_terms}
+use Rattle.seg_terms.proofs.Noted.{noted_more, noted_none}
+use Rattle.seg_terms.proofs.Pieces.{one_more_prefix, longer_text}
+use Rattle.seg_terms.proofs.collector.TermCollector.note_label.Goals as goal
+
+pub loop-at-init : goal.loop-at-init
+unfolding term_text
+loop-at-init c = record { text = search rules; noted = noted_none c.args.place c.args.self.now.table }
+
+pub loop-at-preserved : goal.loop-at-preserved
+loop-at-preserved c =
+    let label = c.args.label.now in
+    let at = c.loop-at.at in
+    let part = c.part.result.now in
+    let within : at < length label = search rules in
+    let size : length (take at label) ≡ at = length-take-le at label (omega arith) in
+    let longer : take (at + 1) label ≡ take at label ++ part ∷ [] = take_more label at [] within ∙ ap (λ p. take at label ++ p ∷ []) (get_or_from_slice_get label at part [] c.part.ensures.part) in
+    let end : List ℕ = cond (nat_eq at 0) (escaped part) (31 ∷ escaped part) in
+    let text : string_bytes c.push_part.new.text ≡ codes "f" ++ term_text (take (at + 1) label) =
+    c.in_ok-push_part.ensures
+    ∙ ap (λ t. t ++ end) c.loop-at.invariant.text
+    ∙ ap (λ t. 102 ∷ t) (longer_text (take at label) part at size)
+    ∙ ap (λ ps. 102 ∷ term_text ps) (sym longer) in
+    let term : c.as_str.result.now ≡ codes "f" ++ term_text (take (at + 1) label) = c.as_str.ensures.value ∙ text in
+    let before : Table = c.loop-at.self.table in
+    let last : AreNoted c.args.place ((codes "f" ++ term_text (take (at + 1) label)) ∷ []) before c.note.new.self = subst (λ t. AreNoted c.args.place (t ∷ []) before c.note.new.self) term c.in_ok-note.ensures in
+    record {
+      text = text;
+      noted = subst (λ ts. AreNoted c.args.place ts c.args.self.now.table c.note.new.self) (sym (one_more_prefix label at)) (noted_more c.args.place (path_terms (map (λ n. take n label) (range_with_len 1 at))) ((codes "f" ++ term_text (take (at + 1) label)) ∷ []) c.args.self.now.table before c.note.new.self c.loop-at.invariant.noted last);
+    }

@@ -1,0 +1,7 @@
+use Rattle.std.proofs.Common.{◌≡◌, ℕ, List, map, take}
+use Rattle.seg_terms.specs.Noting.{found}
+use Rattle.seg_terms.specs.Laws.{term_places}
+use Rattle.seg_terms.proofs.term_places.terms_of.Given as goal
+
+abbrev pub invariant-loop-place : goal.invariant-loop-place
+invariant-loop-place l = (t : List ℕ) → found l.collector.table t ≡ term_places (map (λ e. e.doc) (take l.place l.entries)) t

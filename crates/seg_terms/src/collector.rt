@@ -1,0 +1,122 @@
+ghost use Rattle.std.specs.Prelude.{◌≡◌, ℕ, ◌<◌, List, [], ◌∷◌, map, flat_map, position, string_bytes, IfOk, OnOk};
+ghost use Rattle.std.specs.List.{slice_split};
+ghost use Rattle.std.specs.List.Sorted.{IsStrictlySortedBy};
+ghost use Rattle.std.specs.Map.{keys_of};
+ghost use Rattle.std.specs.Str.{IsUtf8};
+ghost use Rattle.facet_names.specs.Labels.{prefixes};
+ghost use Rattle.facet_model.specs.Words.{is_blank, word_cmp};
+ghost use Rattle.facet_model.specs.Terms.{doc_terms};
+ghost use Rattle.seg_terms.specs.Noting.{found, AreNoted, piece_terms, path_terms};
+ghost use Rattle.seg_terms.specs.Places.{term_view};
+
+use crate::escaping::push_part;
+use crate::table::TermTable;
+use crate::term_places::TermPlaces;
+use facet_model::Document;
+use facet_names::{NoMemory, Path};
+use std::alloc::Global;
+
+/// Collects the terms of documents. The text of each term is made in one buffer, so a term that is known takes no memory.
+#[derive(Drop)]
+pub struct TermCollector {
+    table: TermTable,
+    term: String,
+}
+
+// A space, a tab, a carriage return or a line feed.
+fn is_blank(byte: u8) -> bool
+    ensures { result ≡ is_blank byte }
+{
+    matches!(byte, b' ' | b'\t' | b'\r' | b'\n')
+}
+
+// Where the first blank stands.
+fn word_end(text: &[u8]) -> Option<usize>
+    ensures { result ≡ position is_blank text.now }
+{
+    text.iter().position(|byte| is_blank(*byte))
+}
+
+impl TermCollector {
+    /// No term.
+    pub fn new(alloc: Global) -> TermCollector
+        ensures { result.table ≡ [] }
+    {
+        TermCollector {
+            table: TermTable::new(alloc),
+            term: String::new(alloc),
+        }
+    }
+
+    // A piece that has no byte is no word.
+    fn note_word(&mut self, word: &[u8], place: u32) -> Result<(), NoMemory>
+        requires { IsUtf8 word.now }
+        ensures { OnOk result (AreNoted place (piece_terms (word.now ∷ [])) self.old.table self.new.table) }
+    {
+        if word.is_empty() {
+            return Ok(());
+        }
+        let word = unsafe { str::from_utf8_unchecked(word) };
+        self.term.clear();
+        self.term.push('w')?;
+        self.term.push_str(word)?;
+        self.table.note(self.term.as_str(), place)
+    }
+
+    // The text has small letters alone.
+    fn note_words(&mut self, text: &str, place: u32) -> Result<(), NoMemory>
+        ensures { OnOk result (AreNoted place (piece_terms (slice_split is_blank text.now)) self.old.table self.new.table) }
+    {
+        let mut rest = text.as_bytes();
+        while let Some(end) = word_end(rest) {
+            self.note_word(&rest[..end], place)?;
+            let (_, after) = rest.split_at(end + 1);
+            rest = after;
+        }
+        self.note_word(rest, place)
+    }
+
+    // Each prefix goes on from the one before it.
+    fn note_label(&mut self, label: &Path, place: u32) -> Result<(), NoMemory>
+        ensures { OnOk result (AreNoted place (path_terms (prefixes label.now)) self.old.table self.new.table) }
+    {
+        self.term.clear();
+        self.term.push('f')?;
+        for at in 0..label.len() {
+            push_part(&mut self.term, at, label.part(at))?;
+            self.table.note(self.term.as_str(), place)?;
+        }
+        Ok(())
+    }
+
+    fn note_labels(&mut self, labels: &[Path], place: u32) -> Result<(), NoMemory>
+        ensures { OnOk result (AreNoted place (path_terms (flat_map prefixes labels.now)) self.old.table self.new.table) }
+    {
+        for label in labels {
+            self.note_label(label, place)?;
+        }
+        Ok(())
+    }
+
+    /// Notes the place under each term of a document. It takes memory for a copy of the text in small letters, which it gives back.
+    pub fn note_document(
+        &mut self,
+        alloc: Global,
+        doc: &Document,
+        place: u32,
+    ) -> Result<(), NoMemory>
+        ensures { OnOk result (AreNoted place (doc_terms doc.now) self.old.table self.new.table) }
+    {
+        let lowered = doc.text().to_ascii_lowercase(alloc)?;
+        self.note_words(lowered.as_str(), place)?;
+        self.note_labels(doc.facets(), place)
+    }
+
+    /// The terms with their places, sorted by the terms' bytes.
+    pub fn into_sorted(self, alloc: Global) -> Result<Vec<TermPlaces>, NoMemory>
+        ensures rising { IfOk result (λ v. IsStrictlySortedBy word_cmp (keys_of (map term_view v.items))) }
+        ensures same { IfOk result (λ v. (t : List ℕ) → found (map term_view v.items) t ≡ found self.table t) }
+    {
+        self.table.into_sorted(alloc)
+    }
+}

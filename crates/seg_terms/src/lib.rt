@@ -1,0 +1,15 @@
+//! What a segment stores of documents, and their terms, each with the places of the documents that have it.
+#![tactic(auto)]
+
+mod collector;
+mod entry;
+mod escaping;
+mod laws;
+mod table;
+mod term_places;
+#[cfg(test)]
+mod tests;
+
+pub use entry::Entry;
+pub use laws::{terms_are_found, terms_rise};
+pub use term_places::{TermPlaces, terms_of};

@@ -1,0 +1,85 @@
+ghost use Rattle.std.specs.Prelude.{◌≡◌, ℕ, List, [], ◌∷◌, None, map, IfOk, OnOk};
+ghost use Rattle.std.specs.List.Sorted.{IsStrictlySortedBy};
+ghost use Rattle.std.specs.Map.{keys_of};
+ghost use Rattle.facet_model.specs.Words.{word_cmp};
+ghost use Rattle.seg_terms.specs.Noting.{put_place, found, AreNoted};
+ghost use Rattle.seg_terms.specs.Places.{term_view};
+
+use crate::term_places::TermPlaces;
+use facet_names::NoMemory;
+use indexmap::IndexMap;
+use std::alloc::Global;
+use std::marker::Model;
+
+/// Terms with the places of the documents that have them, found by hash.
+#[derive(Drop)]
+pub struct TermTable {
+    terms: IndexMap<String, Vec<u32>>,
+}
+
+impl Model for TermTable {
+    ghost use Rattle.seg_terms.specs.Noting.{Table, table_of};
+
+    ghost Value = { Table };
+
+    ghost view = { λ t. table_of t.terms.entries };
+}
+
+// Puts a place behind the others, where it isn't the last one.
+fn put_place(places: &mut Vec<u32>, place: u32) -> Result<(), NoMemory>
+    ensures { OnOk result (places.new.items ≡ put_place places.old.items place) }
+{
+    if let Some(last) = places.last() {
+        if *last == place {
+            return Ok(());
+        }
+    }
+    places.push(place)?;
+    Ok(())
+}
+
+impl TermTable {
+    /// No term.
+    pub fn new(alloc: Global) -> TermTable
+        ensures { result ≡ [] }
+    {
+        TermTable {
+            terms: IndexMap::new(alloc),
+        }
+    }
+
+    /// Notes a place under a term. It takes memory for the term's text where the term is new, and for the places where they grow.
+    pub fn note(&mut self, term: &str, place: u32) -> Result<(), NoMemory>
+        ensures { OnOk result (AreNoted place (term.now ∷ []) self.old self.new) }
+    {
+        if let Some(places) = self.terms.get_mut(term) {
+            return put_place(places, place);
+        }
+        self.add(term, place)
+    }
+
+    // Adds a term that is not there.
+    fn add(&mut self, term: &str, place: u32) -> Result<(), NoMemory>
+        requires { found self.old term.now ≡ None }
+        ensures { OnOk result (AreNoted place (term.now ∷ []) self.old self.new) }
+    {
+        let alloc = *self.terms.allocator();
+        let mut places = Vec::new(alloc);
+        places.push(place)?;
+        self.terms.insert(String::from_str(alloc, term)?, places)?;
+        Ok(())
+    }
+
+    /// The terms with their places, sorted by the terms' bytes.
+    pub fn into_sorted(mut self, alloc: Global) -> Result<Vec<TermPlaces>, NoMemory>
+        ensures rising { IfOk result (λ v. IsStrictlySortedBy word_cmp (keys_of (map term_view v.items))) }
+        ensures same { IfOk result (λ v. (t : List ℕ) → found (map term_view v.items) t ≡ found self t) }
+    {
+        self.terms.sort_keys()?;
+        let mut sorted = Vec::with_capacity(alloc, self.terms.len())?;
+        for (term, places) in self.terms {
+            sorted.push(TermPlaces { term, places })?;
+        }
+        Ok(sorted)
+    }
+}

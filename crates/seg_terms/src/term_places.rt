@@ -1,0 +1,33 @@
+ghost use Rattle.std.specs.Prelude.{◌≡◌, ◌≤◌, length, map, IfOk};
+ghost use Rattle.facet_model.specs.Terms.{terms_of};
+ghost use Rattle.seg_terms.specs.Places.{term_view};
+
+use crate::collector::TermCollector;
+use crate::entry::Entry;
+use facet_names::NoMemory;
+use std::alloc::Global;
+
+/// A term, and the places of the documents that have it, rising.
+#[derive(Debug, Drop)]
+pub struct TermPlaces {
+    /// The term: `w` and a word, or `f` and the text of a drill-down term.
+    pub term: String,
+    /// The places, rising.
+    pub places: Vec<u32>,
+}
+
+/// The terms of documents, rising by their bytes, each once and with the places of the documents that have it, as the terms that Lucene's
+/// `FacetsConfig.build` and an analysed text field index.
+///
+/// It goes over the documents once, looks each term up by hash, and takes memory for each different term alone and for its places. In the end
+/// the terms are sorted.
+pub fn terms_of(alloc: Global, entries: &[Entry]) -> Result<Vec<TermPlaces>, NoMemory>
+    requires few { length entries.now ≤ 1000000 }
+    ensures { IfOk result (λ v. map term_view v.items ≡ terms_of (map (λ e. e.doc) entries.now)) }
+{
+    let mut collector = TermCollector::new(alloc);
+    for (place, entry) in entries.iter().enumerate() {
+        collector.note_document(alloc, &entry.doc, place as u32)?;
+    }
+    collector.into_sorted(alloc)
+}
