@@ -1,0 +1,3 @@
+mod Puts
+mod Facts
+mod Limits

@@ -1,0 +1,10 @@
+//! Writing documents and their terms as the bytes of a segment, format 1.
+#![tactic(auto)]
+
+mod records;
+mod terms;
+#[cfg(test)]
+mod tests;
+mod writing;
+
+pub use writing::{Written, write_segment};
