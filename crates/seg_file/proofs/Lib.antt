@@ -1,0 +1,5 @@
+pub mod AtFront
+pub mod Marks
+pub mod Parts
+pub mod Search
+pub mod Opened

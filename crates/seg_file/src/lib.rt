@@ -1,0 +1,12 @@
+//! Stored segments: documents and their terms as bytes, format 1, which are read where they stand, as Lucene's segments are.
+#![tactic(auto)]
+
+mod fronts;
+mod segment;
+#[cfg(test)]
+mod tests;
+
+pub use seg_grammar::SegFault;
+pub use seg_postings::Ords;
+pub use seg_terms::Entry;
+pub use segment::Segment;

@@ -1,0 +1,212 @@
+ghost use Rattle.std.specs.Prelude.{◌≡◌, ◌≤◌, ◌<◌, ℕ, List, map, length, IfOk, IfErr, MatchResult, None};
+ghost use Rattle.facet_model.specs.Stored.{Records};
+ghost use Rattle.facet_model.specs.Terms.{terms_of};
+ghost use Rattle.seg_terms.specs.Entries.{stored_of};
+ghost use Rattle.seg_grammar.specs.declared.fault.SegFault.TheVariants.{NoMemory as Memory};
+ghost use Rattle.seg_grammar.specs.Spelling.{IsSegment, seg_bytes, TermsRise};
+ghost use Rattle.seg_grammar.specs.Reading.{Fails, segment_at};
+ghost use Rattle.seg_grammar.specs.Lookups.{record_of, places_of_term};
+ghost use Rattle.seg_file.specs.Fronts.{BeginsRecord, BeginsCounted, BeginsTerm};
+ghost use Rattle.seg_file.specs.Search.{term_of, IsFirstFrom};
+
+use crate::fronts::{list_front, places_front, text_front};
+use facet_codec::Cursor;
+use facet_names::NoMemory;
+use seg_grammar::{Index, SegFault, read_index};
+use seg_postings::{Ords, Postings};
+use seg_terms::{Entry, terms_of};
+use seg_writing::write_segment;
+use std::alloc::Global;
+use std::marker::Model;
+
+/// Documents and their terms, as bytes that are read where they stand. Beside the bytes it keeps where their parts begin, 16 bytes a document and 8 a
+/// term. No reader copies or takes memory.
+#[derive(Drop)]
+pub struct Segment {
+    bytes: Vec<u8>,
+    index: Index,
+}
+
+impl Model for Segment {
+    ghost use Rattle.facet_model.specs.Stored.{Records};
+    ghost use Rattle.seg_file.specs.Decoded.{decoded, IsIndexed};
+
+    ghost Value = { Records };
+
+    ghost view = { λ s. decoded s.bytes.items };
+
+    ghost invariant = { λ s. IsIndexed (decoded s.bytes.items) s.bytes.items s.index };
+}
+
+impl Segment {
+    /// The segment of documents and their terms: the records in their order, and each term once. It takes memory for the bytes, and in between for the
+    /// terms with their places. Beside a refused allocation it answers that there is no memory where there would be 2^32 terms or more, which the format
+    /// cannot number.
+    pub fn build(alloc: Global, entries: &[Entry]) -> Result<Segment, NoMemory>
+        requires some { 0 < length entries.now }
+        requires few { length entries.now ≤ 1000000 }
+        ensures { IfOk result (λ s. s ≡ record { records = map stored_of entries.now; terms = terms_of (map (λ e. e.doc) entries.now) }) }
+    {
+        let terms = terms_of(alloc, entries)?;
+        let written = write_segment(alloc, entries, &terms)?;
+        Ok(Segment {
+            bytes: written.bytes,
+            index: written.index,
+        })
+    }
+
+    /// The segment that the bytes are. They are read once from left to right, and kept.
+    pub fn open(alloc: Global, bytes: Vec<u8>) -> Result<Segment, SegFault>
+        ensures found { IfOk result (λ s. IsSegment bytes.items s) }
+        ensures only { (r : Records) → IsSegment bytes.items r → MatchResult result (λ s. s ≡ r) (λ e. e ≡ Memory) }
+        ensures fault { IfErr result (λ e. Fails e (segment_at bytes.items)) }
+    {
+        let index = read_index(alloc, &bytes)?;
+        Ok(Segment { bytes, index })
+    }
+
+    /// The bytes.
+    pub fn bytes(&self) -> &[u8]
+        ensures { result.now ≡ seg_bytes self.now }
+    {
+        self.bytes.as_slice()
+    }
+
+    /// How many documents there are, 1 to 1,000,000.
+    pub fn docs(&self) -> u32
+        ensures number { result ≡ length self.now.records }
+        ensures is { IsSegment (seg_bytes self.now) self.now }
+    {
+        self.index.records.len() as u32
+    }
+
+    /// The id of a document.
+    pub fn id(&self, doc: u32) -> &str
+        requires { doc < length self.now.records }
+        ensures { result.now ≡ (record_of self.now doc).id }
+    {
+        let mut cursor = self.record(doc);
+        text_front(&mut cursor)
+    }
+
+    /// The text of a document.
+    pub fn text(&self, doc: u32) -> &str
+        requires { doc < length self.now.records }
+        ensures { result.now ≡ (record_of self.now doc).text }
+    {
+        let mut cursor = self.record(doc);
+        text_front(&mut cursor);
+        text_front(&mut cursor)
+    }
+
+    /// The ordinals of a document's labels, in the order given.
+    pub fn leaves(&self, doc: u32) -> Ords<'_>
+        requires { doc < length self.now.records }
+        ensures { result ≡ (record_of self.now doc).leaves }
+    {
+        let mut cursor = self.record(doc);
+        text_front(&mut cursor);
+        text_front(&mut cursor);
+        list_front(&mut cursor)
+    }
+
+    /// The ordinals that are counted for a document, rising, at most 8,192. It goes straight to them.
+    pub fn counted(&self, doc: u32) -> Ords<'_>
+        requires { doc < length self.now.records }
+        ensures { result ≡ (record_of self.now doc).counted }
+    {
+        let mut cursor = self.counted_list(doc);
+        list_front(&mut cursor)
+    }
+
+    /// The documents that have a term, rising, or None exactly where there is no such term. It bisects, so it looks at about the logarithm of the number
+    /// of terms.
+    pub fn postings(&self, term: &str) -> Option<Postings<'_>>
+        ensures { result ≡ places_of_term self.now.terms term.now }
+    {
+        let at = self.first_from(term);
+        if at == self.terms() {
+            return None;
+        }
+        if self.term_text(at) != term {
+            return None;
+        }
+        Some(self.places(at))
+    }
+
+    // How many terms there are.
+    fn terms(&self) -> usize
+        ensures number { result ≡ length self.now.terms }
+        ensures rise { TermsRise None self.now.terms }
+    {
+        self.index.terms.len()
+    }
+
+    // How many terms come before the text.
+    fn first_from(&self, text: &str) -> usize
+        ensures first { IsFirstFrom text.now self.now.terms result result }
+        ensures within { result ≤ length self.now.terms }
+        ensures rise { TermsRise None self.now.terms }
+    {
+        let mut low = 0;
+        let mut high = self.terms();
+        while low < high {
+            let middle = low + (high - low) / 2;
+            if self.term_text(middle) < text {
+                low = middle + 1;
+            } else {
+                high = middle;
+            }
+        }
+        low
+    }
+
+    // The text of a term.
+    fn term_text(&self, at: usize) -> &str
+        requires { at < length self.now.terms }
+        ensures { result.now ≡ (term_of self.now.terms at).0 }
+    {
+        let mut cursor = self.term(at);
+        text_front(&mut cursor)
+    }
+
+    // The places of a term.
+    fn places(&self, at: usize) -> Postings<'_>
+        requires { at < length self.now.terms }
+        ensures { result ≡ (term_of self.now.terms at).1 }
+    {
+        let mut cursor = self.term(at);
+        text_front(&mut cursor);
+        places_front(&mut cursor)
+    }
+
+    // A cursor at a term.
+    fn term(&self, at: usize) -> Cursor<'_>
+        requires { at < length self.now.terms }
+        ensures { BeginsTerm (length self.now.records) result.rest (term_of self.now.terms at) }
+    {
+        let at = self.index.terms[at];
+        let (_, rest) = self.bytes.as_slice().split_at(at);
+        Cursor::new(rest)
+    }
+
+    // A cursor at a record.
+    fn record(&self, doc: u32) -> Cursor<'_>
+        requires { doc < length self.now.records }
+        ensures { BeginsRecord result.rest (record_of self.now doc) }
+    {
+        let at = self.index.records[doc as usize];
+        let (_, rest) = self.bytes.as_slice().split_at(at);
+        Cursor::new(rest)
+    }
+
+    // A cursor at the counted ordinals of a record.
+    fn counted_list(&self, doc: u32) -> Cursor<'_>
+        requires { doc < length self.now.records }
+        ensures { BeginsCounted result.rest (record_of self.now doc) }
+    {
+        let at = self.index.counted[doc as usize];
+        let (_, rest) = self.bytes.as_slice().split_at(at);
+        Cursor::new(rest)
+    }
+}
