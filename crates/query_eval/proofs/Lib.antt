@@ -1,0 +1,6 @@
+pub mod Marks
+pub mod Found
+pub mod Chosen
+pub mod Trees
+pub mod Words
+pub mod Paths

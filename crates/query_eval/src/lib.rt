@@ -1,0 +1,12 @@
+//! Which documents of a segment match a query or a drill-down, place by place, as Lucene's `Query` and `DrillDownQuery` over one leaf of an index.
+#![tactic(auto)]
+
+mod drill;
+mod plan;
+mod query;
+mod sets;
+mod terms;
+
+pub use drill::{has_path, paths_node};
+pub use plan::Plan;
+pub use query::query_node;

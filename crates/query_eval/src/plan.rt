@@ -1,0 +1,61 @@
+ghost use Rattle.std.specs.Prelude.{◌≡◌, ◌≤◌, List, ℕ, Some, IfOk, slice_get};
+ghost use Rattle.facet_model.specs.Documents.{Doc};
+ghost use Rattle.facet_model.specs.CountedPaths.{places};
+ghost use Rattle.facet_model.specs.Queries.{QueryTree, matches};
+ghost use Rattle.facet_model.specs.QueryViews.{query_view};
+ghost use Rattle.seg_postings.specs.Rising.{IsRising, IsNext, is_in, from_place};
+ghost use Rattle.query_eval.specs.Segments.{HasTermsOf};
+
+use crate::query::query_node;
+use facet_model::Query;
+use facet_names::NoMemory;
+use plan_places::{PlanNode, PlanPlaces};
+use seg_file::Segment;
+use seg_postings::Places;
+use std::alloc::Global;
+use std::marker::Model;
+
+/// The documents of one segment that match a query, place by place, as Lucene's `Scorer`.
+///
+/// It takes memory when it is made, for each part of the query, and none afterwards. A list of places is walked from left to right once.
+#[derive(Drop)]
+pub struct Plan<'a> {
+    places: PlanPlaces<'a>,
+}
+
+impl<'a> Model for Plan<'a> {
+    ghost use Rattle.std.specs.Prelude.{List, ℕ};
+
+    ghost Value = { List ℕ };
+
+    ghost view = { λ p. p.places };
+}
+
+impl<'a> Plan<'a> {
+    /// The places of all documents that match.
+    pub fn new(alloc: Global, segment: &'a Segment, query: &Query) -> Result<Plan<'a>, NoMemory>
+        ensures { IfOk result (λ p. (docs : List Doc) → HasTermsOf segment.now docs → p ≡ places (matches (query_view query.now)) docs) }
+    {
+        let node = query_node(alloc, segment, query)?;
+        Ok(Plan {
+            places: PlanPlaces::new(node),
+        })
+    }
+
+    /// The next place left. None comes at the end alone.
+    pub fn next(&mut self) -> Option<u32>
+        ensures rising { IsRising self.old }
+        ensures next { IsNext result self.old self.new }
+    {
+        self.places.next()
+    }
+
+    /// Whether the document at a place matches, where no place behind it was asked for before. All before it are passed, and it is not.
+    pub fn matches(&mut self, doc: u32) -> bool
+        ensures has { result ≡ is_in doc self.old }
+        ensures left { self.new ≡ from_place doc self.old }
+        ensures matches { (query : QueryTree) (docs : List Doc) (first : ℕ) (at : Doc) → self.old ≡ from_place first (places (matches query) docs) → first ≤ doc → slice_get docs doc ≡ Some at → result ≡ matches query at }
+    {
+        self.places.has(doc)
+    }
+}
