@@ -1,0 +1,169 @@
+-- Nodes all of which a document has to have, one dimension of a drill after the other.
+use Rattle.std.proofs.Common.{◌≡◌, ℕ, zero, suc, ◌+◌, ◌-◌, ◌<◌, Bool, true, false, List, [], ◌∷◌, ◌++◌, length, take, get_or, Option, Some, None, refl, sym, ap, subst, ◌∙◌, arith}
+use Rattle.std.specs.Prelude.{◌||◌, ◌&&◌, not, slice_get, unwrap_or}
+use Rattle.std.specs.List.{list_any, list_all, range_with_len, All, AllByRecursion}
+use Rattle.std.specs.Option.{option_map_or}
+use Rattle.std.specs.Str.{bytes_eq}
+use Rattle.std.specs.Cmp.Lexicographic.{bytes_decides}
+use Rattle.std.proofs.lemmas.List.Elements.{All-nil, All-cons}
+use Rattle.std.proofs.lemmas.List.Folds.{list_all-append}
+use Rattle.std.proofs.lemmas.List.{take_more}
+use Rattle.std.proofs.lemmas.Option.{get_or_from_slice_get, slice_get_read}
+use Rattle.facet_model.specs.CountedPaths.{places}
+use Rattle.facet_model.specs.Documents.{Doc, dim_of}
+use Rattle.facet_model.specs.Hits.{passes}
+use Rattle.facet_model.specs.Stored.{Records}
+use Rattle.plan_places.specs.Planned.{Planned, any_of, all_have}
+use Rattle.query_eval.proofs.Marks.{at, rising_places, is_in_places, are_places, all_from_place}
+use Rattle.seg_postings.specs.Rising.{IsRising, is_in}
+use Rattle.sideways.specs.Counted.{AreAllOf, AreWithin, left_of, is_lifted, passes_each, is_again, is_first}
+
+-- no node, where every document passes
+pub none_all : (docs : List Doc) → AreAllOf docs (λ doc. true) []
+none_all docs = record { each = tt; have = λ n doc there. refl }
+
+pub same_all : (docs : List Doc) (f g : Doc → Bool) (nodes : List Planned) → ((doc : Doc) → f doc ≡ g doc) → AreAllOf docs f nodes → AreAllOf docs g nodes
+same_all docs f g nodes same all = record { each = all.each; have = λ n doc there. all.have n doc there ∙ same doc }
+
+-- one node more
+all_have_more : (n : ℕ) (nodes : List Planned) (p : Planned) → all_have n (nodes ++ p ∷ []) ≡ (all_have n nodes && is_in n p.left)
+all_have_more n [] p = and_true (is_in n p.left)
+  where
+    and_true : (b : Bool) → (b && true) ≡ b
+    and_true true = refl
+    and_true false = refl
+all_have_more n (q ∷ qs) p = ap (λ b. is_in n q.left && b) (all_have_more n qs p) ∙ grouped (is_in n q.left) (all_have n qs) (is_in n p.left)
+  where
+    grouped : (a b c : Bool) → (a && (b && c)) ≡ ((a && b) && c)
+    grouped true b c = refl
+    grouped false b c = refl
+
+each_more : (P : Planned → Type 0) (nodes : List Planned) (p : Planned) → AllByRecursion P nodes → P p → AllByRecursion P (nodes ++ p ∷ [])
+each_more P [] p all here = (here, tt)
+each_more P (q ∷ qs) p all here = (all.0, each_more P qs p all.1 here)
+
+pub push_all : (docs : List Doc) (test f : Doc → Bool) (nodes : List Planned) (p : Planned) → AreAllOf docs test nodes → p.left ≡ places f docs → AreAllOf docs (λ doc. test doc && f doc) (nodes ++ p ∷ [])
+push_all docs test f nodes p all is = record {
+  each = each_more (λ q. (other : Doc → Bool) × (q.left ≡ places other docs)) nodes p all.each (f, is);
+  have = λ n doc there. all_have_more n nodes p ∙ (λ i. all.have n doc there i && (ap (is_in n) is ∙ is_in_places n f docs ∙ ap (λ o. option_map_or f o false) there) i);
+}
+
+-- ---- the places of the documents that pass
+
+-- what passes alike has the same places
+same_on : (docs : List Doc) (f g : Doc → Bool) → ((n : ℕ) (doc : Doc) → slice_get docs n ≡ Some doc → f doc ≡ g doc) → places f docs ≡ places g docs
+same_on docs f g same = are_places g docs (places f docs) (rising_places f docs) (λ n. is_in_places n f docs ∙ by n (slice_get docs n) refl)
+  where
+    by : (n : ℕ) (o : Option Doc) → slice_get docs n ≡ o → at f docs n ≡ at g docs n
+    by n None e = rw e refl
+    by n (Some doc) e = rw e (same n doc e)
+
+pub all_pass : (docs : List Doc) (test : Doc → Bool) → AreAllOf docs test [] → range_with_len 0 (length docs) ≡ places test docs
+all_pass docs test all = all_from_place 0 docs ∙ same_on docs (λ doc. true) test (λ n doc there. all.have n doc there)
+
+pub each_rises : (docs : List Doc) (nodes : List Planned) → AllByRecursion (λ p. (other : Doc → Bool) × (p.left ≡ places other docs)) nodes → All (λ p. IsRising p.left) nodes
+each_rises docs [] all = All-nil (λ (p : Planned). IsRising p.left)
+each_rises docs (p ∷ ps) all = All-cons (λ (q : Planned). IsRising q.left) p ps (subst IsRising (sym all.0.1) (rising_places all.0.0 docs)) (each_rises docs ps all.1)
+
+-- where no document stands, no node has the place
+none_past : (docs : List Doc) (n : ℕ) (nodes : List Planned) → 0 < length nodes → slice_get docs n ≡ None → AllByRecursion (λ p. (other : Doc → Bool) × (p.left ≡ places other docs)) nodes → all_have n nodes ≡ false
+none_past docs n [] some none all = absurd (omega arith)
+none_past docs n (p ∷ ps) some none all = ap (λ b. b && all_have n ps) (ap (is_in n) all.0.1 ∙ is_in_places n all.0.0 docs ∙ ap (λ o. option_map_or all.0.0 o false) none)
+
+pub all_left : (docs : List Doc) (test : Doc → Bool) (nodes : List Planned) (xs : List ℕ) → 0 < length nodes → AreAllOf docs test nodes
+    → ((n : ℕ) → is_in n xs ≡ (all_have n nodes && not (is_in n (any_of [])))) → (All (λ p. IsRising p.left) nodes → IsRising xs) → xs ≡ places test docs
+all_left docs test nodes xs some all members rises = are_places test docs xs (rises (each_rises docs nodes all.each)) (λ n. members n ∙ and_true (all_have n nodes) ∙ by n (slice_get docs n) refl)
+  where
+    and_true : (b : Bool) → (b && true) ≡ b
+    and_true true = refl
+    and_true false = refl
+
+    by : (n : ℕ) (o : Option Doc) → slice_get docs n ≡ o → all_have n nodes ≡ at test docs n
+    by n None e = rw (none_past docs n nodes some e all.each, e) refl
+    by n (Some doc) e = rw e (all.have n doc e)
+
+pub within_docs : (segment : Records) (docs : List Doc) (test : Doc → Bool) (left : List ℕ) → length segment.records ≡ length docs → left ≡ places test docs → AreWithin segment left
+within_docs segment docs test left long is = record { rising = subst IsRising (sym is) (rising_places test docs); within = λ n among. within n (sym (is_in_places n test docs) ∙ ap (is_in n) (sym is) ∙ among) }
+  where
+    past : (n : ℕ) (xs : List Doc) → at test xs n ≡ true → n < length xs
+    past n [] among = absurd cc
+    past zero (x ∷ xs) among = omega arith
+    past (suc n) (x ∷ xs) among = omega (arith, past n xs among)
+
+    within : (n : ℕ) → at test docs n ≡ true → n < length segment.records
+    within n among = omega (arith, past n docs among, long)
+
+-- ---- the dimensions of a drill
+
+module _ (drill : List (List (List ℕ))) (lift : Option (List ℕ)) where
+  -- it passes the dimension of the path, or that is lifted
+  abbrev pub one_of : Doc → List (List ℕ) → Bool
+  one_of doc path = is_lifted lift (dim_of path) || passes doc drill (dim_of path)
+
+  each_to : (doc : Doc) (i : ℕ) → i < length drill → passes_each drill lift (take (i + 1) drill) doc ≡ (passes_each drill lift (take i drill) doc && one_of doc (get_or drill i []))
+  each_to doc i lt = ap (list_all (one_of doc)) (take_more drill i [] lt) ∙ list_all-append (one_of doc) (take i drill) (get_or drill i [] ∷ []) ∙ ap (λ b. passes_each drill lift (take i drill) doc && b) (and_true (one_of doc (get_or drill i [])))
+    where
+      and_true : (b : Bool) → (b && true) ≡ b
+      and_true true = refl
+      and_true false = refl
+
+  -- a path whose dimension stood before says no more
+  again : (doc : Doc) (dim : List ℕ) (ps : List (List (List ℕ))) → list_any (λ path. bytes_eq (dim_of path) dim) ps ≡ true → list_all (one_of doc) ps ≡ true → (is_lifted lift dim || passes doc drill dim) ≡ true
+  again doc dim [] some all = absurd cc
+  again doc dim (p ∷ ps) some all = by (bytes_eq (dim_of p) dim) (one_of doc p) refl refl some all (again doc dim ps)
+    where
+      by : (b c : Bool) → bytes_eq (dim_of p) dim ≡ b → one_of doc p ≡ c → (b || list_any (λ path. bytes_eq (dim_of path) dim) ps) ≡ true → (c && list_all (one_of doc) ps) ≡ true
+          → (list_any (λ path. bytes_eq (dim_of path) dim) ps ≡ true → list_all (one_of doc) ps ≡ true → (is_lifted lift dim || passes doc drill dim) ≡ true) → (is_lifted lift dim || passes doc drill dim) ≡ true
+      by true true e f s a rest = ap (λ d. is_lifted lift d || passes doc drill d) (sym ((bytes_decides (dim_of p) dim).0 e)) ∙ f
+      by false true e f s a rest = rest s a
+      by b false e f s a rest = absurd cc
+
+  -- the first path of a dimension that is not lifted
+  pub narrowed : (m : Bool) (doc : Doc) (i : ℕ) (dim : List ℕ) → i < length drill → dim_of (get_or drill i []) ≡ dim → is_first drill i lift ≡ true
+      → ((m && passes_each drill lift (take i drill) doc) && passes doc drill dim) ≡ (m && passes_each drill lift (take (i + 1) drill) doc)
+  narrowed m doc i dim lt is first =
+      grouped m (passes_each drill lift (take i drill) doc) (passes doc drill dim)
+      ∙ ap (λ d. m && (passes_each drill lift (take i drill) doc && passes doc drill d)) (sym is)
+      ∙ ap (λ b. m && (passes_each drill lift (take i drill) doc && (b || passes doc drill (dim_of (get_or drill i []))))) (sym (kept (is_again drill i (dim_of (get_or drill i []))) (is_lifted lift (dim_of (get_or drill i []))) first))
+      ∙ ap (λ b. m && b) (sym (each_to doc i lt))
+    where
+      grouped : (a b c : Bool) → ((a && b) && c) ≡ (a && (b && c))
+      grouped true b c = refl
+      grouped false b c = refl
+
+      kept : (a b : Bool) → (not a && not b) ≡ true → b ≡ false
+      kept a false h = refl
+      kept true true h = absurd cc
+      kept false true h = absurd cc
+
+  -- a path of a dimension that stood before, or is lifted
+  pub passed_over : (m : Bool) (doc : Doc) (i : ℕ) → i < length drill → is_first drill i lift ≡ false
+      → (m && passes_each drill lift (take i drill) doc) ≡ (m && passes_each drill lift (take (i + 1) drill) doc)
+  passed_over m doc i lt other = ap (λ b. m && b) (by (passes_each drill lift (take i drill) doc) refl (is_again drill i (dim_of (get_or drill i []))) (is_lifted lift (dim_of (get_or drill i []))) refl refl other ∙ sym (each_to doc i lt))
+    where
+      by : (all : Bool) → passes_each drill lift (take i drill) doc ≡ all → (a b : Bool) → is_again drill i (dim_of (get_or drill i [])) ≡ a → is_lifted lift (dim_of (get_or drill i [])) ≡ b → (not a && not b) ≡ false
+          → passes_each drill lift (take i drill) doc ≡ (passes_each drill lift (take i drill) doc && one_of doc (get_or drill i []))
+      by false e a b f g h = rw e refl
+      by true e a true f g h = rw (e, g) refl
+      by true e true false f g h = rw (e, again doc (dim_of (get_or drill i [])) (take i drill) f e) refl
+      by true e false false f g h = absurd cc
+
+pub dim_at : (drill : List (List (List ℕ))) (i : ℕ) (path : List (List ℕ)) (dim : List ℕ) → i < length drill → path ≡ get_or drill i path → slice_get path 0 ≡ Some dim → dim_of (get_or drill i []) ≡ dim
+dim_at drill i path dim lt is at = ap dim_of (get_or_from_slice_get drill i path [] (slice_get_read drill (length drill) i path refl lt is)) ∙ ap (λ o. unwrap_or o []) at
+
+-- without a node the part has all records
+pub every_left : (segment : Records) (docs : List Doc) (test : Doc → Bool) (nodes : List Planned) → length segment.records ≡ length docs → length nodes ≡ 0 → AreAllOf docs test nodes → left_of segment 0 None ≡ places test docs
+every_left segment docs test [] long none all = let whole : length segment.records - 0 ≡ length docs = omega (arith, long) in ap (range_with_len 0) whole ∙ all_pass docs test all
+every_left segment docs test (p ∷ ps) long none all = absurd (omega arith)
+
+-- one node alone
+pub one_left : (docs : List Doc) (test : Doc → Bool) (p : Planned) → AreAllOf docs test (p ∷ []) → p.left ≡ places test docs
+one_left docs test p all = are_places test docs p.left (subst IsRising (sym all.each.0.1) (rising_places all.each.0.0 docs)) (λ n. by n (slice_get docs n) refl)
+  where
+    and_true : (b : Bool) → b ≡ (b && true)
+    and_true true = refl
+    and_true false = refl
+
+    by : (n : ℕ) (o : Option Doc) → slice_get docs n ≡ o → is_in n p.left ≡ at test docs n
+    by n None e = ap (is_in n) all.each.0.1 ∙ is_in_places n all.each.0.0 docs ∙ ap (λ o. option_map_or all.each.0.0 o false) e ∙ sym (ap (λ o. option_map_or test o false) e)
+    by n (Some doc) e = and_true (is_in n p.left) ∙ all.have n doc e ∙ sym (ap (λ o. option_map_or test o false) e)

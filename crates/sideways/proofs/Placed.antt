@@ -1,0 +1,184 @@
+-- The parts of a pass, one after the other.
+use Rattle.std.proofs.Common.{◌≡◌, ℕ, zero, suc, ◌+◌, ◌<◌, ◌≤◌, ◌⊎◌, inl, inr, List, [], ◌∷◌, ◌++◌, length, take, map, get_or, set, refl, sym, ap, subst, ◌∙◌, arith, append_assoc}
+use Rattle.std.specs.Prelude.{sum_by}
+use Rattle.std.specs.List.{AllByRecursion}
+use Rattle.std.proofs.lemmas.Grind.{flat_map-append}
+use Rattle.std.proofs.lemmas.List.{append-nil, get_or-set_other, length-append, length-map, length-set, map-append, map_push, take_all, take_more}
+use Rattle.seg_grammar.specs.Lookups.{record_of}
+use Rattle.std.proofs.lemmas.List.Sums.{sum_by-cons}
+use Rattle.facet_counts.specs.Tallies.{Tally}
+use Rattle.sideways.specs.Counted.{PartLeft, AreCountable, IsGrown, IsReady, IsTaking, lists_at, lists_of, placed}
+use Rattle.sideways.proofs.Walked.{grown_more, grown_none}
+
+sum_to : {A : Type 0} (f : A → ℕ) (xs : List A) (i : ℕ) (d : A) → i < length xs → sum_by f (take i xs) + f (get_or xs i d) ≤ sum_by f xs
+sum_to f [] i d lt = absurd (omega arith)
+sum_to f (x ∷ xs) zero d lt = omega (arith, sum_by-cons f x xs)
+sum_to f (x ∷ xs) (suc i) d lt = omega (arith, sum_by-cons f x (take i xs), sum_by-cons f x xs, sum_to f xs i d (omega arith))
+
+sum_push : {A : Type 0} (f : A → ℕ) (xs : List A) (y : A) → sum_by f (xs ++ y ∷ []) ≡ sum_by f xs + f y
+sum_push f [] y = sum_by-cons f y [] ∙ omega arith
+sum_push f (x ∷ xs) y = omega (arith, sum_by-cons f x (xs ++ y ∷ []), sum_by-cons f x xs, sum_push f xs y)
+
+-- how many records a part has left, and how many its segment has
+abbrev pub left_in : PartLeft → ℕ
+left_in p = length p.left
+
+abbrev pub records_in : PartLeft → ℕ
+records_in p = length p.segment.records
+
+pub lists_length : (parts : List PartLeft) → length (lists_of parts) ≡ sum_by left_in parts
+lists_length [] = refl
+lists_length (p ∷ ps) = omega (arith, length-append (lists_at p.segment p.left) (lists_of ps), length-map p.left (λ place. (record_of p.segment place).counted), lists_length ps, sum_by-cons left_in p ps)
+
+pub lists_to : (parts : List PartLeft) (i : ℕ) (p : PartLeft) → i < length parts → get_or parts i p ≡ p → lists_of (take (i + 1) parts) ≡ lists_of (take i parts) ++ lists_at p.segment p.left
+lists_to parts i p lt here =
+    ap lists_of (take_more parts i p lt ∙ ap (λ q. take i parts ++ q ∷ []) here)
+    ∙ flat_map-append (λ (q : PartLeft). lists_at q.segment q.left) (take i parts) (p ∷ [])
+    ∙ ap (λ l. lists_of (take i parts) ++ l) (append-nil (lists_at p.segment p.left))
+
+placed_more : (base : ℕ) (ps : List PartLeft) (p : PartLeft) → placed base (ps ++ p ∷ []) ≡ placed base ps ++ map (λ n. (base + sum_by records_in ps) + n) p.left
+placed_more base [] p = append-nil (map (λ n. base + n) p.left) ∙ ap (λ b. map (λ n. b + n) p.left) (omega arith)
+placed_more base (q ∷ qs) p =
+    let sum : (base + length q.segment.records) + sum_by records_in qs ≡ base + sum_by records_in (q ∷ qs) = omega (arith, sum_by-cons records_in q qs) in
+    ap (λ l. map (λ n. base + n) q.left ++ l) (placed_more (base + length q.segment.records) qs p ∙ ap (λ b. placed (base + length q.segment.records) qs ++ map (λ n. b + n) p.left) sum)
+    ∙ sym (append_assoc (map (λ n. base + n) q.left) (placed (base + length q.segment.records) qs) (map (λ n. (base + sum_by records_in (q ∷ qs)) + n) p.left))
+
+take_first : {A : Type 0} (limit : ℕ) (ps first : List A) → length (take limit ps ++ first) ≤ limit → take limit (ps ++ first) ≡ take limit ps ++ first
+take_first zero ps [] le = sym (append-nil (take 0 ps))
+take_first zero ps (x ∷ xs) le = absurd (omega (arith, length-append (take 0 ps) (x ∷ xs)))
+take_first (suc m) [] first le = take_all (suc m) first le
+take_first (suc m) (p ∷ ps) first le = ap (λ l. p ∷ l) (take_first m ps first (omega arith))
+
+take_more_than : {A : Type 0} (limit : ℕ) (xs ys : List A) → limit ≤ length xs → take limit (xs ++ ys) ≡ take limit xs
+take_more_than zero xs ys le = refl
+take_more_than (suc m) [] ys le = absurd (omega arith)
+take_more_than (suc m) (x ∷ xs) ys le = ap (λ l. x ∷ l) (take_more_than m xs ys (omega arith))
+
+short_take : {A : Type 0} (limit : ℕ) (xs : List A) → limit ≤ length (take limit xs) → limit ≤ length xs
+short_take zero xs le = omega arith
+short_take (suc m) [] le = absurd (omega arith)
+short_take (suc m) (x ∷ xs) le = omega (arith, short_take m xs (omega arith))
+
+-- the first of all, where those so far are, and either enough were taken or all
+pub first_taken : {A : Type 0} (limit : ℕ) (ps first rest new : List A) → new ≡ take limit ps ++ first → length new ≤ limit → (limit ≤ length new) ⊎ (rest ≡ []) → new ≡ take limit (ps ++ (first ++ rest))
+first_taken limit ps first rest new is few (inr none) =
+    let same : take limit (ps ++ first) ≡ take limit ps ++ first = take_first limit ps first (omega (arith, ap length is, few)) in
+    is ∙ sym same ∙ ap (λ r. take limit (ps ++ r)) (sym (append-nil first) ∙ ap (λ r. first ++ r) (sym none))
+first_taken limit ps first rest new is few (inl enough) =
+    let same : take limit (ps ++ first) ≡ take limit ps ++ first = take_first limit ps first (omega (arith, ap length is, few)) in
+    let full : limit ≤ length (take limit (ps ++ first)) = omega (arith, ap length same, ap length is, enough) in
+    is ∙ sym same ∙ sym (take_more_than limit (ps ++ first) rest (short_take limit (ps ++ first) full)) ∙ ap (take limit) (append_assoc ps first rest)
+
+-- ---- what holds between the parts
+
+-- The parts before i were counted, and the others stand as they did.
+pub record AreCountedTo (i : ℕ) (now all : List PartLeft) (before after : Tally) : Type 0 where
+  pub long : length now ≡ length all
+  pub same : (k : ℕ) (d : PartLeft) → i ≤ k → get_or now k d ≡ get_or all k d
+  pub grown : IsGrown before after (lists_of (take i all))
+
+pub counted_start : (all : List PartLeft) (tally : Tally) → AreCountedTo 0 all all tally tally
+counted_start all tally = record { long = refl; same = λ k d le. refl; grown = grown_none tally }
+
+pub counted_more : (i : ℕ) (now new all : List PartLeft) (before mid after : Tally) (p q : PartLeft) → AreCountedTo i now all before mid → i < length all → p ≡ get_or now i p → new ≡ set now i q → IsGrown mid after (lists_at p.segment p.left) → AreCountedTo (i + 1) new all before after
+counted_more i now new all before mid after p q counted lt here is grown = record {
+  long = ap length is ∙ length-set now i q ∙ counted.long;
+  same = λ k d le. ap (λ ps. get_or ps k d) is ∙ get_or-set_other now i k q d (λ e. absurd (omega (arith, e, le))) ∙ counted.same k d (omega arith);
+  grown = subst (IsGrown before after) (sym (lists_to all i p lt (sym (counted.same i p (omega arith)) ∙ sym here))) (grown_more before mid after (lists_of (take i all)) (lists_at p.segment p.left) counted.grown grown);
+}
+
+all_at : (P : PartLeft → Type 0) (xs : List PartLeft) (i : ℕ) (d : PartLeft) → AllByRecursion P xs → i < length xs → P (get_or xs i d)
+all_at P [] i d all lt = absurd (omega arith)
+all_at P (x ∷ xs) zero d all lt = all.0
+all_at P (x ∷ xs) (suc i) d all lt = all_at P xs i d all.1 (omega arith)
+
+-- what the next part needs
+pub record IsNextPart (p : PartLeft) (tally : Tally) : Type 0 where
+  pub countable : AreCountable tally.config tally.labels p.segment
+  pub room : tally.added + length p.left ≤ 1000000
+
+pub next_part : (i : ℕ) (now all : List PartLeft) (before mid : Tally) (p : PartLeft) → AreCountedTo i now all before mid → IsReady all before → i < length all → p ≡ get_or now i p → IsNextPart p mid
+next_part i now all before mid p counted ready lt here =
+    let there : get_or all i p ≡ p = sym (counted.same i p (omega arith)) ∙ sym here in
+    record {
+      countable = subst (λ c. AreCountable c mid.labels p.segment) (sym counted.grown.config) (subst (λ l. AreCountable before.config l p.segment) (sym counted.grown.labels) (subst (λ (x : PartLeft). AreCountable before.config before.labels x.segment) there (all_at (λ x. AreCountable before.config before.labels x.segment) all i p ready.countable lt)));
+      room = omega (arith, counted.grown.number, ready.fresh.number, lists_length (take i all), sum_to left_in all i p lt, ap left_in there, ready.room);
+    }
+
+pub base_room : (i : ℕ) (now all : List PartLeft) (before mid : Tally) (p : PartLeft) (base : ℕ) → AreCountedTo i now all before mid → IsReady all before → i < length all → p ≡ get_or now i p → base ≡ sum_by records_in (take i all) → base + length p.segment.records ≤ 1000000
+base_room i now all before mid p base counted ready lt here is =
+    let there : get_or all i p ≡ p = sym (counted.same i p (omega arith)) ∙ sym here in
+    omega (arith, is, sum_to records_in all i p lt, ap records_in there, ready.few)
+
+-- at the end all parts are counted
+pub counted_all : (i : ℕ) (now all : List PartLeft) (before after : Tally) → AreCountedTo i now all before after → length all ≤ i → IsGrown before after (lists_of all)
+counted_all i now all before after counted le = subst (λ ps. IsGrown before after (lists_of ps)) (take_all i all le) counted.grown
+
+-- ---- the hits
+
+pub base_more : (i : ℕ) (now all : List PartLeft) (before mid : Tally) (p : PartLeft) (base : ℕ) → AreCountedTo i now all before mid → i < length all → p ≡ get_or now i p → base ≡ sum_by records_in (take i all) → base + length p.segment.records ≡ sum_by records_in (take (i + 1) all)
+base_more i now all before mid p base counted lt here is =
+    let there : get_or all i p ≡ p = sym (counted.same i p (omega arith)) ∙ sym here in
+    ap (λ n. n + records_in p) is ∙ sym (ap (sum_by records_in) (take_more all i p lt ∙ ap (λ x. take i all ++ x ∷ []) there) ∙ sum_push records_in (take i all) p)
+
+pub number_more : (i : ℕ) (now all : List PartLeft) (before mid : Tally) (p : PartLeft) (number more : ℕ) → AreCountedTo i now all before mid → i < length all → p ≡ get_or now i p → number ≡ length (lists_of (take i all)) → more ≡ number + length p.left → more ≡ length (lists_of (take (i + 1) all))
+number_more i now all before mid p number more counted lt here is sum =
+    let there : get_or all i p ≡ p = sym (counted.same i p (omega arith)) ∙ sym here in
+    omega (arith, is, sum, ap length (lists_to all i p lt there), length-append (lists_of (take i all)) (lists_at p.segment p.left), length-map p.left (λ place. (record_of p.segment place).counted))
+
+pub places_more : (i : ℕ) (now all : List PartLeft) (before mid : Tally) (p : PartLeft) (base limit : ℕ) (hits new first rest : List ℕ) → AreCountedTo i now all before mid → i < length all → p ≡ get_or now i p → base ≡ sum_by records_in (take i all)
+    → hits ≡ take limit (placed 0 (take i all)) → p.left ≡ first ++ rest → new ≡ hits ++ map (λ n. base + n) first → length new ≤ limit → (limit ≤ length new) ⊎ (rest ≡ []) → new ≡ take limit (placed 0 (take (i + 1) all))
+places_more i now all before mid p base limit hits new first rest counted lt here is so_far left noted few enough =
+    let there : get_or all i p ≡ p = sym (counted.same i p (omega arith)) ∙ sym here in
+    let zero_base : base ≡ 0 + sum_by records_in (take i all) = omega (arith, is) in
+    let all_placed : placed 0 (take (i + 1) all) ≡ placed 0 (take i all) ++ map (λ n. base + n) p.left = ap (placed 0) (take_more all i p lt ∙ ap (λ x. take i all ++ x ∷ []) there) ∙ placed_more 0 (take i all) p ∙ ap (λ b. placed 0 (take i all) ++ map (λ n. b + n) p.left) (sym zero_base) in
+    first_taken limit (placed 0 (take i all)) (map (λ n. base + n) first) (map (λ n. base + n) rest) new (noted ∙ ap (λ h. h ++ map (λ n. base + n) first) so_far) few (over enough)
+    ∙ ap (λ l. take limit (placed 0 (take i all) ++ l)) (sym (ap (map (λ n. base + n)) left ∙ map-append (λ n. base + n) first rest)) ∙ ap (take limit) (sym all_placed)
+  where
+    over : (limit ≤ length new) ⊎ (rest ≡ []) → (limit ≤ length new) ⊎ (map (λ n. base + n) rest ≡ [])
+    over (inl h) = inl h
+    over (inr h) = inr (ap (map (λ n. base + n)) h)
+
+-- ---- taking hits
+
+pub taking_start : (part : PartLeft) (tally : Tally) (base limit : ℕ) (hits : List ℕ) → length hits ≤ limit → IsTaking part part tally tally base limit hits hits 0
+taking_start part tally base limit hits few = record { first = []; left = refl; segment = refl; grown = grown_none tally; noted = sym (append-nil hits); as_many = refl; few = few }
+
+pub taking_more : (old now next : PartLeft) (c0 c1 c2 : Tally) (base limit : ℕ) (h0 h1 h2 : List ℕ) (n place : ℕ) → IsTaking old now c0 c1 base limit h0 h1 n → now.left ≡ place ∷ next.left → next.segment ≡ now.segment → IsGrown c1 c2 (lists_at now.segment (place ∷ [])) → h2 ≡ h1 ++ (base + place) ∷ [] → length h1 < limit
+    → IsTaking old next c0 c2 base limit h0 h2 (n + 1)
+taking_more old now next c0 c1 c2 base limit h0 h1 h2 n place taking left segment grown pushed few = record {
+  first = taking.first ++ place ∷ [];
+  left = taking.left ∙ ap (λ xs. taking.first ++ xs) left ∙ sym (append_assoc taking.first (place ∷ []) next.left);
+  segment = segment ∙ taking.segment;
+  grown = subst (IsGrown c0 c2) (sym (map_push (λ p. (record_of old.segment p).counted) taking.first place)) (grown_more c0 c1 c2 (lists_at old.segment taking.first) (lists_at old.segment (place ∷ [])) taking.grown (subst (λ s. IsGrown c1 c2 (lists_at s (place ∷ []))) taking.segment grown));
+  noted = pushed ∙ ap (λ h. h ++ (base + place) ∷ []) taking.noted ∙ append_assoc h0 (map (λ p. base + p) taking.first) ((base + place) ∷ []) ∙ ap (λ l. h0 ++ l) (sym (map_push (λ p. base + p) taking.first place));
+  as_many = omega (arith, taking.as_many, length-append taking.first (place ∷ []));
+  few = omega (arith, ap length pushed, length-append h1 ((base + place) ∷ []), few);
+}
+
+-- a hit that is taken may be counted
+pub taking_ready : (old now : PartLeft) (c0 c1 : Tally) (base limit : ℕ) (h0 h1 : List ℕ) (n place : ℕ) (rest : List ℕ) → IsTaking old now c0 c1 base limit h0 h1 n → AreCountable c0.config c0.labels old.segment → c0.added + length old.left ≤ 1000000 → now.left ≡ place ∷ rest → AreCountable c1.config c1.labels now.segment × (c1.added < 1000000)
+taking_ready old now c0 c1 base limit h0 h1 n place rest taking countable room left = (
+  subst (λ s. AreCountable c1.config c1.labels s) (sym taking.segment) (subst (λ c. AreCountable c c1.labels old.segment) (sym taking.grown.config) (subst (λ l. AreCountable c0.config l old.segment) (sym taking.grown.labels) countable)),
+  omega (arith, taking.grown.number, length-map taking.first (λ p. (record_of old.segment p).counted), room, ap length taking.left, length-append taking.first now.left, ap length left),
+)
+
+-- after the hits that were taken, the others of the part
+pub rest_counted : (old now : PartLeft) (c0 c1 c2 : Tally) (base limit : ℕ) (h0 h1 : List ℕ) (n : ℕ) → IsTaking old now c0 c1 base limit h0 h1 n → IsGrown c1 c2 (lists_at now.segment now.left) → IsGrown c0 c2 (lists_at old.segment old.left)
+rest_counted old now c0 c1 c2 base limit h0 h1 n taking grown =
+    subst (IsGrown c0 c2) (sym (ap (lists_at old.segment) taking.left ∙ map-append (λ p. (record_of old.segment p).counted) taking.first now.left))
+    (grown_more c0 c1 c2 (lists_at old.segment taking.first) (lists_at old.segment now.left) taking.grown (subst (λ s. IsGrown c1 c2 (lists_at s now.left)) taking.segment grown))
+
+pub rest_ready : (old now : PartLeft) (c0 c1 : Tally) (base limit : ℕ) (h0 h1 : List ℕ) (n : ℕ) → IsTaking old now c0 c1 base limit h0 h1 n → IsNextPart old c0 → IsNextPart now c1
+rest_ready old now c0 c1 base limit h0 h1 n taking next = record {
+  countable = subst (λ s. AreCountable c1.config c1.labels s) (sym taking.segment) (subst (λ c. AreCountable c c1.labels old.segment) (sym taking.grown.config) (subst (λ l. AreCountable c0.config l old.segment) (sym taking.grown.labels) next.countable));
+  room = omega (arith, taking.grown.number, length-map taking.first (λ p. (record_of old.segment p).counted), next.room, ap length taking.left, length-append taking.first now.left);
+}
+
+short_front : {A : Type 0} (n : ℕ) (zs : List A) → length (take n zs) ≤ n
+short_front zero zs = omega arith
+short_front (suc n) [] = omega arith
+short_front (suc n) (z ∷ zs) = omega (arith, short_front n zs)
+
+pub take_at_most : {A : Type 0} (limit : ℕ) (xs ys : List A) → ys ≡ take limit xs → length ys ≤ limit
+take_at_most limit xs ys is = omega (arith, ap length is, short_front limit xs)

@@ -1,0 +1,32 @@
+use Rattle.std.proofs.Common.{◌≡◌, ◌∙◌, ◌||◌, [], ℕ, List, Some, get_or, ap, sym, subst, arith}
+use Rattle.std.specs.List.{AllByRecursion, list_any}
+use Rattle.std.specs.Str.{bytes_eq}
+use Rattle.facet_model.specs.Documents.{dim_of}
+use Rattle.sideways.specs.Counted.{ArePartsOf, passes_all}
+use Rattle.sideways.specs.Kept.{IsPassOf}
+use Rattle.sideways.specs.Searches.{question_of}
+use Rattle.sideways.specs.declared.pass.LiftedPass.{LiftedPass}
+use Rattle.sideways.proofs.Gathered.{all_push, any_push, covers_more, covers_same}
+use Rattle.sideways.proofs.Narrowed.{dim_at}
+use Rattle.sideways.proofs.plan.lifted_passes.Goals as goal
+use Rattle.sideways.proofs.plan.lifted_passes.Goals.{then-is_first+in_ok-pass+in_ok-push, else-is_first}
+
+pub loop-at-preserved : goal.loop-at-preserved
+loop-at-preserved c =
+    let q = question_of c.args.view.now c.args.config.now c.args.segments.now c.args.ask.now in
+    let drill : List (List (List ℕ)) = c.paths-drill.result.now in
+    let i : ℕ = c.loop-at.at in
+    elim c.if-is_first.branch [
+      | then-is_first+in_ok-pass+in_ok-push w ↦
+          let dim : dim_of (get_or drill i []) ≡ w.dim-dim.result.now = dim_at drill i w.index-drill-at.result w.dim-dim.result.now (omega arith) w.index-drill-at.is w.dim-dim.ensures in
+          let items = ap (λ v. v.items) w.lifted-is ∙ w.in_ok-push.ensures.items in
+          record {
+            each = subst (AllByRecursion (λ (p : LiftedPass). IsPassOf q (Some p.dim.now) p.pass)) (sym items) (all_push (λ (p : LiftedPass). IsPassOf q (Some p.dim.now) p.pass) c.loop-at.lifted.items _ c.loop-at.invariant.each (record { parts = subst (λ d. ArePartsOf (passes_all q.query d (Some w.dim-dim.result.now)) q.segments w.in_ok-pass.pass.parts.items) c.paths-drill.ensures.paths w.in_ok-pass.ensures.parts; fresh = w.in_ok-pass.ensures.fresh; labels = w.in_ok-pass.ensures.labels; config = w.in_ok-pass.ensures.config }));
+            covers = λ d. ap (list_any (λ (p : LiftedPass). bytes_eq p.dim.now d)) items ∙ any_push (λ (p : LiftedPass). bytes_eq p.dim.now d) c.loop-at.lifted.items _ ∙ ap (λ b. b || bytes_eq w.dim-dim.result.now d) (c.loop-at.invariant.covers d) ∙ covers_more drill i d w.dim-dim.result.now (omega arith) dim;
+          }
+      | else-is_first w ↦
+          record {
+            each = subst (AllByRecursion (λ (p : LiftedPass). IsPassOf q (Some p.dim.now) p.pass)) (sym (ap (λ v. v.items) w.lifted-is)) c.loop-at.invariant.each;
+            covers = λ d. ap (λ v. list_any (λ (p : LiftedPass). bytes_eq p.dim.now d) v.items) w.lifted-is ∙ c.loop-at.invariant.covers d ∙ covers_same drill i d (omega arith) (sym c.is_first.ensures ∙ w.if-is_first.false);
+          }
+    ]

@@ -1,0 +1,118 @@
+-- What a pass finds and counts, segment by segment.
+use Rattle.std.specs.Prelude.{◌≡◌, ℕ, ◌+◌, ◌-◌, ◌<◌, ◌≤◌, ◌++◌, ◌&&◌, ◌||◌, Bool, true, false, not, List, [], ◌∷◌, length, take, map, flat_map, Option, Some, None, option_map, slice_get, slice_index_or, sum_by}
+use Rattle.std.specs.Borrow.{Bor}
+use Rattle.std.specs.List.{list_any, list_all, range_with_len, AllZip, AllByRecursion}
+use Rattle.std.specs.Str.{bytes_eq}
+use Rattle.facet_model.specs.CountedPaths.{places}
+use Rattle.facet_model.specs.Documents.{Doc, dim_of}
+use Rattle.facet_model.specs.Flags.{Config}
+use Rattle.facet_model.specs.Hits.{passes}
+use Rattle.facet_model.specs.Queries.{QueryTree, matches}
+use Rattle.facet_model.specs.Stored.{Records}
+use Rattle.facet_counts.specs.Lists.{IsCounted}
+use Rattle.facet_counts.specs.Tallies.{Tally, HasAdded}
+use Rattle.plan_places.specs.Planned.{Planned, all_have}
+use Rattle.query_eval.specs.Segments.{HasTermsOf}
+use Rattle.seg_grammar.specs.Lookups.{record_of}
+use Rattle.seg_postings.specs.Rising.{IsRising, is_in}
+
+-- ---- the documents of a pass
+
+-- the dimension that is lifted, as bytes
+abbrev pub lifted_of : Option (Bor (List ℕ)) → Option (List ℕ)
+lifted_of lifted = option_map (λ text. text.now) lifted
+
+-- the dimension is the one that is lifted
+abbrev pub is_lifted : Option (List ℕ) → List ℕ → Bool
+is_lifted None dim = false
+is_lifted (Some other) dim = bytes_eq dim other
+
+-- it passes the dimensions of these paths of a drill, but for the one that is lifted
+abbrev pub passes_each : List (List (List ℕ)) → Option (List ℕ) → List (List (List ℕ)) → Doc → Bool
+passes_each drill lift paths doc = list_all (λ path. is_lifted lift (dim_of path) || passes doc drill (dim_of path)) paths
+
+-- it matches the query, and passes all dimensions of the drill but for the one that is lifted
+abbrev pub passes_all : QueryTree → List (List (List ℕ)) → Option (List ℕ) → Doc → Bool
+passes_all query drill lift doc = matches query doc && passes_each drill lift drill doc
+
+-- a path of the dimension is before the place
+abbrev pub is_again : List (List (List ℕ)) → ℕ → List ℕ → Bool
+is_again drill at dim = list_any (λ path. bytes_eq (dim_of path) dim) (take at drill)
+
+-- the path at the place is the first of its dimension, and that is not lifted
+abbrev pub is_first : List (List (List ℕ)) → ℕ → Option (List ℕ) → Bool
+is_first drill at lift = not (is_again drill at (dim_of (slice_index_or drill at []))) && not (is_lifted lift (dim_of (slice_index_or drill at [])))
+
+-- Each node has places of documents alone. Where a document stands all have its place exactly where it passes the test.
+pub record AreAllOf (docs : List Doc) (test : Doc → Bool) (nodes : List Planned) : Type 0 where
+  pub each : AllByRecursion (λ p. (other : Doc → Bool) × (p.left ≡ places other docs)) nodes
+  pub have : (n : ℕ) (doc : Doc) → slice_get docs n ≡ Some doc → all_have n nodes ≡ test doc
+
+-- ---- the records of one segment
+
+pub record PartLeft : Type 0 where
+  pub segment : Records
+  pub left : List ℕ
+
+-- the places left; without a list of them all from the next on
+abbrev pub left_of : Records → ℕ → Option (List ℕ) → List ℕ
+left_of segment next None = range_with_len next (length segment.records - next)
+left_of segment next (Some places) = places
+
+-- The places rise, and at each there is a record.
+pub record AreWithin (segment : Records) (places : List ℕ) : Type 0 where
+  pub rising : IsRising places
+  pub within : (n : ℕ) → is_in n places ≡ true → n < length segment.records
+
+-- the part is of this segment, and has the documents that pass
+pub record IsPartOf (test : Doc → Bool) (segment : Records) (part : PartLeft) : Type 0 where
+  pub same : part.segment ≡ segment
+  pub left : (docs : List Doc) → HasTermsOf segment docs → part.left ≡ places test docs
+
+-- ---- counting
+
+-- the counted ordinals of each record may be counted
+abbrev pub AreCountable : Config → List (List (List ℕ)) → Records → Type 0
+AreCountable config labels segment = (doc : ℕ) → doc < length segment.records → IsCounted config labels (record_of segment doc).counted
+
+-- the counted ordinals of the records at the places
+abbrev pub lists_at : Records → List ℕ → List (List ℕ)
+lists_at segment places = map (λ place. (record_of segment place).counted) places
+
+abbrev pub lists_of : List PartLeft → List (List ℕ)
+lists_of parts = flat_map (λ p. lists_at p.segment p.left) parts
+
+-- These lists were added to the counter.
+pub record IsGrown (old new : Tally) (lists : List (List ℕ)) : Type 0 where
+  pub added : (before : List (List ℕ)) → HasAdded old before → HasAdded new (before ++ lists)
+  pub number : new.added ≡ old.added + length lists
+  pub labels : new.labels ≡ old.labels
+  pub config : new.config ≡ old.config
+
+-- the places of all parts, counted on from one segment to the next
+abbrev pub placed : ℕ → List PartLeft → List ℕ
+placed base [] = []
+placed base (p ∷ ps) = map (λ place. base + place) p.left ++ placed (base + length p.segment.records) ps
+
+-- The first places of a part were taken, counted and noted.
+pub record IsTaking (old new : PartLeft) (before after : Tally) (base limit : ℕ) (hits more : List ℕ) (number : ℕ) : Type 0 where
+  pub first : List ℕ
+  pub left : old.left ≡ first ++ new.left
+  pub segment : new.segment ≡ old.segment
+  pub grown : IsGrown before after (lists_at old.segment first)
+  pub noted : more ≡ hits ++ map (λ place. base + place) first
+  pub as_many : number ≡ length first
+  pub few : length more ≤ limit
+
+-- ---- one pass over all segments
+
+-- one part for each segment, with the documents that pass
+abbrev pub ArePartsOf : (Doc → Bool) → List Records → List PartLeft → Type 0
+ArePartsOf test segments parts = AllZip (IsPartOf test) segments parts
+
+-- The counter is new, every record may be counted, and there are at most a million of them, as of places left.
+pub record IsReady (parts : List PartLeft) (tally : Tally) : Type 0 where
+  pub fresh : HasAdded tally []
+  pub countable : AllByRecursion (λ p. AreCountable tally.config tally.labels p.segment) parts
+  pub room : sum_by (λ p. length p.left) parts ≤ 1000000
+  pub few : sum_by (λ p. length p.segment.records) parts ≤ 1000000

@@ -1,0 +1,5 @@
+pub mod Questions
+pub mod Refusals
+pub mod Searches
+pub mod Counted
+pub mod Kept

@@ -1,0 +1,161 @@
+ghost use Rattle.std.specs.Prelude.{◌≡◌, ◌<◌, List, Some, None, true, IfOk, length, map, option_map, slice_get, take, nat_lt};
+ghost use Rattle.facet_counts.specs.Dims.{AreDims};
+ghost use Rattle.facet_counts.specs.Tallies.{AreCounts};
+ghost use Rattle.facet_model.specs.Asks.{Asked, all_dims, ask_fault, one_value};
+ghost use Rattle.facet_model.specs.CountedPaths.{places};
+ghost use Rattle.facet_model.specs.Documents.{Doc, count, dim_of};
+ghost use Rattle.facet_model.specs.Hits.{hits, is_hit};
+ghost use Rattle.facet_model.specs.ResultViews.{answer_view, result_view};
+ghost use Rattle.facet_model.specs.Results.{IsAnswer, IsTop};
+ghost use Rattle.facet_names.specs.Labels.{IsLabelList};
+ghost use Rattle.sideways.specs.Questions.{HasDocs, counted_of, docs_of};
+ghost use Rattle.sideways.specs.Searches.{question};
+
+use crate::ask::SearchAsk;
+use crate::links::{child_of, sibling_of};
+use crate::pass::{Found, LiftedCounts};
+use facet_config::FacetsConfig;
+use facet_counts::{Counts, no_result_elsewhere, note_dim, order_dims};
+use facet_model::{Ask, FacetAnswer, FacetResult};
+use facet_names::{NoMemory, Path};
+use query_eval::has_path;
+use seg_file::Segment;
+use std::alloc::Global;
+use std::marker::Model;
+use std::sync::Arc;
+use taxo_list::TaxoView;
+
+/// What a search found, as Lucene's `DrillSidewaysResult`: the hits, and the counts of every dimension.
+#[derive(Drop)]
+pub struct SidewaysAnswer<'a> {
+    pub(crate) view: &'a TaxoView,
+    pub(crate) config: &'a FacetsConfig,
+    pub(crate) segments: &'a [Arc<Segment>],
+    pub(crate) ask: &'a SearchAsk,
+    pub(crate) found: Found<'a>,
+    pub(crate) lifted: Vec<LiftedCounts<'a>>,
+}
+
+impl<'a> Model for SidewaysAnswer<'a> {
+    ghost use Rattle.sideways.specs.Kept.{IsAnswered};
+    ghost use Rattle.sideways.specs.Searches.{Search, question_of, search_of};
+    ghost use Rattle.sideways.specs.contracts.ask.SearchAsk as e;
+    ghost use Rattle.std.specs.Coded.{codes};
+
+    ghost Value = { Search };
+
+    ghost coded = { Prim.hlevel (codes, e.the_row.coded) };
+
+    ghost view = { λ a. search_of a.view.now a.config.now a.segments.now a.ask.now };
+
+    ghost invariant = { λ a. IsAnswered (question_of a.view.now a.config.now a.segments.now a.ask.now) a.found a.lifted.items };
+}
+
+// The results of all dimensions, the one that was added last first.
+fn each_dim(
+    answer: &SidewaysAnswer<'_>,
+    view: &TaxoView,
+    alloc: Global,
+    n: u32,
+) -> Result<Vec<FacetResult>, NoMemory>
+    requires some { 0 < n }
+    requires labels { view.now ≡ answer.now.labels }
+    ensures { IfOk result (λ v. (docs : List Doc) → HasDocs (question answer.now) docs → AreDims (λ dim. true) answer.now.config (docs_of (question answer.now) docs) n (map result_view v.items)) }
+{
+    // Their clauses say that the root is a label, and that a path that is no label has no result.
+    let _ = view.size();
+    no_result_elsewhere();
+    let mut results = Vec::new(alloc);
+    let mut next = child_of(view, 0);
+    while let Some(ord) = next {
+        let top = answer.top_of(alloc, view.path_of(ord), n)?;
+        note_dim(&mut results, top)?;
+        next = sibling_of(view, ord);
+    }
+    Ok(results)
+}
+
+impl<'a> SidewaysAnswer<'a> {
+    /// How many hits there are, in constant time.
+    pub fn hit_count(&self) -> u64
+        ensures { (docs : List Doc) → HasDocs (question self.now) docs → result ≡ length (hits docs (question self.now).query (question self.now).drill) }
+    {
+        self.found.number
+    }
+
+    /// The places of the first hits, as many as were wanted, counted over all segments.
+    pub fn hits(&self) -> &[u32]
+        ensures { (docs : List Doc) → HasDocs (question self.now) docs → result.now ≡ take (question self.now).hits (places (is_hit (question self.now).query (question self.now).drill) docs) }
+    {
+        &self.found.places
+    }
+
+    /// The counts of a dimension: with sideways over the documents that match the query and all other drilled dimensions, and else over the hits. It
+    /// takes no memory, and time by the number of drilled dimensions.
+    pub fn counts(&self, dim: &str) -> &Counts<'a>
+        ensures counts { (docs : List Doc) → HasDocs (question self.now) docs → AreCounts result.now (counted_of (question self.now) (docs_of (question self.now) docs dim.now)) }
+        ensures labels { result.now.labels ≡ self.now.labels }
+        ensures config { result.now.config ≡ self.now.config }
+        ensures list { IsLabelList self.now.labels }
+    {
+        for one in &self.lifted {
+            if one.dim == dim {
+                return &one.counts;
+            }
+        }
+        &self.found.counts
+    }
+
+    // Whether a document of the snapshot has a path.
+    fn exists(&self, alloc: Global, path: &Path) -> Result<bool, NoMemory>
+        ensures { IfOk result (λ b. (docs : List Doc) → HasDocs (question self.now) docs → b ≡ nat_lt 0 (count docs path.now)) }
+    {
+        for segment in self.segments {
+            if has_path(alloc, segment, path)? {
+                return Ok(true);
+            }
+        }
+        Ok(false)
+    }
+
+    fn value_of(&self, alloc: Global, path: &Path) -> Result<FacetAnswer, NoMemory>
+        requires { ask_fault self.now.config (one_value path.now) ≡ None }
+        ensures { IfOk result (λ a. (docs : List Doc) → HasDocs (question self.now) docs → IsAnswer self.now.config docs (docs_of (question self.now) docs) (one_value path.now) (answer_view a)) }
+    {
+        let exists = self.exists(alloc, path)?;
+        let value = self.counts(path.dim()).specific(path, exists);
+        let path = path.dup(alloc)?;
+        Ok(FacetAnswer::Specific { path, value })
+    }
+
+    fn top_of(&self, alloc: Global, path: &Path, n: u32) -> Result<Option<FacetResult>, NoMemory>
+        requires { 0 < n }
+        ensures { IfOk result (λ r. (docs : List Doc) → HasDocs (question self.now) docs → IsTop self.now.config (docs_of (question self.now) docs (dim_of path.now)) path.now n (option_map result_view r)) }
+    {
+        self.counts(path.dim()).top(alloc, path, n)
+    }
+
+    fn all_dims(&self, alloc: Global, n: u32) -> Result<FacetAnswer, NoMemory>
+        requires { 0 < n }
+        ensures { IfOk result (λ a. (docs : List Doc) → HasDocs (question self.now) docs → IsAnswer self.now.config docs (docs_of (question self.now) docs) (all_dims n) (answer_view a)) }
+    {
+        let mut results = each_dim(self, self.view, alloc, n)?;
+        order_dims(&mut results);
+        Ok(FacetAnswer::AllDims(results))
+    }
+
+    /// The answer to the ask at a place, by the counts of its dimension. It takes memory for what it lists.
+    pub fn answer(&self, alloc: Global, ask: usize) -> Result<FacetAnswer, NoMemory>
+        requires { ask < length (question self.now).asks }
+        ensures { IfOk result (λ a. (docs : List Doc) (asked : Asked) → HasDocs (question self.now) docs → slice_get (question self.now).asks ask ≡ Some asked → IsAnswer self.now.config docs (docs_of (question self.now) docs) asked (answer_view a)) }
+    {
+        match &self.ask.asks[ask] {
+            Ask::Top { path, n } => {
+                let top = self.top_of(alloc, path, *n)?;
+                Ok(FacetAnswer::Top(top))
+            }
+            Ask::Specific { path } => self.value_of(alloc, path),
+            Ask::AllDims { n } => self.all_dims(alloc, *n),
+        }
+    }
+}

@@ -1,0 +1,96 @@
+//! What the documents of a pass have to pass.
+ghost use Rattle.std.specs.Prelude.{◌≡◌, ◌<◌, Bool, List, IfOk, length};
+ghost use Rattle.facet_model.specs.CountedPaths.{places};
+ghost use Rattle.facet_model.specs.Documents.{Doc};
+ghost use Rattle.facet_model.specs.Queries.{matches};
+ghost use Rattle.facet_model.specs.QueryViews.{query_view};
+ghost use Rattle.query_eval.specs.Segments.{HasTermsOf};
+ghost use Rattle.sideways.specs.Counted.{AreAllOf, is_again, is_first, is_lifted, lifted_of, passes_all};
+
+use facet_model::Query;
+use facet_names::{NoMemory, Path};
+use plan_places::PlanNode;
+use query_eval::{paths_node, query_node};
+use seg_file::Segment;
+use std::alloc::Global;
+
+// Whether a path before the place is of the dimension.
+fn is_again(drill: &[Path], at: usize, dim: &str) -> bool
+    requires { at < length drill.now }
+    ensures { result ≡ is_again drill.now at dim.now }
+{
+    for i in 0..at {
+        if drill[i].dim() == dim {
+            return true;
+        }
+    }
+    false
+}
+
+fn is_lifted(lifted: Option<&str>, dim: &str) -> bool
+    ensures { result ≡ is_lifted (lifted_of lifted.entry) dim.now }
+{
+    match lifted {
+        Some(other) => dim == other,
+        None => false,
+    }
+}
+
+/// Whether the path at a place is the first of its dimension, and that is not lifted.
+pub(crate) fn is_first(drill: &[Path], at: usize, lifted: Option<&str>) -> bool
+    requires { at < length drill.now }
+    ensures { result ≡ is_first drill.now at (lifted_of lifted.entry) }
+{
+    let dim = drill[at].dim();
+    !is_again(drill, at, dim) && !is_lifted(lifted, dim)
+}
+
+// The documents that match the query; no node where all do.
+fn base_nodes<'a>(
+    alloc: Global,
+    segment: &'a Segment,
+    query: &Query,
+) -> Result<Vec<PlanNode<'a>>, NoMemory>
+    ensures { IfOk result (λ v. (docs : List Doc) → HasTermsOf segment.now docs → AreAllOf docs (matches (query_view query.now)) v.items) }
+{
+    let mut nodes = Vec::new(alloc);
+    if let Query::All = query {
+        return Ok(nodes);
+    }
+    let node = query_node(alloc, segment, query)?;
+    nodes.push(node)?;
+    Ok(nodes)
+}
+
+/// The documents that match the query, and those that pass each dimension of the drill but for the one that is lifted: one node for the query and one
+/// for each dimension, and none where every document passes.
+pub(crate) fn nodes_of<'a>(
+    alloc: Global,
+    segment: &'a Segment,
+    query: &Query,
+    drill: &[Path],
+    lifted: Option<&str>,
+) -> Result<Vec<PlanNode<'a>>, NoMemory>
+    ensures { IfOk result (λ v. (docs : List Doc) → HasTermsOf segment.now docs → AreAllOf docs (passes_all (query_view query.now) drill.now (lifted_of lifted.entry)) v.items) }
+{
+    let mut nodes = base_nodes(alloc, segment, query)?;
+    for at in 0..drill.len() {
+        if is_first(drill, at, lifted) {
+            let node = paths_node(alloc, segment, drill, drill[at].dim())?;
+            nodes.push(node)?;
+        }
+    }
+    Ok(nodes)
+}
+
+/// The documents that have all nodes, of which there are some.
+pub(crate) fn joined<'a>(alloc: Global, nodes: Vec<PlanNode<'a>>) -> Result<PlanNode<'a>, NoMemory>
+    requires { 0 < length nodes.items }
+    ensures { IfOk result (λ r. (docs : List Doc) (test : Doc → Bool) → AreAllOf docs test nodes.entry.items → r.left ≡ places test docs) }
+{
+    let mut nodes = nodes;
+    if nodes.len() == 1 {
+        return Ok(nodes.remove(0));
+    }
+    PlanNode::all(alloc, nodes, Vec::new(alloc))
+}

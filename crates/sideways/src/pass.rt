@@ -1,0 +1,167 @@
+ghost use Rattle.std.specs.Prelude.{◌≡◌, ◌+◌, ◌≤◌, ◌⊎◌, [], List, IfOk, OnOk, length, take};
+ghost use Rattle.std.specs.List.{AllByRecursion};
+ghost use Rattle.facet_model.specs.Documents.{Doc};
+ghost use Rattle.facet_model.specs.QueryViews.{query_view};
+ghost use Rattle.facet_counts.specs.Tallies.{AreCounts, HasAdded};
+ghost use Rattle.query_eval.specs.Segments.{HasTermsOf};
+ghost use Rattle.sideways.specs.Counted.{AreCountable, ArePartsOf, IsTaking, IsReady, lifted_of, lists_of, passes_all, placed};
+ghost use Rattle.sideways.specs.Searches.{records_of};
+
+use crate::part::Part;
+use facet_config::FacetsConfig;
+use facet_counts::{Counter, Counts};
+use facet_model::Query;
+use facet_names::{NoMemory, Path};
+use seg_file::Segment;
+use std::alloc::Global;
+use std::sync::Arc;
+use taxo_list::TaxoView;
+
+/// One pass over all segments, with a counter of its own.
+#[derive(Drop)]
+pub(crate) struct Pass<'a> {
+    pub(crate) parts: Vec<Part<'a>>,
+    pub(crate) counter: Counter<'a>,
+}
+
+/// A pass over the documents that a drilled dimension is counted over with sideways, whose own paths they need not have.
+#[derive(Drop)]
+pub(crate) struct LiftedPass<'a> {
+    pub(crate) dim: &'a str,
+    pub(crate) pass: Pass<'a>,
+}
+
+/// The counts of such a pass.
+#[derive(Drop)]
+pub(crate) struct LiftedCounts<'a> {
+    pub(crate) dim: &'a str,
+    pub(crate) counts: Counts<'a>,
+}
+
+/// What the pass for the hits found.
+#[derive(Drop)]
+pub(crate) struct Found<'a> {
+    pub(crate) counts: Counts<'a>,
+    pub(crate) number: u64,
+    pub(crate) places: Vec<u32>,
+}
+
+// The part of each segment.
+fn parts_of<'a>(
+    alloc: Global,
+    segments: &'a [Arc<Segment>],
+    query: &Query,
+    drill: &[Path],
+    lifted: Option<&str>,
+) -> Result<Vec<Part<'a>>, NoMemory>
+    requires { AllByRecursion (λ s. (docs : List Doc) × HasTermsOf s docs) (records_of segments.now) }
+    ensures { IfOk result (λ v. ArePartsOf (passes_all (query_view query.now) drill.now (lifted_of lifted.entry)) (records_of segments.now) v.items) }
+{
+    let mut parts = Vec::with_capacity(alloc, segments.len())?;
+    for segment in segments {
+        let part = Part::new(alloc, segment, query, drill, lifted)?;
+        parts.push(part)?;
+    }
+    Ok(parts)
+}
+
+// Takes first places of a part until there are enough hits, counts their records, and says how many they are.
+fn take_hits(
+    part: &mut Part<'_>,
+    counter: &mut Counter<'_>,
+    base: u32,
+    limit: u32,
+    hits: &mut Vec<u32>,
+) -> Result<u64, NoMemory>
+    requires countable { AreCountable counter.old.config counter.old.labels part.old.segment }
+    requires room { counter.old.added + length part.old.left ≤ 1000000 }
+    requires few { base + length part.old.segment.records ≤ 1000000 }
+    requires limit { length hits.old.items ≤ limit }
+    ensures taking { IfOk result (λ number. IsTaking part.old part.new counter.old counter.new base limit hits.old.items hits.new.items number) }
+    ensures enough { OnOk result ((limit ≤ length hits.new.items) ⊎ (part.new.left ≡ [])) }
+{
+    let mut number = 0;
+    while hits.len() < limit as usize {
+        let Some(place) = part.take() else {
+            return Ok(number);
+        };
+        part.count_one(place, counter);
+        hits.push(base + place)?;
+        number += 1;
+    }
+    Ok(number)
+}
+
+impl<'a> Pass<'a> {
+    /// A pass over the documents that match the query and pass all dimensions of the drill, but for the one that is lifted. It takes the memory that
+    /// the counting needs.
+    pub(crate) fn new(
+        alloc: Global,
+        view: &'a TaxoView,
+        config: &'a FacetsConfig,
+        segments: &'a [Arc<Segment>],
+        query: &Query,
+        drill: &[Path],
+        lifted: Option<&str>,
+    ) -> Result<Pass<'a>, NoMemory>
+        requires { AllByRecursion (λ s. (docs : List Doc) × HasTermsOf s docs) (records_of segments.now) }
+        ensures parts { IfOk result (λ p. ArePartsOf (passes_all (query_view query.now) drill.now (lifted_of lifted.entry)) (records_of segments.now) p.parts.items) }
+        ensures fresh { IfOk result (λ p. HasAdded p.counter []) }
+        ensures labels { IfOk result (λ p. p.counter.labels ≡ view.now) }
+        ensures config { IfOk result (λ p. p.counter.config ≡ config.now) }
+    {
+        let parts = parts_of(alloc, segments, query, drill, lifted)?;
+        let counter = Counter::new(alloc, view, config)?;
+        Ok(Pass { parts, counter })
+    }
+
+    /// Counts all documents that are found. It takes no memory.
+    pub(crate) fn count(self) -> Counts<'a>
+        requires { IsReady self.parts.items self.counter }
+        ensures counts { AreCounts result (lists_of self.entry.parts.items) }
+        ensures labels { result.labels ≡ self.entry.counter.labels }
+        ensures config { result.config ≡ self.entry.counter.config }
+    {
+        let Pass {
+            mut parts,
+            mut counter,
+        } = self;
+        for i in 0..parts.len() {
+            let part = &mut parts[i];
+            let _ = part.count(&mut counter);
+        }
+        counter.roll_up()
+    }
+
+    /// Counts all documents that are found, and says how many they are and where the first of them stand.
+    pub(crate) fn count_hits(self, limit: u32, places: Vec<u32>) -> Result<Found<'a>, NoMemory>
+        requires ready { IsReady self.parts.items self.counter }
+        requires none { places.items ≡ [] }
+        ensures counts { IfOk result (λ f. AreCounts f.counts (lists_of self.entry.parts.items)) }
+        ensures labels { IfOk result (λ f. f.counts.labels ≡ self.entry.counter.labels) }
+        ensures config { IfOk result (λ f. f.counts.config ≡ self.entry.counter.config) }
+        ensures number { IfOk result (λ f. f.number ≡ length (lists_of self.entry.parts.items)) }
+        ensures places { IfOk result (λ f. f.places.items ≡ take limit (placed 0 self.entry.parts.items)) }
+    {
+        let Pass {
+            mut parts,
+            mut counter,
+        } = self;
+        let mut places = places;
+        let mut number = 0;
+        let mut base = 0;
+        for i in 0..parts.len() {
+            let part = &mut parts[i];
+            let docs = part.docs();
+            let first = take_hits(part, &mut counter, base, limit, &mut places)?;
+            let rest = part.count(&mut counter);
+            number += first + rest;
+            base += docs;
+        }
+        Ok(Found {
+            counts: counter.roll_up(),
+            number,
+            places,
+        })
+    }
+}

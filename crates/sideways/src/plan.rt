@@ -1,0 +1,188 @@
+ghost use Rattle.std.specs.Prelude.{◌≡◌, ◌≤◌, ◌&&◌, ℕ, [], List, Some, None, IfOk, IfErr, length, map};
+ghost use Rattle.std.specs.List.{AllByRecursion, list_any};
+ghost use Rattle.std.specs.Str.{bytes_eq};
+ghost use Rattle.facet_model.specs.AskViews.{ask_view};
+ghost use Rattle.facet_model.specs.Documents.{Doc, dim_of};
+ghost use Rattle.facet_model.specs.Stored.{Decodes};
+ghost use Rattle.query_eval.specs.Segments.{HasTermsOf};
+ghost use Rattle.sideways.specs.Counted.{IsReady};
+ghost use Rattle.sideways.specs.Kept.{AreCountsOf, IsPassOf};
+ghost use Rattle.sideways.specs.Questions.{Question};
+ghost use Rattle.sideways.specs.Refusals.{first_refused};
+ghost use Rattle.sideways.specs.Searches.{question_of, records_of, search_of};
+ghost use Rattle.sideways.specs.declared.ask.AskRefused.{AskRefused};
+ghost use Rattle.sideways.specs.declared.ask.AskRefused.TheVariants.{NoMemory as Memory};
+
+use crate::answer::SidewaysAnswer;
+use crate::ask::{AskRefused, SearchAsk, first_refusal};
+use crate::node::is_first;
+use crate::pass::{LiftedCounts, LiftedPass, Pass};
+use facet_config::FacetsConfig;
+use facet_counts::may_be_counted;
+use facet_names::NoMemory;
+use seg_file::Segment;
+use std::alloc::Global;
+use std::marker::Model;
+use std::sync::Arc;
+use taxo_list::TaxoView;
+
+/// A search that is ready to run, with all memory that the counting needs: one pass for the hits, and with sideways one more for each drilled
+/// dimension. A pass has a counter of its own, 5 bytes for each label of the view, and a plan for each segment.
+#[derive(Drop)]
+pub struct DrillPlan<'a> {
+    view: &'a TaxoView,
+    config: &'a FacetsConfig,
+    segments: &'a [Arc<Segment>],
+    ask: &'a SearchAsk,
+    hits: Pass<'a>,
+    lifted: Vec<LiftedPass<'a>>,
+    // room for what the passes find
+    places: Vec<u32>,
+    counted: Vec<LiftedCounts<'a>>,
+}
+
+impl<'a> Model for DrillPlan<'a> {
+    ghost use Rattle.std.specs.Prelude.{◌≡◌, []};
+    ghost use Rattle.sideways.specs.Kept.{IsPlan};
+    ghost use Rattle.sideways.specs.Searches.{Search, question_of, search_of};
+    ghost use Rattle.sideways.specs.contracts.ask.SearchAsk as e;
+    ghost use Rattle.std.specs.Coded.{codes};
+
+    ghost Value = { Search };
+
+    ghost coded = { Prim.hlevel (codes, e.the_row.coded) };
+
+    ghost view = { λ p. search_of p.view.now p.config.now p.segments.now p.ask.now };
+
+    ghost invariant = { λ p. IsPlan (question_of p.view.now p.config.now p.segments.now p.ask.now) p.hits p.lifted.items × (p.places.items ≡ []) × (p.counted.items ≡ []) };
+}
+
+// A pass for each dimension of the drill.
+fn lifted_passes<'a>(
+    alloc: Global,
+    view: &'a TaxoView,
+    config: &'a FacetsConfig,
+    segments: &'a [Arc<Segment>],
+    ask: &'a SearchAsk,
+) -> Result<Vec<LiftedPass<'a>>, NoMemory>
+    requires { AllByRecursion (λ s. (docs : List Doc) × HasTermsOf s docs) (records_of segments.now) }
+    ensures each { IfOk result (λ v. AllByRecursion (λ l. IsPassOf (question_of view.now config.now segments.now ask.now) (Some l.dim.now) l.pass) v.items) }
+    ensures covers { IfOk result (λ v. (dim : List ℕ) → list_any (λ l. bytes_eq l.dim.now dim) v.items ≡ (ask.now.sideways && list_any (λ path. bytes_eq (dim_of path) dim) ask.now.drill)) }
+{
+    let mut lifted = Vec::new(alloc);
+    if !ask.sideways {
+        return Ok(lifted);
+    }
+    let drill = ask.drill.paths();
+    for at in 0..drill.len() {
+        if is_first(drill, at, None) {
+            let dim = drill[at].dim();
+            let pass = Pass::new(alloc, view, config, segments, &ask.query, drill, Some(dim))?;
+            lifted.push(LiftedPass { dim, pass })?;
+        }
+    }
+    Ok(lifted)
+}
+
+// Runs the passes.
+fn count_lifted<'a>(
+    lifted: Vec<LiftedPass<'a>>,
+    counted: Vec<LiftedCounts<'a>>,
+) -> Result<Vec<LiftedCounts<'a>>, NoMemory>
+    requires none { counted.items ≡ [] }
+    requires ready { AllByRecursion (λ l. IsReady l.pass.parts.items l.pass.counter) lifted.items }
+    ensures each { IfOk result (λ v. (q : Question) → AllByRecursion (λ l. IsPassOf q (Some l.dim.now) l.pass) lifted.entry.items → AllByRecursion (λ l. AreCountsOf q (Some l.dim.now) l.counts) v.items) }
+    ensures covers { IfOk result (λ v. (dim : List ℕ) → list_any (λ l. bytes_eq l.dim.now dim) v.items ≡ list_any (λ l. bytes_eq l.dim.now dim) lifted.entry.items) }
+{
+    let mut lifted = lifted;
+    let mut counted = counted;
+    while let Some(one) = lifted.pop() {
+        let LiftedPass { dim, pass } = one;
+        let counts = pass.count();
+        counted.push(LiftedCounts { dim, counts })?;
+    }
+    Ok(counted)
+}
+
+impl<'a> DrillPlan<'a> {
+    /// Refused at the first ask that may not be asked, counted from 0; that is looked at before any memory is taken.
+    pub fn new(
+        alloc: Global,
+        view: &'a TaxoView,
+        config: &'a FacetsConfig,
+        segments: &'a [Arc<Segment>],
+        ask: &'a SearchAsk,
+    ) -> Result<DrillPlan<'a>, AskRefused>
+        requires { (docs : List Doc) × Decodes view.now config.now (records_of segments.now) docs × (length docs ≤ 1000000) }
+        ensures plan { IfOk result (λ p. p ≡ search_of view.now config.now segments.now ask.now) }
+        ensures refused { (r : AskRefused) → first_refused config.now (map ask_view ask.now.asks.items) ≡ Some r → result ≡ Err r }
+        ensures memory { first_refused config.now (map ask_view ask.now.asks.items) ≡ None → IfErr result (λ e. e ≡ Memory) }
+    {
+        if let Some(refused) = first_refusal(config, &ask.asks) {
+            return Err(refused);
+        }
+        match DrillPlan::fit(alloc, view, config, segments, ask) {
+            Ok(plan) => Ok(plan),
+            Err(_) => Err(AskRefused::NoMemory),
+        }
+    }
+
+    // The plan of a search whose asks all may be asked.
+    fn fit(
+        alloc: Global,
+        view: &'a TaxoView,
+        config: &'a FacetsConfig,
+        segments: &'a [Arc<Segment>],
+        ask: &'a SearchAsk,
+    ) -> Result<DrillPlan<'a>, NoMemory>
+        requires docs { (docs : List Doc) × Decodes view.now config.now (records_of segments.now) docs × (length docs ≤ 1000000) }
+        requires fit { first_refused config.now (map ask_view ask.now.asks.items) ≡ None }
+        ensures { IfOk result (λ p. p ≡ search_of view.now config.now segments.now ask.now) }
+    {
+        // Its clause says that these are a label list.
+        let _ = view.size();
+        let drill = ask.drill.paths();
+        let hits = Pass::new(alloc, view, config, segments, &ask.query, drill, None)?;
+        let lifted = lifted_passes(alloc, view, config, segments, ask)?;
+        let counted = Vec::with_capacity(alloc, lifted.len())?;
+        Ok(DrillPlan {
+            view,
+            config,
+            segments,
+            ask,
+            hits,
+            lifted,
+            places: Vec::new(alloc),
+            counted,
+        })
+    }
+
+    /// Runs the passes. Each walks over the places that it finds, from the first segment to the last, and counts the ordinals of the record at each.
+    /// It takes memory for the places of the hits that are wanted.
+    pub fn run(self) -> Result<SidewaysAnswer<'a>, NoMemory>
+        ensures { IfOk result (λ a. a ≡ self.entry) }
+    {
+        let DrillPlan {
+            view,
+            config,
+            segments,
+            ask,
+            hits,
+            lifted,
+            places,
+            counted,
+        } = self;
+        // Its clause says that the ordinals of a document may be counted.
+        may_be_counted();
+        let found = hits.count_hits(ask.hits, places)?;
+        let lifted = count_lifted(lifted, counted)?;
+        Ok(SidewaysAnswer {
+            view,
+            config,
+            segments,
+            ask,
+            found,
+            lifted,
+        })
+    }
+}
