@@ -1,5 +1,9 @@
-pub mod Grown
 pub mod Ordinals
+pub mod Grown
+pub mod Decoded
 pub mod Entered
+pub mod Found
 pub mod Replies
 pub mod Searched
+pub mod Stored
+pub mod Flushed

@@ -1,13 +1,13 @@
 -- Ordinals that were given stay, where a list of labels goes on.
-use Rattle.std.proofs.Common.{◌≡◌, ℕ, ◌+◌, ◌<◌, ◌≤◌, Bool, true, false, List, [], ◌∷◌, ◌++◌, length, take, drop, map, get_or, slice_get, Option, Some, refl, sym, ap, subst, ◌∙◌, arith}
-use Rattle.std.specs.List.{list_all, list_any, AllZip}
+use Rattle.std.proofs.Common.{◌≡◌, ℕ, ◌+◌, ◌<◌, true, List, [], ◌∷◌, ◌++◌, length, take, map, get_or, slice_get, Some, refl, sym, ap, subst, ◌∙◌, arith}
+use Rattle.std.specs.List.{list_all, AllZip}
 use Rattle.std.proofs.lemmas.Bool.{and_from}
-use Rattle.std.proofs.lemmas.List.{map_push, take_more, length-map, get_or-take, take-append-drop, get_or_append_left}
+use Rattle.std.proofs.lemmas.List.{map_push, take_more, length-map, get_or-take}
 use Rattle.std.proofs.lemmas.List.Folds.{list_any_at}
 use Rattle.std.proofs.lemmas.List.FromFn.{length-map-range_with_len}
 use Rattle.std.proofs.lemmas.Option.{slice_get-get_or, get_or_from_slice_get, slice_get_within}
 use Rattle.facet_names.specs.Paths.{path_eq, path_eq_equiv}
-use Rattle.facet_names.specs.Labels.{GoesOn, IsLabelList, prefixes, stands}
+use Rattle.facet_names.specs.Labels.{GoesOn, prefixes, stands}
 use Rattle.facet_model.specs.CountedPaths.{AreResolved}
 use Rattle.facet_config.specs.Expanding.{AreAsLong}
 
@@ -50,7 +50,7 @@ resolved_stay a b on [] (r ∷ rs) at = absurd at
 resolved_stay a b on (p ∷ ps) [] at = absurd at
 resolved_stay a b on (p ∷ ps) (r ∷ rs) at = (all_stay a b on r (prefixes p) at.0, resolved_stay a b on ps rs at.1)
 
-all_zip_push : {A B : Type 0} (R : A → B → Type 0) (xs : List A) (ys : List B) (x : A) (y : B) → AllZip R xs ys → R x y → AllZip R (xs ++ x ∷ []) (ys ++ y ∷ [])
+pub all_zip_push : {A B : Type 0} (R : A → B → Type 0) (xs : List A) (ys : List B) (x : A) (y : B) → AllZip R xs ys → R x y → AllZip R (xs ++ x ∷ []) (ys ++ y ∷ [])
 all_zip_push R [] [] x y all r = (r, tt)
 all_zip_push R [] (b ∷ ys) x y all r = absurd all
 all_zip_push R (a ∷ xs) [] x y all r = absurd all
@@ -71,7 +71,7 @@ resolved_as_long labels (p ∷ ps) [] at = absurd at
 resolved_as_long labels (p ∷ ps) (r ∷ rs) at = (sym (length-map r (slice_get labels)) ∙ ap length at.0 ∙ length-map (prefixes p) Some ∙ length-map-range_with_len (λ n. take n p) 1 (length p), resolved_as_long labels ps rs at.1)
 
 -- paths that have ordinals stand in the list
-known_at : (labels : Labels) (ords : List ℕ) (paths : Labels) → AreAt labels ords paths → list_all (stands labels) paths ≡ true
+pub known_at : (labels : Labels) (ords : List ℕ) (paths : Labels) → AreAt labels ords paths → list_all (stands labels) paths ≡ true
 known_at labels [] [] at = refl
 known_at labels [] (p ∷ ps) at = absurd cc
 known_at labels (o ∷ os) [] at = absurd cc

@@ -1,8 +1,7 @@
 -- Replies, made order by order.
-use Rattle.std.proofs.Common.{◌≡◌, ◌+◌, ◌<◌, ℕ, Bool, true, false, List, [], ◌∷◌, ◌++◌, map, take, drop, get_or, length, Option, Some, None, option_map, if◌then◌else◌, refl, sym, ap, ◌∙◌, subst, append_assoc, arith, add-one}
-use Rattle.std.specs.Prelude.{slice_get, filter_map}
-use Rattle.std.proofs.lemmas.List.{append-nil, map_push, take_more, length-map, get_or-map}
-use Rattle.std.specs.List.{AllZip, enumerate_from, cons_option}
+use Rattle.std.proofs.Common.{◌≡◌, ℕ, List, [], ◌∷◌, ◌++◌, map, refl, sym, ap, ◌∙◌, subst, append_assoc}
+use Rattle.std.proofs.lemmas.List.{append-nil, map_push}
+use Rattle.std.specs.List.{AllZip}
 use Rattle.facet_words.specs.Answers.{Shelf, empty_shelf, RightReply, RightReplies}
 use Rattle.facet_words.specs.CommandViews.{command_view, order_view}
 use Rattle.facet_words.specs.Commands.{Order, Settings}

@@ -1,123 +1,110 @@
--- Counting entries, and their answers, one by one.
-use Rattle.std.proofs.Common.{◌≡◌, ℕ, zero, suc, ◌+◌, ◌<◌, ◌≤◌, Bool, true, false, List, [], ◌∷◌, ◌++◌, length, take, drop, map, get_or, slice_get, Option, Some, None, option_map, refl, sym, ap, subst, ◌∙◌, arith, add-one, min, ◌⊎◌, inl, inr}
-use Rattle.std.specs.Prelude.{filter_map, nat_lt, cond, count_by, ◌||◌}
-use Rattle.std.proofs.Math.Seq.{drop-cons}
-use Rattle.std.specs.List.{AllZip, AllByRecursion, cons_option, enumerate_from, list_any}
-use Rattle.std.proofs.lemmas.List.{map_push, take_more, length-map, get_or-map, get_or-take, length-take-le, take_all}
-use Rattle.std.proofs.lemmas.List.FromFn.{get_or-enumerate_from, length-enumerate_from}
-use Rattle.std.proofs.lemmas.List.Sums.{sum_by-cons}
-use Rattle.std.proofs.lemmas.Bool.{lt-ltb, cases_lt}
-use Rattle.facet_model.specs.AskViews.{ask_view}
-use Rattle.facet_model.specs.Asks.{Asked, AskFault, ask_fault}
-use Rattle.facet_model.specs.Documents.{Doc, count, has}
+-- The answers, the hits and the refusals of a search.
+use Rattle.std.proofs.Common.{◌≡◌, ℕ, suc, ◌+◌, ◌<◌, Bool, true, false, cond, List, [], ◌∷◌, ◌++◌, length, take, map, get_or, slice_get, Option, Some, None, option_map, Result, Ok, Err, refl, sym, ap, subst, ◌∙◌, arith}
+use Rattle.std.specs.Prelude.{filter, filter_map, All}
+use Rattle.std.specs.List.{AllZip, cons_option, enumerate_from}
+use Rattle.std.proofs.lemmas.List.{take-map, take_more, get_or-map, length-map}
+use Rattle.std.proofs.lemmas.List.Elements.{All-take}
+use Rattle.facet_model.specs.Asks.{Asked, AskFault, ask_fault, top_of_none, value_not_kept}
+use Rattle.facet_model.specs.CountedPaths.{places}
+use Rattle.facet_model.specs.Documents.{Doc}
 use Rattle.facet_model.specs.Flags.{Config}
-use Rattle.facet_model.specs.ResultViews.{answer_view}
-use Rattle.facet_model.specs.Results.{Answer, IsAnswer}
-use Rattle.facet_model.specs.declared.ask.Ask.{Ask}
-use Rattle.facet_model.specs.declared.result.FacetAnswer.{FacetAnswer}
-use Rattle.facet_counts.specs.Lists.{IsListOf}
-use Rattle.facet_words.specs.Answers.{ask_refusal, first_refused}
-use Rattle.facet_words.specs.Replies.{Refusal}
-use Rattle.facet_words.specs.ReplyViews.{hit_view}
-use Rattle.facet_words.specs.declared.reply.HitLine.{HitLine}
-use Rattle.facet_shell.specs.Entries.{AreEntries, docs_of, lists_of}
-use Rattle.facet_shell.specs.declared.entry.Entry.{Entry}
-use Rattle.facet_shell.proofs.Replies.{all_zip_push}
-
--- ---- counting
-
-pub entry_at : (config : Config) (labels : List (List (List ℕ))) (entries : List Entry) (i : ℕ) (e : Entry) → i < length entries → AreEntries config labels entries → IsListOf config labels (get_or entries i e).counted (get_or entries i e).doc
-entry_at config labels [] i e lt are = absurd (omega arith)
-entry_at config labels (x ∷ xs) zero e lt are = are.0
-entry_at config labels (x ∷ xs) (suc i) e lt are = entry_at config labels xs i e (omega arith) are.1
-
-pub lists_more : (entries : List Entry) (i : ℕ) (e : Entry) → i < length entries → get_or entries i e ≡ e → lists_of (take (i + 1) entries) ≡ lists_of (take i entries) ++ e.counted ∷ []
-lists_more entries i e lt here = ap lists_of (take_more entries i e lt ∙ ap (λ x. take i entries ++ x ∷ []) here) ∙ map_push (λ (x : Entry). x.counted) (take i entries) e
-
--- ---- whether a document has a path
-
-pub some_has : (entries : List Entry) (path : List (List ℕ)) → list_any (λ (e : Entry). has e.doc path) entries ≡ nat_lt 0 (count (docs_of entries) path)
-some_has [] path = refl
-some_has (e ∷ es) path = by (has e.doc path) (some_has es path) ∙ ap (nat_lt 0) (sym (sum_by-cons (λ (doc : Doc). cond (has doc path) 1 0) e.doc (docs_of es)))
-  where
-    by : (b : Bool) → list_any (λ (x : Entry). has x.doc path) es ≡ nat_lt 0 (count (docs_of es) path) → (b || list_any (λ (x : Entry). has x.doc path) es) ≡ nat_lt 0 (cond b 1 0 + count (docs_of es) path)
-    by true rest = sym (lt-ltb 0 (1 + count (docs_of es) path) (omega arith))
-    by false rest = rest ∙ ap (nat_lt 0) (omega arith)
+use Rattle.facet_model.specs.Stored.{Stored, Records}
+use Rattle.facet_words.specs.Answers as words
+use Rattle.facet_words.specs.Commands.{Search}
+use Rattle.facet_words.specs.Replies.{Refusal, refused}
+use Rattle.seg_terms.proofs.DocPlaces.{places_below}
+use Rattle.sideways.specs.Refusals as refusals
+use Rattle.sideways.specs.declared.ask.AskRefused.{AskRefused}
+use Rattle.sideways.specs.declared.ask.AskRefused.TheVariants.{NoMemory as Memory}
+use Rattle.facet_shell.specs.Decoding.{doc_in, docs_in, records_in, record_at}
+use Rattle.facet_shell.specs.Searching.{refusal_as}
+use Rattle.facet_shell.proofs.Ordinals.{all_zip_push}
+use Rattle.facet_shell.proofs.Stored.{each_at}
 
 -- ---- answers
 
-pub answers_go_on : (config : Config) (docs : List Doc) (docs_for : List ℕ → List Doc) (asks : List Ask) (found now : List FacetAnswer) (i : ℕ) (ask d : Ask) (one : FacetAnswer) → i < length asks → ask ≡ get_or asks i d → now ≡ found ++ one ∷ []
-    → AllZip (IsAnswer config docs docs_for) (map ask_view (take i asks)) (map answer_view found) → IsAnswer config docs docs_for (ask_view ask) (answer_view one) → AllZip (IsAnswer config docs docs_for) (map ask_view (take (i + 1) asks)) (map answer_view now)
-answers_go_on config docs docs_for asks found now i ask d one lt is pushed before here =
-    rw (pushed, map_push answer_view found one, take_more asks i d lt, ← is, map_push ask_view (take i asks) ask) (all_zip_push (IsAnswer config docs docs_for) (map ask_view (take i asks)) (map answer_view found) (ask_view ask) (answer_view one) before here)
-
--- the refusal of an ask with its place
-abbrev pub refusal_at : Config → ℕ × Asked → Option Refusal
-refusal_at config e = option_map (ask_refusal e.0) (ask_fault config e.1)
-
--- the first refusal of the asks from a place on
-abbrev pub refused_from : Config → ℕ → List Ask → Option Refusal
-refused_from config i asks = slice_get (filter_map (refusal_at config) (enumerate_from i (drop i (map ask_view asks)))) 0
-
-pub refusal_from : (config : Config) (asks : List Ask) (i : ℕ) (ask : Ask) → i < length asks → get_or asks i ask ≡ ask
-    → refused_from config i asks ≡ slice_get (cons_option (refusal_at config (i, ask_view ask)) (filter_map (refusal_at config) (enumerate_from (i + 1) (drop (i + 1) (map ask_view asks))))) 0
-refusal_from config asks i ask lt at =
-    let step : drop i (map ask_view asks) ≡ ask_view ask ∷ drop (i + 1) (map ask_view asks) =
-    rw (add-one) (drop-cons (map ask_view asks) i (ask_view ask) (omega (arith, lt, length-map asks ask_view))) ∙ ap (λ a. a ∷ drop (i + 1) (map ask_view asks)) (get_or-map ask_view asks i ask (ask_view ask) lt ∙ ap ask_view at) in
-    ap (λ l. slice_get (filter_map (refusal_at config) (enumerate_from i l)) 0) step
-
-pub refused_here : (config : Config) (asks : List Ask) (i : ℕ) (ask : Ask) (r : Refusal) → i < length asks → get_or asks i ask ≡ ask → refusal_at config (i, ask_view ask) ≡ Some r → refused_from config i asks ≡ Some r
-refused_here config asks i ask r lt at here = refusal_from config asks i ask lt at ∙ ap (λ o. slice_get (cons_option o (filter_map (refusal_at config) (enumerate_from (i + 1) (drop (i + 1) (map ask_view asks))))) 0) here
-
-pub refused_later : (config : Config) (asks : List Ask) (i : ℕ) (ask : Ask) → i < length asks → get_or asks i ask ≡ ask → refusal_at config (i, ask_view ask) ≡ None → refused_from config i asks ≡ refused_from config (i + 1) asks
-refused_later config asks i ask lt at here = refusal_from config asks i ask lt at ∙ ap (λ o. slice_get (cons_option o (filter_map (refusal_at config) (enumerate_from (i + 1) (drop (i + 1) (map ask_view asks))))) 0) here
-
--- where none is refused each ask fits
-pub fits_at : (config : Config) (asks : List Ask) (n i : ℕ) (d : Ask) → i < length asks → slice_get (filter_map (refusal_at config) (enumerate_from n (map ask_view asks))) 0 ≡ None → ask_fault config (ask_view (get_or asks i d)) ≡ None
-fits_at config [] n i d lt none = absurd (omega arith)
-fits_at config (a ∷ rest) n zero d lt none = by (ask_fault config (ask_view a)) none
-  where
-    by : (o : Option AskFault) → slice_get (cons_option (option_map (ask_refusal n) o) (filter_map (refusal_at config) (enumerate_from (n + 1) (map ask_view rest)))) 0 ≡ None → o ≡ None
-    by None none = refl
-    by (Some f) none = absurd cc
-fits_at config (a ∷ rest) n (suc i) d lt none = fits_at config rest (n + 1) i d (omega arith) (by (option_map (ask_refusal n) (ask_fault config (ask_view a))) none)
-  where
-    by : (o : Option Refusal) → slice_get (cons_option o (filter_map (refusal_at config) (enumerate_from (n + 1) (map ask_view rest)))) 0 ≡ None → slice_get (filter_map (refusal_at config) (enumerate_from (n + 1) (map ask_view rest))) 0 ≡ None
-    by None none = none
-    by (Some f) none = absurd cc
+-- one ask more is answered
+pub asks_more : {A B : Type 0} (R : A → B → Type 0) (asks : List A) (i : ℕ) (d : A) (found now : List B) (one : B) → i < length asks → now ≡ found ++ one ∷ [] → AllZip R (take i asks) found → R (get_or asks i d) one → AllZip R (take (i + 1) asks) now
+asks_more R asks i d found now one lt pushed before here =
+    subst (λ (l : List _). AllZip R (take (i + 1) asks) l) (sym pushed) (subst (λ (l : List _). AllZip R l (found ++ one ∷ [])) (sym (take_more asks i d lt)) (all_zip_push R (take i asks) found (get_or asks i d) one before here))
 
 -- ---- hits
 
-abbrev pub hit_of : ℕ × Doc → ℕ × List ℕ
-hit_of e = (e.0, e.1.id)
+-- at each place there is a document
+pub places_within : (passes : Doc → Bool) (docs : List Doc) (limit n : ℕ) (found : List ℕ) → found ≡ take limit (places passes docs) → length docs ≡ n → All (λ at. at < n) found
+places_within passes docs limit n found is size = subst (All (λ at. at < n)) (sym is) (All-take (λ at. at < n) limit (places passes docs) (each_at (λ at. at < n) (places passes docs) (places_below passes docs 0 n (omega (arith, size)))))
 
-abbrev pub all_hits : List Entry → List (ℕ × List ℕ)
-all_hits entries = map hit_of (enumerate_from 0 (docs_of entries))
+map_twice : {A B C : Type 0} (f : B → C) (g : A → B) (xs : List A) → map f (map g xs) ≡ map (λ x. f (g x)) xs
+map_twice f g [] = refl
+map_twice f g (x ∷ xs) = ap (λ (l : List _). f (g x) ∷ l) (map_twice f g xs)
 
--- one hit more
-pub hits_more : (entries : List Entry) (n i : ℕ) (e : Entry) (lines now : List HitLine) (line : HitLine) → n ≤ length entries → i < length (take n entries) → get_or (take n entries) i e ≡ e → map hit_view lines ≡ take i (all_hits entries) → hit_view line ≡ (i, e.doc.id) → now ≡ lines ++ line ∷ []
-    → map hit_view now ≡ take (i + 1) (all_hits entries)
-hits_more entries n i e lines now line within lt here before is pushed =
-    let size : length (take n entries) ≡ n = length-take-le n entries within in
-    let low : i < n = omega (arith, size) in
-    let many : length (docs_of entries) ≡ length entries = length-map entries (λ (x : Entry). x.doc) in
-    let numbers : length (enumerate_from 0 (docs_of entries)) ≡ length (docs_of entries) = length-enumerate_from 0 (docs_of entries) in
-    let all : length (all_hits entries) ≡ length (enumerate_from 0 (docs_of entries)) = length-map (enumerate_from 0 (docs_of entries)) hit_of in
-    let entry : get_or entries i e ≡ e = sym (get_or-take n entries i e low) ∙ here in
-    let doc : get_or (docs_of entries) i e.doc ≡ e.doc = get_or-map (λ (x : Entry). x.doc) entries i e e.doc (omega (arith, low)) ∙ ap (λ (x : Entry). x.doc) entry in
-    let numbered : get_or (enumerate_from 0 (docs_of entries)) i (0, e.doc) ≡ (0 + i, get_or (docs_of entries) i e.doc) = get_or-enumerate_from 0 (docs_of entries) i (0, e.doc) (omega (arith, low, many)) in
-    let first : 0 + i ≡ i = omega arith in
-    let hit : get_or (all_hits entries) i (i, e.doc.id) ≡ (i, e.doc.id) =
-    get_or-map hit_of (enumerate_from 0 (docs_of entries)) i (0, e.doc) (i, e.doc.id) (omega (arith, low, many, numbers)) ∙ ap hit_of numbered ∙ (λ j. (first j, (doc j).id)) in
-    ap (map hit_view) pushed ∙ map_push hit_view lines line ∙ (λ j. before j ++ is j ∷ []) ∙ ap (λ h. take i (all_hits entries) ++ h ∷ []) (sym hit) ∙ sym (take_more (all_hits entries) i (i, e.doc.id) (omega (arith, low, many, numbers, all)))
+-- a place with what stands there
+abbrev pub hit_of : (ℕ → List ℕ) → ℕ → ℕ × List ℕ
+hit_of id_at at = (at, id_at at)
 
--- as many hits as there are documents, or as were asked for
-pub hits_end : (entries : List Entry) (k hits : ℕ) → k ≡ min (length entries) hits → take k (all_hits entries) ≡ take hits (all_hits entries)
-hits_end entries k hits is = by (cases_lt hits (length entries))
+-- a document's place with its id
+abbrev pub own_hit : ℕ × Doc → ℕ × List ℕ
+own_hit e = (e.0, e.1.id)
+
+ids_from : (id_at : ℕ → List ℕ) (passes : Doc → Bool) (m : ℕ) (docs : List Doc) → ((k : ℕ) (d : Doc) → k < length docs → id_at (m + k) ≡ (get_or docs k d).id)
+    → map (λ (e : ℕ × Doc). hit_of id_at e.0) (filter (λ e. passes e.1) (enumerate_from m docs)) ≡ map own_hit (filter (λ e. passes e.1) (enumerate_from m docs))
+ids_from id_at passes m [] is = refl
+ids_from id_at passes m (x ∷ xs) is = by (passes x) (ids_from id_at passes (m + 1) xs (λ k d lt. let e : m + 1 + k ≡ m + suc k = omega arith in ap id_at e ∙ is (suc k) d (omega arith)))
   where
-    size : length (all_hits entries) ≡ length entries
-    size = length-map (enumerate_from 0 (docs_of entries)) hit_of ∙ length-enumerate_from 0 (docs_of entries) ∙ length-map entries (λ (x : Entry). x.doc)
+    rest : List (ℕ × Doc)
+    rest = filter (λ e. passes e.1) (enumerate_from (m + 1) xs)
 
-    by : (hits < length entries) ⊎ (length entries ≤ hits) → take k (all_hits entries) ≡ take hits (all_hits entries)
-    by (inl few) = let same : k ≡ hits = omega (arith, is) in ap (λ n. take n (all_hits entries)) same
-    by (inr all) = take_all k (all_hits entries) (omega (arith, is, size)) ∙ sym (take_all hits (all_hits entries) (omega (arith, size)))
+    by : (b : Bool) → map (λ (e : ℕ × Doc). hit_of id_at e.0) rest ≡ map own_hit rest → map (λ (e : ℕ × Doc). hit_of id_at e.0) (cond b ((m, x) ∷ rest) rest) ≡ map own_hit (cond b ((m, x) ∷ rest) rest)
+    by true more = let zero_more : m ≡ m + 0 = omega arith in let own : id_at m ≡ x.id = ap id_at zero_more ∙ is 0 x (omega arith) in λ i. hit_of (λ at. own i) m ∷ more i
+    by false more = more
+
+-- the hits with their documents' ids
+pub hits_are : (known : List (List (List ℕ))) (segments : List Records) (passes : Doc → Bool) (limit : ℕ)
+    → map (hit_of (λ at. (record_at segments at).id)) (take limit (places passes (docs_in known segments))) ≡ take limit (map own_hit (filter (λ e. passes e.1) (enumerate_from 0 (docs_in known segments))))
+hits_are known segments passes limit =
+    let none : Stored = record { id = []; text = []; leaves = []; counted = [] } in
+    let id_at : ℕ → List ℕ = λ at. (record_at segments at).id in
+    let each : (k : ℕ) (d : Doc) → k < length (docs_in known segments) → id_at (0 + k) ≡ (get_or (docs_in known segments) k d).id =
+    λ k d lt. let e : 0 + k ≡ k = omega arith in ap id_at e ∙ ap (λ (x : Doc). x.id) (sym (get_or-map (doc_in known) (records_in segments) k none d (omega (arith, lt, length-map (records_in segments) (doc_in known))))) in
+    sym (take-map (hit_of id_at) limit (places passes (docs_in known segments)))
+    ∙ ap (take limit) (map_twice (hit_of id_at) (λ (e : ℕ × Doc). e.0) (filter (λ e. passes e.1) (enumerate_from 0 (docs_in known segments))) ∙ ids_from id_at passes 0 (docs_in known segments) each)
+
+-- ---- refusals
+
+one_refused : (at : ℕ) (o : Option AskFault) → option_map refusal_as (option_map (refusals.refused_ask at) o) ≡ option_map (words.ask_refusal at) o
+one_refused at None = refl
+one_refused at (Some top_of_none) = refl
+one_refused at (Some value_not_kept) = refl
+
+first_refused_from : (config : Config) (n : ℕ) (asks : List Asked)
+    → option_map refusal_as (slice_get (filter_map (refusals.refusal_at config) (enumerate_from n asks)) 0) ≡ slice_get (filter_map (λ e. option_map (words.ask_refusal e.0) (ask_fault config e.1)) (enumerate_from n asks)) 0
+first_refused_from config n [] = refl
+first_refused_from config n (a ∷ asks) = by (refusals.refusal_at config (n, a)) (option_map (words.ask_refusal n) (ask_fault config a)) (one_refused n (ask_fault config a)) (first_refused_from config (n + 1) asks)
+  where
+    by : (o : Option AskRefused) (r : Option Refusal) → option_map refusal_as o ≡ r → option_map refusal_as (slice_get (filter_map (refusals.refusal_at config) (enumerate_from (n + 1) asks)) 0) ≡ slice_get (filter_map (λ e. option_map (words.ask_refusal e.0) (ask_fault config e.1)) (enumerate_from (n + 1) asks)) 0
+        → option_map refusal_as (slice_get (cons_option o (filter_map (refusals.refusal_at config) (enumerate_from (n + 1) asks))) 0) ≡ slice_get (cons_option r (filter_map (λ e. option_map (words.ask_refusal e.0) (ask_fault config e.1)) (enumerate_from (n + 1) asks))) 0
+    by None None e rest = rest
+    by None (Some r) e rest = absurd cc
+    by (Some x) None e rest = absurd cc
+    by (Some x) (Some r) e rest = e
+
+-- the first ask that is refused is the same
+pub first_refused_as : (config : Config) (asks : List Asked) → option_map refusal_as (refusals.first_refused config asks) ≡ words.first_refused config asks
+first_refused_as config asks = first_refused_from config 0 asks
+
+-- what was answered in place of a plan is the refusal of the first ask that is refused
+pub refused_found : {X : Type 0} (config : Config) (n : ℕ) (docs : List Doc) (s : Search) (o : Option AskRefused) (e : AskRefused) (result : Result X AskRefused) (view : Refusal) → result ≡ Err e → ((r : AskRefused) → o ≡ Some r → result ≡ Err r) → (o ≡ None → e ≡ Memory) → (e ≡ Memory → ⊥) → view ≡ refusal_as e
+    → words.IsFound config n docs s (option_map refusal_as o) (refused view)
+refused_found config n docs s None e result view is first none other same = absurd (other (none refl))
+refused_found config n docs s (Some r) e result view is first none other same = let at : e ≡ r = err-injective e r (sym is ∙ first r refl) in ap refused (same ∙ ap refusal_as at)
+  where
+    err-injective : {X : Type 0} (a b : AskRefused) → (let x : Result X AskRefused = Err a in x) ≡ Err b → a ≡ b
+    err-injective a b e = cc
+
+-- where there is a plan no ask is refused
+pub none_refused : {X : Type 0} (o : Option AskRefused) (x : X) (result : Result X AskRefused) → result ≡ Ok x → ((r : AskRefused) → o ≡ Some r → result ≡ Err r) → o ≡ None
+none_refused None x result is first = refl
+none_refused (Some r) x result is first = absurd (apart x r (sym is ∙ first r refl))
+  where
+    apart : {X : Type 0} (x : X) (r : AskRefused) → (let y : Result X AskRefused = Ok x in y) ≡ Err r → ⊥
+    apart x r e = cc

@@ -1,5 +1,5 @@
 -- How a list of labels grows.
-use Rattle.std.specs.Prelude.{◌≡◌, ◌<◌, ◌≤◌, ℕ, List, length}
+use Rattle.std.specs.Prelude.{◌≡◌, ◌<◌, ◌≤◌, ◌-◌, ℕ, List, length, slice_index_or}
 use Rattle.facet_names.specs.Labels.{GoesOn}
 use Rattle.taxo_list.specs.declared.fault.TaxoFault.{TaxoFault}
 use Rattle.taxo_list.specs.declared.fault.TaxoFault.TheVariants.{LabelsFull}
@@ -13,3 +13,7 @@ pub record IsFull (fault : TaxoFault) (limit : ℕ) (now after : List (List (Lis
   pub size : fault ≡ LabelsFull (length now)
   pub full : limit ≤ length now
   pub more : length now < length after
+
+-- the last of the ordinals of a path's prefixes, which is the path's own
+abbrev pub leaf_of : List ℕ → ℕ
+leaf_of ords = slice_index_or ords (length ords - 1) 0

@@ -1,14 +1,19 @@
 -- What a session keeps true of its fields.
-use Rattle.std.specs.Prelude.{◌≤◌, ℕ, List, length, take}
+use Rattle.std.specs.Prelude.{◌≡◌, ◌≤◌, ◌+◌, ℕ, List, length}
+use Rattle.facet_names.specs.Labels.{GoesOn}
 use Rattle.facet_model.specs.Flags.{Config}
+use Rattle.facet_model.specs.Stored.{Records, Decodes}
+use Rattle.seg_terms.specs.declared.entry.Entry.{Entry}
+use Rattle.facet_shell.specs.Decoding.{docs_in}
 use Rattle.facet_shell.specs.Entries.{AreEntries}
-use Rattle.facet_shell.specs.declared.entry.Entry.{Entry}
 
--- No more labels and documents than there may be. Each document has its ordinals under the labels, and those that were taken have them in the view too.
-pub record IsKept (config : Config) (max_docs max_labels : ℕ) (labels view : List (List (List ℕ))) (entries : List Entry) (taken : ℕ) : Type 0 where
-  pub within : taken ≤ length entries
+-- No more labels and documents than there may be. The segments decode under the view of the last refresh, from which the labels go on; each document that was
+-- added since has its ordinals under the labels.
+pub record IsKept (config : Config) (max_docs max_labels : ℕ) (labels view : List (List (List ℕ))) (segments : List Records) (buffer : List Entry) (taken : ℕ) : Type 0 where
   pub few_labels : length labels ≤ max_labels
-  pub few_docs : length entries ≤ max_docs
+  pub sized : taken ≡ length (docs_in view segments)
+  pub few_docs : taken + length buffer ≤ max_docs
   pub limit : max_docs ≤ 1000000
-  pub listed : AreEntries config labels entries
-  pub viewed : AreEntries config view (take taken entries)
+  pub goes_on : GoesOn view labels
+  pub stored : Decodes view config segments (docs_in view segments)
+  pub buffered : AreEntries config labels buffer

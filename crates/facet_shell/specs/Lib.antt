@@ -1,6 +1,8 @@
 pub mod Entries
+pub mod Decoding
 pub mod Kept
 pub mod Growing
 pub mod Sessions
 pub mod Statuses
 pub mod Runs
+pub mod Searching

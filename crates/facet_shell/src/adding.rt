@@ -1,7 +1,8 @@
-ghost use Rattle.std.specs.Prelude.{◌≡◌, ◌≤◌, ◌+◌, ◌++◌, ◌∷◌, ◌⊎◌, [], ℕ, List, length};
+ghost use Rattle.std.specs.Prelude.{◌≡◌, ◌≤◌, ◌+◌, ◌++◌, ◌∷◌, ◌⊎◌, [], ℕ, List, All, IfOk, length, map};
 ghost use Rattle.facet_names.specs.Labels.{GoesOn, IsLabelList};
 ghost use Rattle.facet_model.specs.Accepts.{Accepts};
 ghost use Rattle.facet_model.specs.CountedPaths.{AreResolved};
+ghost use Rattle.facet_model.specs.Documents.{Doc};
 ghost use Rattle.facet_config.specs.Expanding.{AreAsLong};
 ghost use Rattle.facet_config.specs.Faults.{fault_view};
 ghost use Rattle.facet_words.specs.Answers.{RightReply};
@@ -9,14 +10,15 @@ ghost use Rattle.facet_words.specs.CommandViews.{settings_view};
 ghost use Rattle.facet_words.specs.Commands.{add as add_command};
 ghost use Rattle.facet_words.specs.Replies.{broken, placed, refused, no_memory};
 ghost use Rattle.facet_words.specs.ReplyViews.{refusal_view, reply_view};
-ghost use Rattle.facet_shell.specs.Entries.{AreEntries, IsFrontOf, IsPlaced, docs_of};
+ghost use Rattle.facet_shell.specs.Entries.{AreEntries, IsPlaced, IsShort, docs_of};
+ghost use Rattle.facet_shell.specs.Growing.{leaf_of};
 
-use crate::entry::Entry;
 use crate::labels::add_labels;
 use facet_config::DocFault;
 use facet_model::{Document, Resolved};
 use facet_names::NoMemory;
 use facet_words::{Refusal, Reply, Settings};
+use seg_file::Entry;
 use std::alloc::Global;
 use taxo_list::{TaxoFault, Taxonomy};
 
@@ -30,59 +32,103 @@ fn refusal_of(fault: DocFault) -> Refusal
     }
 }
 
-// Keeps an entry behind these.
-fn keep(entries: &mut Vec<Entry>, entry: Entry) -> Reply
-    ensures kept { ((entries.new.items ≡ entries.old.items ++ entry ∷ []) × (reply_view result ≡ placed (length entries.old.items))) ⊎ ((entries.new.items ≡ entries.old.items) × (reply_view result ≡ refused no_memory)) }
+// Keeps an entry behind these and those that are stored.
+fn keep(stored: usize, entries: &mut Vec<Entry>, entry: Entry) -> Reply
+    requires { stored + length entries.old.items ≤ 1000000 }
+    ensures kept { ((entries.new.items ≡ entries.old.items ++ entry ∷ []) × (reply_view result ≡ placed (stored + length entries.old.items))) ⊎ ((entries.new.items ≡ entries.old.items) × (reply_view result ≡ refused no_memory)) }
 {
-    let at = entries.len() as u64;
+    let at = (stored + entries.len()) as u64;
     match entries.push(entry) {
         Ok(()) => Reply::Placed { at },
         Err(_) => Reply::Refused(Refusal::NoMemory),
     }
 }
 
-// Places a document whose labels' prefixes have these ordinals behind these.
+// The last ordinal of each.
+fn leaves_of(alloc: Global, resolved: &[Resolved]) -> Result<Vec<u32>, NoMemory>
+    ensures { IfOk result (λ v. v.items ≡ map leaf_of resolved.now) }
+{
+    let mut leaves = Vec::with_capacity(alloc, resolved.len())?;
+    for ordinals in resolved {
+        let leaf = match ordinals.prefixes().last() {
+            Some(leaf) => *leaf,
+            None => 0,
+        };
+        leaves.push(leaf)?;
+    }
+    Ok(leaves)
+}
+
+// The document with its ordinals, where the prefixes of its labels have these.
+fn entry_of(
+    alloc: Global,
+    settings: &Settings,
+    doc: Document,
+    resolved: &[Resolved],
+) -> Result<Entry, NoMemory>
+    requires as_long { AreAsLong doc.labels resolved.now }
+    requires short { All IsShort doc.labels }
+    ensures doc { IfOk result (λ e. e.doc ≡ doc) }
+    ensures entry { IfOk result (λ e. (labels : List (List (List ℕ))) → IsLabelList labels → AreResolved labels doc.labels resolved.now → Accepts settings.now.config doc → AreEntries settings.now.config labels (e ∷ [])) }
+{
+    // Their clauses say that the facets are few, and that the ordinals rise.
+    let _ = doc.facets();
+    let leaves = leaves_of(alloc, resolved)?;
+    let counted = settings.config.expand(alloc, &doc, resolved)?;
+    let _ = counted.ords();
+    Ok(Entry {
+        doc,
+        leaves,
+        counted,
+    })
+}
+
+// Places a document whose labels' prefixes have these ordinals behind these and those that are stored.
 fn place(
     alloc: Global,
     settings: &Settings,
+    stored: usize,
     entries: &mut Vec<Entry>,
     doc: Document,
     resolved: &[Resolved],
 ) -> Reply
-    requires { AreAsLong doc.labels resolved.now }
-    ensures placed { IsPlaced settings.now.max_docs (docs_of entries.old.items) doc (docs_of entries.new.items) (reply_view result) }
-    ensures front { IsFrontOf entries.old.items entries.new.items }
-    ensures few { length entries.old.items ≤ settings.now.max_docs → length entries.new.items ≤ settings.now.max_docs }
+    requires as_long { AreAsLong doc.labels resolved.now }
+    requires short { All IsShort doc.labels }
+    requires few { stored + length entries.old.items ≤ 1000000 }
+    ensures placed { (docs : List Doc) → length docs ≡ stored → IsPlaced settings.now.max_docs (docs ++ docs_of entries.old.items) doc (docs ++ docs_of entries.new.items) (reply_view result) }
+    ensures few { stored + length entries.old.items ≤ settings.now.max_docs → stored + length entries.new.items ≤ settings.now.max_docs }
     ensures entries { (labels : List (List (List ℕ))) → IsLabelList labels → AreResolved labels doc.labels resolved.now → Accepts settings.now.config doc → AreEntries settings.now.config labels entries.old.items → AreEntries settings.now.config labels entries.new.items }
 {
-    let count = entries.len();
+    let count = stored + entries.len();
     if count >= settings.max_docs as usize {
         return Reply::Refused(Refusal::DocsFull {
             count: count as u64,
         });
     }
-    match settings.config.expand(alloc, &doc, resolved) {
-        Ok(counted) => keep(entries, Entry { doc, counted }),
+    match entry_of(alloc, settings, doc, resolved) {
+        Ok(entry) => keep(stored, entries, entry),
         Err(NoMemory) => Reply::Refused(Refusal::NoMemory),
     }
 }
 
-/// Adds a document behind these: its labels are resolved first, and stay where there is no room or no memory for the rest.
+/// Adds a document behind these and those that are stored: its labels are resolved first, and stay where there is no room or no memory for the
+/// rest.
 pub fn add(
     alloc: Global,
     settings: &Settings,
     labels: &mut Taxonomy,
+    stored: usize,
     entries: &mut Vec<Entry>,
     doc: Document,
 ) -> Reply
     requires room { length labels.old ≤ settings.now.max_labels }
+    requires few { stored + length entries.old.items ≤ settings.now.max_docs }
     requires entries { AreEntries settings.now.config labels.old entries.old.items }
-    ensures right { (taken : ℕ) → RightReply (settings_view settings.now) (record { labels = labels.old; docs = docs_of entries.old.items; taken = taken }) (add_command doc) (reply_view result) (record { labels = labels.new; docs = docs_of entries.new.items; taken = taken }) }
+    ensures right { (docs : List Doc) → length docs ≡ stored → RightReply (settings_view settings.now) (record { labels = labels.old; docs = docs ++ docs_of entries.old.items; taken = stored }) (add_command doc) (reply_view result) (record { labels = labels.new; docs = docs ++ docs_of entries.new.items; taken = stored }) }
     ensures room { length labels.new ≤ settings.now.max_labels }
     ensures goes_on { GoesOn labels.old labels.new }
     ensures entries { AreEntries settings.now.config labels.new entries.new.items }
-    ensures front { IsFrontOf entries.old.items entries.new.items }
-    ensures few { length entries.old.items ≤ settings.now.max_docs → length entries.new.items ≤ settings.now.max_docs }
+    ensures few { stored + length entries.new.items ≤ settings.now.max_docs }
 {
     match settings.config.check(&doc) {
         Ok(()) => {}
@@ -93,7 +139,7 @@ pub fn add(
     let added = add_labels(alloc, labels, doc.facets(), settings.max_labels);
     let _ = labels.size();
     match added {
-        Ok(resolved) => place(alloc, settings, entries, doc, &resolved),
+        Ok(resolved) => place(alloc, settings, stored, entries, doc, &resolved),
         Err(TaxoFault::LabelsFull { size }) => Reply::Refused(Refusal::LabelsFull { size }),
         Err(TaxoFault::NoMemory) => Reply::Refused(Refusal::NoMemory),
     }

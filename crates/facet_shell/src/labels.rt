@@ -1,7 +1,8 @@
-ghost use Rattle.std.specs.Prelude.{◌≡◌, ◌≢◌, ◌≤◌, Some, length, map, slice_get, IfOk, IfErr, OnOk, flat_map, fold};
+ghost use Rattle.std.specs.Prelude.{◌≡◌, ◌≢◌, ◌≤◌, Some, length, map, slice_get, All, IfOk, IfErr, OnOk, flat_map, fold};
 ghost use Rattle.facet_names.specs.Labels.{prefixes, with_label};
 ghost use Rattle.facet_model.specs.CountedPaths.{AreResolved};
 ghost use Rattle.taxo_list.specs.declared.fault.TaxoFault.TheVariants.{NoMemory as Memory};
+ghost use Rattle.facet_shell.specs.Entries.{IsShort};
 ghost use Rattle.facet_shell.specs.Growing.{IsBetween, IsFull};
 
 use facet_model::Resolved;
@@ -20,6 +21,7 @@ fn add_prefixes(
     requires room { length labels.old ≤ limit }
     ensures ok { OnOk result (labels.new ≡ fold with_label labels.old (prefixes path.now)) }
     ensures ordinals { IfOk result (λ r. map (slice_get labels.new) r ≡ map Some (prefixes path.now)) }
+    ensures short { IsShort path.now }
     ensures between { IsBetween labels.old labels.new (fold with_label labels.old (prefixes path.now)) }
     ensures few { length labels.new ≤ limit }
     ensures full { IfErr result (λ e. e ≢ Memory → IsFull e limit labels.new (fold with_label labels.old (prefixes path.now))) }
@@ -50,6 +52,7 @@ pub fn add_labels(
     requires room { length labels.old ≤ limit }
     ensures ok { OnOk result (labels.new ≡ fold with_label labels.old (flat_map prefixes paths.now)) }
     ensures ordinals { IfOk result (λ v. AreResolved labels.new paths.now v.items) }
+    ensures short { OnOk result (All IsShort paths.now) }
     ensures between { IsBetween labels.old labels.new (fold with_label labels.old (flat_map prefixes paths.now)) }
     ensures few { length labels.new ≤ limit }
     ensures full { IfErr result (λ e. e ≢ Memory → IsFull e limit labels.new (fold with_label labels.old (flat_map prefixes paths.now))) }

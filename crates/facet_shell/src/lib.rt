@@ -2,11 +2,12 @@
 #![tactic(auto)]
 
 mod adding;
-mod entry;
+mod flushing;
 mod labels;
 mod program;
 mod searching;
 mod session;
+mod showing;
 mod status;
 
 pub use program::run;

@@ -122,6 +122,114 @@ pub const ROWS: &[Row] = &[
 "#,
     },
     Row {
+        name: "books drilled into authors and dates, and shown",
+        script: r#"{"cmd":"config","dims":[{"dim":"Publish Date","hierarchical":true}]}
+{"s":1,"cmd":"add","id":"b1","facets":[["Author","Bob"],["Publish Date","2010","10","15"]]}
+{"s":1,"cmd":"add","id":"b2","facets":[["Author","Lisa"],["Publish Date","2010","10","20"]]}
+{"s":1,"cmd":"add","id":"b3","facets":[["Author","Lisa"],["Publish Date","2012","1","1"]]}
+{"s":1,"cmd":"add","id":"b4","facets":[["Author","Susan"],["Publish Date","2012","1","7"]]}
+{"s":1,"cmd":"add","id":"b5","facets":[["Author","Frank"],["Publish Date","1999","5","5"]]}
+{"s":1,"cmd":"refresh"}
+{"s":1,"cmd":"search","drill":[["Author","Lisa"]],"sideways":true,"ask":[{"top":["Publish Date"],"n":10},{"top":["Author"],"n":10}]}
+{"s":1,"cmd":"search","drill":[["Author","Lisa"],["Publish Date","2010"]],"sideways":true,"ask":[{"top":["Publish Date"],"n":10},{"top":["Author"],"n":10}]}
+{"s":1,"cmd":"search","drill":[["Author","Lisa"],["Author","Bob"],["Author","Lisa"]],"ask":[{"top":["Publish Date"],"n":10},{"top":["Author"],"n":10}]}
+{"s":1,"cmd":"search","drill":[["Publish Date"]],"hits":1}
+{"s":1,"cmd":"search","drill":[["Author","Zed"]],"sideways":true,"ask":[{"top":["Author"],"n":1},{"all":1}]}
+{"s":1,"cmd":"document","at":2}
+{"s":1,"cmd":"document","at":5}
+"#,
+        status: Status::Done,
+        output: r#"{"at":0,"line":2,"s":1}
+{"at":1,"line":3,"s":1}
+{"at":2,"line":4,"s":1}
+{"at":3,"line":5,"s":1}
+{"at":4,"line":6,"s":1}
+{"line":7,"n":5,"s":1}
+{"hit_count":2,"hits":[{"at":1,"id":"b2"},{"at":2,"id":"b3"}],"line":8,"n":5,"results":[{"child_count":2,"children":[["2010",1],["2012",1]],"path":["Publish Date"],"value":2},{"child_count":4,"children":[["Lisa",2],["Bob",1],["Frank",1],["Susan",1]],"path":["Author"],"value":5}],"s":1}
+{"hit_count":1,"hits":[{"at":1,"id":"b2"}],"line":9,"n":5,"results":[{"child_count":2,"children":[["2010",1],["2012",1]],"path":["Publish Date"],"value":2},{"child_count":2,"children":[["Bob",1],["Lisa",1]],"path":["Author"],"value":2}],"s":1}
+{"hit_count":3,"hits":[{"at":0,"id":"b1"},{"at":1,"id":"b2"},{"at":2,"id":"b3"}],"line":10,"n":5,"results":[{"child_count":2,"children":[["2010",2],["2012",1]],"path":["Publish Date"],"value":3},{"child_count":2,"children":[["Lisa",2],["Bob",1]],"path":["Author"],"value":3}],"s":1}
+{"hit_count":5,"hits":[{"at":0,"id":"b1"}],"line":11,"n":5,"results":[],"s":1}
+{"hit_count":0,"hits":[],"line":12,"n":5,"results":[{"child_count":4,"children":[["Lisa",2]],"path":["Author"],"value":5},{"dims":[{"child_count":4,"children":[["Lisa",2]],"path":["Author"],"value":5}]}],"s":1}
+{"at":2,"id":"b3","labels":[["Author","Lisa"],["Publish Date","2012","1","1"]],"line":13,"n":5,"ordinals":[7,11],"s":1,"text":""}
+{"count":5,"line":14,"refused":"no_such_document","s":1}
+"#,
+    },
+    Row {
+        name: "queries by the words of texts",
+        script: r#"{"cmd":"config"}
+{"s":1,"cmd":"add","id":"b1","text":"Rust book"}
+{"s":1,"cmd":"add","id":"b2","text":"Go book"}
+{"s":1,"cmd":"add","id":"b3","text":"rust\tGO"}
+{"s":1,"cmd":"refresh"}
+{"s":1,"cmd":"search","ask":[{"top":["A"],"n":0}]}
+{"s":1,"cmd":"search","query":{"term":"rust"}}
+{"s":1,"cmd":"search","query":{"term":"Rust"}}
+{"s":1,"cmd":"search","query":{"bool":{"must":[{"term":"rust"}],"must_not":[{"term":"go"}]}}}
+{"s":1,"cmd":"search","query":{"bool":{"should":[{"term":"rust"},{"term":"go"}]}},"hits":2}
+{"s":1,"cmd":"search","query":{"bool":{"must":[{"term":"book"}],"should":[{"term":"go"}]}}}
+{"s":1,"cmd":"search","query":{"bool":{"must_not":[{"term":"rust"}]}}}
+{"s":1,"cmd":"search","query":{"bool":{}}}
+{"s":1,"cmd":"document","at":2}
+"#,
+        status: Status::Done,
+        output: r#"{"at":0,"line":2,"s":1}
+{"at":1,"line":3,"s":1}
+{"at":2,"line":4,"s":1}
+{"line":5,"n":3,"s":1}
+{"ask":0,"line":6,"refused":"top_zero","s":1}
+{"hit_count":2,"hits":[{"at":0,"id":"b1"},{"at":2,"id":"b3"}],"line":7,"n":3,"results":[],"s":1}
+{"hit_count":0,"hits":[],"line":8,"n":3,"results":[],"s":1}
+{"hit_count":1,"hits":[{"at":0,"id":"b1"}],"line":9,"n":3,"results":[],"s":1}
+{"hit_count":3,"hits":[{"at":0,"id":"b1"},{"at":1,"id":"b2"}],"line":10,"n":3,"results":[],"s":1}
+{"hit_count":2,"hits":[{"at":0,"id":"b1"},{"at":1,"id":"b2"}],"line":11,"n":3,"results":[],"s":1}
+{"hit_count":0,"hits":[],"line":12,"n":3,"results":[],"s":1}
+{"hit_count":0,"hits":[],"line":13,"n":3,"results":[],"s":1}
+{"at":2,"id":"b3","labels":[],"line":14,"n":3,"ordinals":[],"s":1,"text":"rust\tGO"}
+"#,
+    },
+    Row {
+        name: "three dimensions, in two segments",
+        script: r#"{"cmd":"config"}
+{"s":1,"cmd":"add","id":"d1","facets":[["A","1"],["B","1"],["C","1"]]}
+{"s":1,"cmd":"add","id":"d2","facets":[["A","2"],["B","1"],["C","1"]]}
+{"s":1,"cmd":"refresh"}
+{"s":1,"cmd":"add","id":"d3","facets":[["A","1"],["B","2"],["C","1"]]}
+{"s":1,"cmd":"add","id":"d4","facets":[["A","2"],["B","2"],["C","1"]]}
+{"s":1,"cmd":"document","at":2}
+{"s":1,"cmd":"refresh"}
+{"s":1,"cmd":"search","drill":[["A","1"],["B","1"],["C","1"]],"sideways":true,"ask":[{"top":["A"],"n":5},{"top":["B"],"n":5},{"top":["C"],"n":5},{"all":1}]}
+{"s":1,"cmd":"search","drill":[["A","1"]],"ask":[{"all":5}]}
+{"s":1,"cmd":"document","at":3}
+"#,
+        status: Status::Done,
+        output: r#"{"at":0,"line":2,"s":1}
+{"at":1,"line":3,"s":1}
+{"line":4,"n":2,"s":1}
+{"at":2,"line":5,"s":1}
+{"at":3,"line":6,"s":1}
+{"count":2,"line":7,"refused":"no_such_document","s":1}
+{"line":8,"n":4,"s":1}
+{"hit_count":1,"hits":[{"at":0,"id":"d1"}],"line":9,"n":4,"results":[{"child_count":2,"children":[["1",1],["2",1]],"path":["A"],"value":2},{"child_count":2,"children":[["1",1],["2",1]],"path":["B"],"value":2},{"child_count":1,"children":[["1",1]],"path":["C"],"value":1},{"dims":[{"child_count":2,"children":[["1",1]],"path":["A"],"value":2},{"child_count":2,"children":[["1",1]],"path":["B"],"value":2},{"child_count":1,"children":[["1",1]],"path":["C"],"value":1}]}],"s":1}
+{"hit_count":2,"hits":[{"at":0,"id":"d1"},{"at":2,"id":"d3"}],"line":10,"n":4,"results":[{"dims":[{"child_count":1,"children":[["1",2]],"path":["A"],"value":2},{"child_count":2,"children":[["1",1],["2",1]],"path":["B"],"value":2},{"child_count":1,"children":[["1",2]],"path":["C"],"value":2}]}],"s":1}
+{"at":3,"id":"d4","labels":[["A","2"],["B","2"],["C","1"]],"line":11,"n":4,"ordinals":[7,8,6],"s":1,"text":""}
+"#,
+    },
+    Row {
+        name: "a path of the snapshot that no hit has",
+        script: r#"{"cmd":"config","dims":[{"dim":"D","hierarchical":true}]}
+{"s":1,"cmd":"add","id":"a","text":"one","facets":[["D","a"]]}
+{"s":1,"cmd":"add","id":"b","text":"two","facets":[["D","a","b"]]}
+{"s":1,"cmd":"refresh"}
+{"s":1,"cmd":"search","query":{"term":"one"},"ask":[{"specific":["D","a","b"]},{"specific":["D","a"]},{"specific":["D","z"]}]}
+"#,
+        status: Status::Done,
+        output: r#"{"at":0,"line":2,"s":1}
+{"at":1,"line":3,"s":1}
+{"line":4,"n":2,"s":1}
+{"hit_count":1,"hits":[{"at":0,"id":"a"}],"line":5,"n":2,"results":[{"path":["D","a","b"],"value":0},{"path":["D","a"],"value":1},{"path":["D","z"],"value":-1}],"s":1}
+"#,
+    },
+    Row {
         name: "no document",
         script: r#"{"cmd":"config"}
 {"s":1,"cmd":"search","ask":[{"top":["Author"],"n":1},{"specific":["Author","x"]},{"all":3}]}

@@ -1,44 +1,53 @@
-ghost use Rattle.std.specs.Prelude.{◌≡◌, ℕ, List, IfOk, length, map};
-ghost use Rattle.facet_model.specs.AskViews.{ask_view};
+ghost use Rattle.std.specs.Prelude.{◌≡◌, ◌≤◌, ℕ, List, IfOk, IfErr, OnOk, length, map};
 ghost use Rattle.facet_words.specs.Answers.{RightReply, empty_shelf};
 ghost use Rattle.facet_words.specs.CommandViews.{command_view, settings_view};
-ghost use Rattle.facet_words.specs.Commands.{add as add_command, refresh as refresh_command, search as search_command};
+ghost use Rattle.facet_words.specs.Commands.{add as add_command, refresh as refresh_command, search as search_command, document as document_command};
 ghost use Rattle.facet_words.specs.ReplyViews.{reply_view};
+ghost use Rattle.facet_shell.specs.Searching.{search_view};
 ghost use Rattle.facet_shell.specs.Sessions.{AreReplies};
 
 use crate::adding::add;
-use crate::entry::Entry;
+use crate::flushing::flush;
 use crate::searching::search;
-use facet_model::{Ask, Document};
+use crate::showing::show;
+use facet_model::Document;
 use facet_names::NoMemory;
 use facet_words::{Command, Order, Refusal, Reply, Settings, write_reply};
+use seg_file::{Entry, Segment};
+use sideways::SearchAsk;
 use std::alloc::Global;
 use std::marker::Model;
+use std::sync::Arc;
 use taxo_list::{TaxoView, Taxonomy};
 
-/// What the orders of one session work on: the settings, the labels, the documents, how many of them the last refresh took, and the labels as
-/// they stood then.
+/// What the orders of one session work on: the settings and the labels, the segments of the documents that the last refresh took with the labels as
+/// they stood then, and the documents that were added since.
 #[derive(Drop)]
 pub struct Session {
     alloc: Global,
     settings: Settings,
     labels: Taxonomy,
-    entries: Vec<Entry>,
     view: TaxoView,
+    segments: Vec<Arc<Segment>>,
+    // how many documents the segments have
     taken: usize,
+    buffer: Vec<Entry>,
 }
 
 impl Model for Session {
+    ghost use Rattle.std.specs.Prelude.{◌++◌, map};
+    ghost use Rattle.std.specs.Arc.{arc_value};
     ghost use Rattle.facet_words.specs.CommandViews.{settings_view};
+    ghost use Rattle.facet_shell.specs.Decoding.{docs_in};
     ghost use Rattle.facet_shell.specs.Entries.{docs_of};
     ghost use Rattle.facet_shell.specs.Kept.{IsKept};
     ghost use Rattle.facet_shell.specs.Sessions.{State};
 
     ghost Value = { State };
 
-    ghost view = { λ s. record { settings = settings_view s.settings; shelf = record { labels = s.labels; docs = docs_of s.entries.items; taken = s.taken } } };
+    ghost view = { λ s. record { settings = settings_view s.settings; shelf = record { labels = s.labels; docs = docs_in s.view (map arc_value s.segments.items) ++ docs_of s.buffer.items; taken = s.taken } } };
 
-    ghost invariant = { λ s. IsKept s.settings.config s.settings.max_docs s.settings.max_labels s.labels s.view s.entries.items s.taken };
+    ghost invariant = { λ s. IsKept s.settings.config s.settings.max_docs s.settings.max_labels s.labels s.view (map arc_value s.segments.items) s.buffer.items s.taken };
 }
 
 impl Session {
@@ -52,9 +61,10 @@ impl Session {
             alloc,
             settings,
             labels,
-            entries: Vec::new(alloc),
             view,
+            segments: Vec::new(alloc),
             taken: 0,
+            buffer: Vec::new(alloc),
         })
     }
 
@@ -66,7 +76,8 @@ impl Session {
             self.alloc,
             &self.settings,
             &mut self.labels,
-            &mut self.entries,
+            self.taken,
+            &mut self.buffer,
             doc,
         )
     }
@@ -75,10 +86,17 @@ impl Session {
         ensures right { RightReply self.old.settings self.old.shelf refresh_command (reply_view result) self.new.shelf }
         ensures same { self.new.settings ≡ self.old.settings }
     {
-        match self.labels.view() {
-            Ok(view) => {
+        // Their clauses say that these are label lists.
+        let _ = self.view.size();
+        let _ = self.labels.size();
+        let Ok(view) = self.labels.view() else {
+            return Reply::Refused(Refusal::NoMemory);
+        };
+        let added = self.buffer.len();
+        match flush(self.alloc, &mut self.segments, &mut self.buffer) {
+            Ok(()) => {
                 self.view = view;
-                self.taken = self.entries.len();
+                self.taken += added;
                 Reply::Number {
                     n: self.taken as u64,
                 }
@@ -87,18 +105,34 @@ impl Session {
         }
     }
 
-    fn search(&self, asks: &[Ask], hits: u32) -> Reply
-        ensures right { RightReply self.now.settings self.now.shelf (search_command (record { asks = map ask_view asks.now; hits = hits })) (reply_view result) self.now.shelf }
+    fn search(&self, ask: &SearchAsk) -> Reply
+        ensures right { RightReply self.now.settings self.now.shelf (search_command (search_view ask.now)) (reply_view result) self.now.shelf }
     {
-        let (taken, _) = self.entries.split_at(self.taken);
         match search(
             self.alloc,
             &self.settings.config,
             &self.view,
+            &self.segments,
             self.taken as u64,
-            taken,
-            asks,
-            hits,
+            ask,
+        ) {
+            Ok(reply) => reply,
+            Err(NoMemory) => Reply::Refused(Refusal::NoMemory),
+        }
+    }
+
+    fn document(&self, at: u32) -> Reply
+        ensures right { RightReply self.now.settings self.now.shelf (document_command at) (reply_view result) self.now.shelf }
+    {
+        // Their clauses say that these are label lists.
+        let _ = self.view.size();
+        let _ = self.labels.size();
+        match show(
+            self.alloc,
+            &self.view,
+            &self.segments,
+            self.taken as u64,
+            at,
         ) {
             Ok(reply) => reply,
             Err(NoMemory) => Reply::Refused(Refusal::NoMemory),
@@ -113,7 +147,20 @@ impl Session {
         match command {
             Command::Add { doc } => self.add(doc),
             Command::Refresh => self.refresh(),
-            Command::Search { asks, hits } => self.search(&asks, hits),
+            Command::Search {
+                query,
+                drill,
+                sideways,
+                asks,
+                hits,
+            } => self.search(&SearchAsk {
+                query,
+                drill,
+                asks,
+                hits,
+                sideways,
+            }),
+            Command::Document { at } => self.document(at),
         }
     }
 }

@@ -160,6 +160,29 @@ fn many_facets(rt: HostRuntime) -> Result<(), Fail> {
     Ok(())
 }
 
+// A search drilled into so many paths, one of which a document has.
+fn drilled(alloc: Global, paths: usize) -> Result<Vec<u8>, Fail> {
+    let mut line = Vec::new(alloc);
+    line.extend_from_slice(b"{\"s\":1,\"cmd\":\"search\",\"drill\":[[\"Author\",\"Bob\"]")?;
+    for at in 1..paths {
+        line.extend_from_slice(format!(in alloc; ",[\"Author\",\"{at}\"]")?.as_bytes())?;
+    }
+    line.extend_from_slice(b"]}\n")?;
+    Ok(line)
+}
+
+#[test]
+fn many_drill_paths(rt: HostRuntime) -> Result<(), Fail> {
+    let alloc = rt.alloc();
+    let search = drilled(alloc, 256)?;
+    let script = joined(alloc, &[CONFIG, BOB, LISA, REFRESH, search.as_slice()])?;
+    let (ended, sink) = run_on(&rt, &script, 4096, &[], &[])?;
+    assert!(rt; ended.status == Status::Done);
+    let reply = b"{\"hit_count\":1,\"hits\":[{\"at\":0,\"id\":\"b1\"}],\"line\":5,\"n\":2,\"results\":[],\"s\":1}\n";
+    assert!(rt; sink.bytes().ends_with(reply));
+    Ok(())
+}
+
 #[test]
 fn rows(rt: HostRuntime) -> Result<(), Fail> {
     for row in ROWS {

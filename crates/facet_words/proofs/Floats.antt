@@ -10,8 +10,8 @@ use Rattle.facet_model.specs.Results.{Listed, Answer, top_answer, value_answer, 
 use Rattle.facet_model.specs.Accepts.{no_component, not_hierarchical, not_multi_valued}
 use Rattle.facet_words.specs.declared.fault.ScriptFault.{ScriptFault}
 use Rattle.facet_words.specs.declared.fault.ScriptFault.TheVariants as faults
-use Rattle.facet_words.specs.Replies.{broken, labels_full, docs_full, top_zero, dim_value_not_kept, no_memory, Reply, placed, numbered, found, refused}
-use Rattle.facet_words.specs.ReplyLines.{child_data, listed_data, value_data, dims_data, answer_data, hit_data, reply_data, fault_data}
+use Rattle.facet_words.specs.Replies.{broken, labels_full, docs_full, top_zero, dim_value_not_kept, no_such_document, no_memory, Reply, placed, numbered, found, shown, refused}
+use Rattle.facet_words.specs.ReplyLines.{whole_data, path_data, child_data, listed_data, value_data, dims_data, answer_data, hit_data, reply_data, fault_data}
 
 children_plain : (cs : List PartCount) → items_have_float (items_of (map child_data cs)) ≡ false
 children_plain [] = refl
@@ -53,11 +53,20 @@ answers_plain (top_answer (Some r) ∷ answers) = rw (listed_plain r) (answers_p
 answers_plain (value_answer path value ∷ answers) = rw (value_plain path value) (answers_plain answers)
 answers_plain (dims_answer rs ∷ answers) = rw (dims_plain rs) (answers_plain answers)
 
+paths_plain : (paths : List (List (List ℕ))) → items_have_float (items_of (map path_data paths)) ≡ false
+paths_plain [] = refl
+paths_plain (p ∷ ps) = rw (path_plain p) (paths_plain ps)
+
+wholes_plain : (ns : List ℕ) → items_have_float (items_of (map whole_data ns)) ≡ false
+wholes_plain [] = refl
+wholes_plain (n ∷ ns) = wholes_plain ns
+
 pub reply_plain : (session line : ℕ) (reply : Reply) → has_float (reply_data session line reply) ≡ false
 unfolding reply_data
 reply_plain session line (placed at) = refl
 reply_plain session line (numbered n) = refl
 reply_plain session line (found f) = rw (hits_plain f.hits, answers_plain f.answers) refl
+reply_plain session line (shown s) = rw (paths_plain s.doc.labels, wholes_plain s.ordinals) refl
 reply_plain session line (refused (broken (no_component facet))) = refl
 reply_plain session line (refused (broken (not_hierarchical facet len))) = refl
 reply_plain session line (refused (broken (not_multi_valued facet))) = refl
@@ -65,6 +74,7 @@ reply_plain session line (refused (labels_full size)) = refl
 reply_plain session line (refused (docs_full count)) = refl
 reply_plain session line (refused (top_zero ask)) = refl
 reply_plain session line (refused (dim_value_not_kept ask)) = refl
+reply_plain session line (refused (no_such_document count)) = refl
 reply_plain session line (refused no_memory) = refl
 
 pub fault_plain : (fault : ScriptFault) → has_float (fault_data fault) ≡ false

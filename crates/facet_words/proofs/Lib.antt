@@ -2,5 +2,8 @@ pub mod Traversals
 pub mod FirstLines
 pub mod Members
 pub mod Orders
+pub mod Levels
+mod Limits
+pub mod Nodes
 pub mod Floats
 mod Dimensions

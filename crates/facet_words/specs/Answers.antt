@@ -1,15 +1,16 @@
 -- Which replies of one session are right, and which bytes are a script's output.
-use Rattle.std.specs.Prelude.{◌≡◌, ◌≤◌, ◌⊎◌, ℕ, max, nat_le, nat_lt, if◌then◌else◌, List, [], ◌∷◌, ◌++◌, length, take, map, filter_map, flat_map, fold, slice_get, Option, Some, None, Ok, option_map}
+use Rattle.std.specs.Prelude.{◌≡◌, ◌≤◌, ◌⊎◌, ℕ, max, nat_le, nat_lt, if◌then◌else◌, List, [], ◌∷◌, ◌++◌, length, take, map, filter, filter_map, flat_map, fold, slice_get, Option, Some, None, Ok, option_map}
 use Rattle.std.specs.List.{AllZip, enumerate_from}
-use Rattle.facet_names.specs.Labels.{with_label, prefixes}
+use Rattle.facet_names.specs.Labels.{with_label, prefixes, place}
 use Rattle.facet_model.specs.Flags.{Config}
 use Rattle.facet_model.specs.Documents.{Doc}
 use Rattle.facet_model.specs.Accepts.{Broken, first_broken}
 use Rattle.facet_model.specs.Asks.{Asked, AskFault, top_of_none, value_not_kept, ask_fault}
 use Rattle.facet_model.specs.Results.{Answer, IsAnswer}
-use Rattle.facet_words.specs.Commands.{Settings, Search, Command, add, refresh, search, Order, Script}
+use Rattle.facet_model.specs.Hits.{is_hit, hits, lifted}
+use Rattle.facet_words.specs.Commands.{Settings, Search, Command, add, refresh, search, document, Order, Script}
 use Rattle.facet_words.specs.Scripts.{script}
-use Rattle.facet_words.specs.Replies.{Refusal, broken, labels_full, docs_full, top_zero, dim_value_not_kept, no_memory, Reply, placed, numbered, found, refused}
+use Rattle.facet_words.specs.Replies.{Refusal, broken, labels_full, docs_full, top_zero, dim_value_not_kept, no_such_document, no_memory, Reply, placed, numbered, found, shown, refused}
 use Rattle.facet_words.specs.ReplyLines.{reply_lines}
 
 -- what a session works on: the labels with the root, the documents, and how many of them the last refresh took
@@ -52,13 +53,17 @@ LeavesSome settings shelf doc None next = (k : ℕ) × (length shelf.labels ≤ 
 
 -- ---- search
 
--- the documents that a search hits: all, as no search has a query yet
+-- the documents that a search hits
 abbrev pub hits_of : List Doc → Search → List Doc
-hits_of docs s = docs
+hits_of docs s = hits docs s.query s.drill
 
--- the first hits, each with its place among the documents and its id
+-- the documents over which a dimension is counted: the hits, and sideways also what its own drill alone keeps out
+abbrev pub docs_for : List Doc → Search → List ℕ → List Doc
+docs_for docs s dim = if s.sideways then lifted docs s.query s.drill dim else hits_of docs s
+
+-- the first hits, each with its place among all the documents and its id
 abbrev pub first_hits : List Doc → Search → List (ℕ × List ℕ)
-first_hits docs s = take s.hits (map (λ e. (e.0, e.1.id)) (enumerate_from 0 docs))
+first_hits docs s = take s.hits (map (λ e. (e.0, e.1.id)) (filter (λ e. is_hit s.query s.drill e.1) (enumerate_from 0 docs)))
 
 -- why the ask at a place is refused
 abbrev pub ask_refusal : ℕ → AskFault → Refusal
@@ -69,11 +74,19 @@ ask_refusal at value_not_kept = dim_value_not_kept at
 abbrev pub first_refused : Config → List Asked → Option Refusal
 first_refused config asks = slice_get (filter_map (λ e. option_map (ask_refusal e.0) (ask_fault config e.1)) (enumerate_from 0 asks)) 0
 
--- The reply to a search over these documents, which so many operations made. Each dimension is counted over the hits.
+-- The reply to a search over these documents, which so many operations made.
 abbrev pub IsFound : Config → ℕ → List Doc → Search → Option Refusal → Reply → Type 0
 IsFound config operations docs s (Some r) reply = reply ≡ refused r
-IsFound config operations docs s None reply = (answers : List Answer) × AllZip (IsAnswer config docs (λ dim. hits_of docs s)) s.asks answers
+IsFound config operations docs s None reply = (answers : List Answer) × AllZip (IsAnswer config docs (docs_for docs s)) s.asks answers
     × (reply ≡ found (record { operations = operations; hit_count = length (hits_of docs s); hits = first_hits docs s; answers = answers }))
+
+-- ---- document
+
+-- The reply that shows what stands at a place: the document with the ordinals of its labels, or else how many documents there are.
+abbrev pub IsShown : Shelf → ℕ → Option Doc → Reply → Type 0
+IsShown shelf at None reply = reply ≡ refused (no_such_document (length (snapshot shelf)))
+IsShown shelf at (Some doc) reply = (ordinals : List ℕ) × (map (place shelf.labels) doc.labels ≡ map Some ordinals)
+    × (reply ≡ shown (record { operations = shelf.taken; at = at; doc = doc; ordinals = ordinals }))
 
 -- ---- each command
 
@@ -82,12 +95,14 @@ abbrev pub IsRight : Settings → Shelf → Command → Reply → Shelf → Type
 IsRight settings shelf (add doc) reply next = let r = added settings shelf doc (first_broken settings.config doc) in (reply ≡ r.0) × (next ≡ r.1)
 IsRight settings shelf refresh reply next = (reply ≡ numbered (length shelf.docs)) × (next ≡ record shelf { taken = length shelf.docs })
 IsRight settings shelf (search s) reply next = IsFound settings.config shelf.taken (snapshot shelf) s (first_refused settings.config s.asks) reply × (next ≡ shelf)
+IsRight settings shelf (document at) reply next = IsShown shelf at (slice_get (snapshot shelf) at) reply × (next ≡ shelf)
 
 -- what a command leaves that found no memory
 abbrev pub IsLeft : Settings → Shelf → Command → Shelf → Type 0
 IsLeft settings shelf (add doc) next = LeavesSome settings shelf doc (first_broken settings.config doc) next
 IsLeft settings shelf refresh next = next ≡ shelf
 IsLeft settings shelf (search s) next = next ≡ shelf
+IsLeft settings shelf (document at) next = next ≡ shelf
 
 -- it is right, or there was no memory
 abbrev pub RightReply : Settings → Shelf → Command → Reply → Shelf → Type 0

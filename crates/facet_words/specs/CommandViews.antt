@@ -1,6 +1,7 @@
 -- The plain data of commands.
 use Rattle.std.specs.Prelude.{map}
 use Rattle.facet_model.specs.AskViews.{ask_view}
+use Rattle.facet_model.specs.QueryViews.{query_view}
 use Rattle.facet_words.specs.Commands as plain
 use Rattle.facet_words.specs.declared.command.Command.{Command}
 use Rattle.facet_words.specs.declared.command.Command.TheVariants as commands
@@ -11,7 +12,8 @@ use Rattle.facet_words.specs.declared.command.Settings.{Settings}
 abbrev pub command_view : Command → plain.Command
 command_view (commands.Add doc) = plain.add doc
 command_view commands.Refresh = plain.refresh
-command_view (commands.Search asks hits) = plain.search (record { asks = map ask_view asks.items; hits = hits })
+command_view (commands.Search query drill sideways asks hits) = plain.search (record { query = query_view query; drill = drill; sideways = sideways; asks = map ask_view asks.items; hits = hits })
+command_view (commands.Document at) = plain.document at
 
 abbrev pub order_view : Order → plain.Order
 order_view o = record { session = o.session; line = o.line; command = command_view o.command }

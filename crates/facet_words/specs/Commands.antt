@@ -1,8 +1,9 @@
 -- Scripts, as plain data.
-use Rattle.std.specs.Prelude.{ℕ, List}
+use Rattle.std.specs.Prelude.{ℕ, List, Bool}
 use Rattle.facet_model.specs.Flags.{Config}
 use Rattle.facet_model.specs.Documents.{Doc}
 use Rattle.facet_model.specs.Asks.{Asked}
+use Rattle.facet_model.specs.Queries.{QueryTree}
 
 -- what the config line sets: the declared dimensions, how many documents and labels there may be, the latter with the root, and how the cache of labels is made
 pub record Settings : Type 0 where
@@ -12,8 +13,11 @@ pub record Settings : Type 0 where
   pub stripes : ℕ
   pub cache : ℕ
 
--- what a search asks to be counted, and how many hits it lists
+-- What a search has to match and to be under, what it asks to be counted, and how many hits it lists. Sideways each dimension is counted as if the drill did not name it.
 pub record Search : Type 0 where
+  pub query : QueryTree
+  pub drill : List (List (List ℕ))
+  pub sideways : Bool
   pub asks : List Asked
   pub hits : ℕ
 
@@ -21,6 +25,7 @@ pub data Command : Type 0 where
   add : Doc → Command
   refresh : Command
   search : Search → Command
+  document : ℕ → Command
 
 -- a command with its session and its line
 pub record Order : Type 0 where

@@ -8,7 +8,9 @@ use Rattle.serde_json.specs.Find.{as_str, as_bool}
 use Rattle.facet_model.specs.declared.flags.DimFlags.{DimFlags}
 use Rattle.facet_model.specs.Flags.{Config}
 use Rattle.facet_model.specs.Asks.{Asked, top, one_value, all_dims}
-use Rattle.facet_words.specs.Commands.{Settings, Command, add, refresh, search}
+use Rattle.facet_model.specs.Queries.{all}
+use Rattle.facet_words.specs.Commands.{Settings, Command, add, refresh, search, document}
+use Rattle.facet_words.specs.Queries.{query_of}
 use Rattle.facet_words.specs.Shapes.{◌>>=◌, when, whole, text_within, whole_within, list_of, list_within, path, key, key_or, keys_among}
 
 -- ---- the settings
@@ -66,24 +68,34 @@ ask_of d = option_or (top_ask d) (option_or (value_ask d) (dims_ask d))
 unfoldable pub add_of : Data → Option Command
 add_of d = do
   id ← key (codes "id") (text_within 1 256) d
+  text ← key_or (codes "text") [] (text_within 0 65536) d
   facets ← key_or (codes "facets") [] (list_within 0 256 path) d
-  when (keys_among (codes "cmd" ∷ codes "s" ∷ codes "id" ∷ codes "facets" ∷ []) d) (add (record { id = id; text = []; labels = facets }))
+  when (keys_among (codes "cmd" ∷ codes "s" ∷ codes "id" ∷ codes "text" ∷ codes "facets" ∷ []) d) (add (record { id = id; text = text; labels = facets }))
 
 unfoldable pub refresh_of : Data → Option Command
 refresh_of d = when (keys_among (codes "cmd" ∷ codes "s" ∷ []) d) refresh
 
 unfoldable pub search_of : Data → Option Command
 search_of d = do
+  query ← key_or (codes "query") all query_of d
+  drill ← key_or (codes "drill") [] (list_within 0 256 path) d
+  sideways ← key_or (codes "sideways") false as_bool d
   asks ← key_or (codes "ask") [] (list_within 0 64 ask_of) d
   hits ← key_or (codes "hits") 10 (whole_within 0 1000000) d
-  when (keys_among (codes "cmd" ∷ codes "s" ∷ codes "ask" ∷ codes "hits" ∷ []) d) (search (record { asks = asks; hits = hits }))
+  when (keys_among (codes "cmd" ∷ codes "s" ∷ codes "query" ∷ codes "drill" ∷ codes "sideways" ∷ codes "ask" ∷ codes "hits" ∷ []) d) (search (record { query = query; drill = drill; sideways = sideways; asks = asks; hits = hits }))
+
+unfoldable pub document_of : Data → Option Command
+document_of d = do
+  at ← key (codes "at") (whole_within 0 4294967295) d
+  when (keys_among (codes "cmd" ∷ codes "s" ∷ codes "at" ∷ []) d) (document at)
 
 unfoldable pub command_named : List ℕ → Data → Option Command
 command_named name d =
     if bytes_eq name (codes "add") then add_of d
     else (if bytes_eq name (codes "refresh") then refresh_of d
     else (if bytes_eq name (codes "search") then search_of d
-    else None))
+    else (if bytes_eq name (codes "document") then document_of d
+    else None)))
 
 -- the session's number, and the command
 unfoldable pub command_of : Data → Option (ℕ × Command)

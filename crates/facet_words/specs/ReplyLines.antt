@@ -10,7 +10,7 @@ use Rattle.facet_model.specs.Results.{Listed, Answer, top_answer, value_answer, 
 use Rattle.facet_words.specs.declared.fault.ScriptFault.{ScriptFault}
 use Rattle.facet_words.specs.declared.fault.ScriptFault.TheVariants as faults
 use Rattle.facet_words.specs.Commands.{Order}
-use Rattle.facet_words.specs.Replies.{Refusal, broken, labels_full, docs_full, top_zero, dim_value_not_kept, no_memory, Reply, placed, numbered, found, refused}
+use Rattle.facet_words.specs.Replies.{Refusal, broken, labels_full, docs_full, top_zero, dim_value_not_kept, no_such_document, no_memory, Reply, placed, numbered, found, shown, refused}
 
 -- keys with their values, in any order
 abbrev pub Fields : Type 0
@@ -71,6 +71,7 @@ refusal_fields (labels_full size) = (codes "refused", string (codes "labels_full
 refusal_fields (docs_full count) = (codes "refused", string (codes "docs_full")) ∷ (codes "count", whole_data count) ∷ []
 refusal_fields (top_zero ask) = (codes "refused", string (codes "top_zero")) ∷ (codes "ask", whole_data ask) ∷ []
 refusal_fields (dim_value_not_kept ask) = (codes "refused", string (codes "dim_value_not_kept")) ∷ (codes "ask", whole_data ask) ∷ []
+refusal_fields (no_such_document count) = (codes "refused", string (codes "no_such_document")) ∷ (codes "count", whole_data count) ∷ []
 refusal_fields no_memory = (codes "refused", string (codes "no_memory")) ∷ []
 
 -- what a reply has besides its line and its session
@@ -78,6 +79,7 @@ abbrev pub reply_fields : Reply → Fields
 reply_fields (placed at) = (codes "at", whole_data at) ∷ []
 reply_fields (numbered n) = (codes "n", whole_data n) ∷ []
 reply_fields (found f) = (codes "n", whole_data f.operations) ∷ (codes "hit_count", whole_data f.hit_count) ∷ (codes "hits", list_data hit_data f.hits) ∷ (codes "results", list_data answer_data f.answers) ∷ []
+reply_fields (shown s) = (codes "n", whole_data s.operations) ∷ (codes "at", whole_data s.at) ∷ (codes "id", string s.doc.id) ∷ (codes "text", string s.doc.text) ∷ (codes "labels", list_data path_data s.doc.labels) ∷ (codes "ordinals", list_data whole_data s.ordinals) ∷ []
 reply_fields (refused r) = refusal_fields r
 
 unfoldable pub reply_data : ℕ → ℕ → Reply → Data

@@ -21,10 +21,12 @@ refusal_view (refusals.LabelsFull size) = plain.labels_full size
 refusal_view (refusals.DocsFull count) = plain.docs_full count
 refusal_view (refusals.TopZero ask) = plain.top_zero ask
 refusal_view (refusals.DimValueNotKept ask) = plain.dim_value_not_kept ask
+refusal_view (refusals.NoSuchDocument count) = plain.no_such_document count
 refusal_view refusals.NoMemory = plain.no_memory
 
 abbrev pub reply_view : Reply → plain.Reply
 reply_view (replies.Placed at) = plain.placed at
 reply_view (replies.Number n) = plain.numbered n
 reply_view (replies.Found n hit_count hits results) = plain.found (record { operations = n; hit_count = hit_count; hits = map hit_view hits.items; answers = map answer_view results.items })
+reply_view (replies.Shown n at doc ordinals) = plain.shown (record { operations = n; at = at; doc = doc; ordinals = ordinals.items })
 reply_view (replies.Refused r) = plain.refused (refusal_view r)

@@ -43,6 +43,21 @@ fn path_value(alloc: Global, path: &Path) -> Result<Value, NoMemory>
     Ok(Value::Array(list))
 }
 
+impl ToValue for Path {
+    ghost use Rattle.std.specs.Prelude.{ℕ, List};
+    ghost use Rattle.facet_words.specs.ReplyLines.{path_data};
+
+    ghost Plain = { List (List ℕ) };
+
+    ghost plain = { λ p. p };
+
+    ghost json = { path_data };
+
+    fn to_value(&self, alloc: Global) -> Result<Value, NoMemory> {
+        path_value(alloc, self)
+    }
+}
+
 fn counts_fields(
     alloc: Global,
     child_count: u32,
@@ -136,6 +151,13 @@ impl ToValue for FacetAnswer {
     fn to_value(&self, alloc: Global) -> Result<Value, NoMemory> {
         answer_value(alloc, self)
     }
+}
+
+/// Paths, in their order.
+pub fn paths_value(alloc: Global, paths: &[Path]) -> Result<Value, NoMemory>
+    ensures { IfOk result (λ v. view v ≡ list_data path_data paths.now) }
+{
+    list_value(alloc, paths)
 }
 
 /// The answers to the asks of a search, in their order.

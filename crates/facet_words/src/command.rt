@@ -1,17 +1,30 @@
 ghost use Rattle.std.specs.Prelude.{◌≤◌};
 
 use facet_config::FacetsConfig;
-use facet_model::{Ask, Document};
+use facet_model::{Ask, Document, Drill, Query};
 
 /// A command of a script.
 #[derive(Debug, Drop)]
 pub enum Command {
     /// Adds a document at the end of the history.
-    Add { doc: Document },
+    Add {
+        doc: Document,
+    },
     /// Lets later searches see all documents that were added so far.
     Refresh,
-    /// Counts what is asked over the documents of the last refresh, and lists the first `hits` of them.
-    Search { asks: Vec<Ask>, hits: u32 },
+    /// Counts what is asked over the documents of the last refresh that match the query and pass the drill, and lists the first `hits` of
+    /// them. With `sideways` each dimension is counted as if the drill did not name it, as Lucene's `DrillSideways` does.
+    Search {
+        query: Query,
+        drill: Drill,
+        sideways: bool,
+        asks: Vec<Ask>,
+        hits: u32,
+    },
+    /// Shows the document at this place of the last refresh, from 0.
+    Document {
+        at: u32,
+    },
 }
 
 /// A command with the number of its session and of its line, each from 1.

@@ -5,10 +5,16 @@ mod answering;
 mod asking;
 mod command;
 mod fault;
+mod laws;
+#[cfg(test)]
+mod limit_tests;
 mod lines;
 mod order;
+mod query;
 mod refusing;
 mod reply;
+#[cfg(test)]
+mod reply_tests;
 mod script;
 mod settings;
 mod shape;
@@ -20,6 +26,7 @@ mod writing;
 pub use command::{Command, Order, Script, Settings};
 pub use facet_model::FacetAnswer;
 pub use fault::ScriptFault;
+pub use laws::levels_are_counted;
 pub use reply::{HitLine, Refusal, Reply};
 pub use script::read_script;
 pub use writing::{write_fault, write_reply};

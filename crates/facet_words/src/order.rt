@@ -1,37 +1,37 @@
-ghost use Rattle.std.specs.Prelude.{◌≡◌, ◌≢◌, ◌≤◌, [], IfOk, IfErr, IfSome, IsTrue, Ok, Err, option_map, map, length, codes};
+ghost use Rattle.std.specs.Prelude.{◌≡◌, ◌≢◌, ◌≤◌, IfOk, IfErr, IsTrue, Ok, Err, option_map, length, codes};
 ghost use Rattle.serde_json.specs.View.{view};
-ghost use Rattle.facet_model.specs.AskViews.{ask_view};
+ghost use Rattle.facet_model.specs.Queries.{all};
+ghost use Rattle.facet_model.specs.QueryViews.{query_view};
 ghost use Rattle.facet_words.specs.CommandViews.{command_view, order_view};
-ghost use Rattle.facet_words.specs.Orders.{add_of, refresh_of, ask_of, search_of, command_named, command_of};
+ghost use Rattle.facet_words.specs.Orders.{add_of, refresh_of, search_of, document_of, command_named, command_of};
+ghost use Rattle.facet_words.specs.Queries.{query_of};
 ghost use Rattle.facet_words.specs.Scripts.{order_of, order_at};
-ghost use Rattle.facet_words.specs.Shapes.{key_or, list_within, is_within, path};
+ghost use Rattle.facet_words.specs.Shapes.{key_or, is_within};
 ghost use Rattle.facet_words.specs.declared.fault.ScriptFault.TheVariants.{NoMemory as Memory};
 
 use crate::command::{Command, Order};
 use crate::fault::ScriptFault;
 use crate::lines::line_value;
-use crate::shape::{keys_among, list_in, name_at, number_at, text_at, whole_or};
-use facet_model::{Ask, DocShape, Document};
+use crate::shape::{
+    Shaped, flag_at, keys_among, list_or, name_at, number_at, text_at, text_or, whole_at, whole_or,
+};
+use facet_model::{Ask, Document, Drill, Query};
 use facet_names::{NoMemory, Path};
 use serde_json::Value;
 use std::alloc::Global;
 
-fn facets_in(alloc: Global, value: &Value) -> Result<Option<Vec<Path>>, NoMemory>
-    ensures facets { IfOk result (λ o. option_map (λ v. v.items) o ≡ key_or (codes "facets") [] (list_within 0 256 path) (view value.now)) }
-    ensures few { IfOk result (λ o. IfSome o (λ v. length v.items ≤ 256)) }
-{
-    match value.get("facets") {
-        Some(list) => list_in(alloc, list, 0, 256),
-        None => Ok(Some(Vec::new(alloc))),
-    }
-}
-
-fn document_of(alloc: Global, id: &str, facets: Vec<Path>) -> Result<Document, NoMemory>
+fn new_document(
+    alloc: Global,
+    id: &str,
+    text: &str,
+    facets: Vec<Path>,
+) -> Result<Document, NoMemory>
     requires id { IsTrue (is_within 1 256 (length id.now)) }
+    requires text { length text.now ≤ 65536 }
     requires facets { length facets.items ≤ 256 }
-    ensures { IfOk result (λ doc. doc ≡ record { id = id.now; text = []; labels = facets.items }) }
+    ensures { IfOk result (λ doc. doc ≡ record { id = id.now; text = text.now; labels = facets.items }) }
 {
-    match Document::new(alloc, id, "", facets) {
+    match Document::new(alloc, id, text, facets) {
         Ok(doc) => Ok(doc),
         // Its shape was tested, so that nothing else can be wanting.
         Err(_) => Err(NoMemory),
@@ -45,11 +45,14 @@ fn add_in(alloc: Global, value: &Value) -> Result<Option<Command>, NoMemory>
     let Some(id) = text_at(value, "id", 1, 256) else {
         return Ok(None);
     };
-    let Some(facets) = facets_in(alloc, value)? else {
+    let Some(text) = text_or(value, "text", 65_536) else {
         return Ok(None);
     };
-    if keys_among(value, &["cmd", "s", "id", "facets"]) {
-        let doc = document_of(alloc, id, facets)?;
+    let Some(facets) = list_or::<Path>(alloc, value, "facets", 256)? else {
+        return Ok(None);
+    };
+    if keys_among(value, &["cmd", "s", "id", "text", "facets"]) {
+        let doc = new_document(alloc, id, text, facets)?;
         Ok(Some(Command::Add { doc }))
     } else {
         Ok(None)
@@ -67,12 +70,12 @@ fn refresh_in(value: &Value) -> Option<Command>
     }
 }
 
-fn asks_in(alloc: Global, value: &Value) -> Result<Option<Vec<Ask>>, NoMemory>
-    ensures { IfOk result (λ o. option_map (λ v. map ask_view v.items) o ≡ key_or (codes "ask") [] (list_within 0 64 ask_of) (view value.now)) }
+fn query_at(alloc: Global, value: &Value) -> Result<Option<Query>, NoMemory>
+    ensures { IfOk result (λ o. option_map query_view o ≡ key_or (codes "query") all query_of (view value.now)) }
 {
-    match value.get("ask") {
-        Some(list) => list_in(alloc, list, 0, 64),
-        None => Ok(Some(Vec::new(alloc))),
+    match value.get("query") {
+        Some(found) => Query::read(alloc, found),
+        None => Ok(Some(Query::All)),
     }
 }
 
@@ -80,19 +83,46 @@ fn asks_in(alloc: Global, value: &Value) -> Result<Option<Vec<Ask>>, NoMemory>
 fn search_in(alloc: Global, value: &Value) -> Result<Option<Command>, NoMemory>
     ensures { IfOk result (λ o. option_map command_view o ≡ search_of (view value.now)) }
 {
-    let Some(asks) = asks_in(alloc, value)? else {
+    let Some(query) = query_at(alloc, value)? else {
+        return Ok(None);
+    };
+    let Some(paths) = list_or::<Path>(alloc, value, "drill", 256)? else {
+        return Ok(None);
+    };
+    let Some(sideways) = flag_at(value, "sideways") else {
+        return Ok(None);
+    };
+    let Some(asks) = list_or::<Ask>(alloc, value, "ask", 64)? else {
         return Ok(None);
     };
     let Some(hits) = whole_or(value, "hits", 10, 0, 1_000_000) else {
         return Ok(None);
     };
-    if keys_among(value, &["cmd", "s", "ask", "hits"]) {
+    if keys_among(
+        value,
+        &["cmd", "s", "query", "drill", "sideways", "ask", "hits"],
+    ) {
         Ok(Some(Command::Search {
+            query,
+            drill: Drill::new(paths),
+            sideways,
             asks,
             hits: hits as u32,
         }))
     } else {
         Ok(None)
+    }
+}
+
+#[tactic(auto, unfolding(crate::specs::Orders::document_of))]
+fn document_in(value: &Value) -> Option<Command>
+    ensures { option_map command_view result ≡ document_of (view value.now) }
+{
+    let at = whole_at(value, "at", 0, 4_294_967_295)?;
+    if keys_among(value, &["cmd", "s", "at"]) {
+        Some(Command::Document { at: at as u32 })
+    } else {
+        None
     }
 }
 
@@ -104,6 +134,7 @@ fn command_in(alloc: Global, name: &str, value: &Value) -> Result<Option<Command
         "add" => add_in(alloc, value),
         "refresh" => Ok(refresh_in(value)),
         "search" => search_in(alloc, value),
+        "document" => Ok(document_in(value)),
         _ => Ok(None),
     }
 }

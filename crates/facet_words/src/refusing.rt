@@ -1,7 +1,7 @@
 ghost use Rattle.std.specs.Prelude.{◌≡◌, IfOk};
 ghost use Rattle.serde_json.specs.View.{view};
 ghost use Rattle.facet_model.specs.Accepts.{no_component, not_hierarchical, not_multi_valued};
-ghost use Rattle.facet_words.specs.Replies.{broken, labels_full, docs_full, top_zero, dim_value_not_kept, no_memory, refused};
+ghost use Rattle.facet_words.specs.Replies.{broken, labels_full, docs_full, top_zero, dim_value_not_kept, no_such_document, no_memory, refused};
 ghost use Rattle.facet_words.specs.ReplyLines.{reply_data};
 ghost use Rattle.facet_words.specs.ReplyViews.{refusal_view};
 
@@ -80,6 +80,20 @@ fn dim_value_not_kept_value(
 }
 
 #[tactic(auto, unfolding(crate::specs::ReplyLines::reply_data))]
+fn no_such_document_value(
+    alloc: Global,
+    session: u32,
+    line: u32,
+    count: u64,
+) -> Result<Value, NoMemory>
+    ensures { IfOk result (λ v. view v ≡ reply_data session line (refused (no_such_document count))) }
+{
+    Ok(
+        json!(in alloc; {"count": count, "line": line, "refused": "no_such_document", "s": session})?,
+    )
+}
+
+#[tactic(auto, unfolding(crate::specs::ReplyLines::reply_data))]
 fn no_memory_value(alloc: Global, session: u32, line: u32) -> Result<Value, NoMemory>
     ensures { IfOk result (λ v. view v ≡ reply_data session line (refused no_memory)) }
 {
@@ -105,6 +119,7 @@ pub fn refused_value(
         Refusal::DocsFull { count } => docs_full_value(alloc, session, line, count),
         Refusal::TopZero { ask } => top_zero_value(alloc, session, line, ask),
         Refusal::DimValueNotKept { ask } => dim_value_not_kept_value(alloc, session, line, ask),
+        Refusal::NoSuchDocument { count } => no_such_document_value(alloc, session, line, count),
         Refusal::NoMemory => no_memory_value(alloc, session, line),
     }
 }

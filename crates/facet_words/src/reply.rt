@@ -1,4 +1,4 @@
-use facet_model::{FacetAnswer, Word};
+use facet_model::{Document, FacetAnswer, Word};
 
 /// A hit of a search: the document's place in the snapshot, from 0, and its id.
 #[derive(Debug, Drop)]
@@ -24,6 +24,8 @@ pub enum Refusal {
     TopZero { ask: u64 },
     /// The ask at this place asks for the value of a dimension alone, which is not kept.
     DimValueNotKept { ask: u64 },
+    /// There are this many documents, and none at the place.
+    NoSuchDocument { count: u64 },
     /// An allocation was refused.
     NoMemory,
 }
@@ -45,6 +47,13 @@ pub enum Reply {
         hit_count: u64,
         hits: Vec<HitLine>,
         results: Vec<FacetAnswer>,
+    },
+    /// To a document: the number of documents that searches see, the place, and what stands there with the ordinals of its labels, in their order.
+    Shown {
+        n: u64,
+        at: u32,
+        doc: Document,
+        ordinals: Vec<u32>,
     },
     Refused(Refusal),
 }

@@ -1,5 +1,4 @@
-ghost use Rattle.std.specs.Prelude.{◌≡◌, ◌≢◌, [], false, Ok, Err, IfOk, IfErr, option_map, map, string_bytes, codes};
-ghost use Rattle.serde_json.specs.Find.{as_bool};
+ghost use Rattle.std.specs.Prelude.{◌≡◌, ◌≢◌, [], Ok, Err, IfOk, IfErr, option_map, map, string_bytes, codes};
 ghost use Rattle.serde_json.specs.View.{view};
 ghost use Rattle.facet_words.specs.CommandViews.{settings_view};
 ghost use Rattle.facet_words.specs.Orders.{dimension_of, config_from, settings_of};
@@ -10,7 +9,7 @@ ghost use Rattle.facet_words.specs.declared.fault.ScriptFault.TheVariants.{NoMem
 use crate::command::Settings;
 use crate::fault::ScriptFault;
 use crate::lines::line_value;
-use crate::shape::{Shaped, keys_among, list_of_in, name_at, text_at, whole_or};
+use crate::shape::{Shaped, flag_at, keys_among, list_of_in, name_at, text_at, whole_or};
 use facet_config::{DeclareFault, FacetsConfig};
 use facet_model::DimFlags;
 use facet_names::NoMemory;
@@ -37,16 +36,6 @@ impl Shaped for Dimension {
 
     fn read(alloc: Global, value: &Value) -> Result<Option<Dimension>, NoMemory> {
         dimension_in(alloc, value)
-    }
-}
-
-/// The truth value under a key, false where the key is not there.
-fn flag_at(value: &Value, name: &str) -> Option<bool>
-    ensures { result ≡ key_or name.now false as_bool (view value.now) }
-{
-    match value.get(name) {
-        Some(found) => found.as_bool(),
-        None => Some(false),
     }
 }
 

@@ -1,9 +1,9 @@
-ghost use Rattle.std.specs.Prelude.{◌≡◌, ◌≤◌, Option, IfOk, IfSome, option_map, map, length, string_bytes};
+ghost use Rattle.std.specs.Prelude.{◌≡◌, ◌≤◌, [], false, Option, IfOk, IfSome, option_map, map, length, string_bytes};
 ghost use Rattle.std.specs.List.{list_any, list_all};
 ghost use Rattle.std.specs.BTreeMap.{keys};
 ghost use Rattle.std.specs.Str.{bytes_eq};
 ghost use Rattle.serde_json.specs.Data.{Data};
-ghost use Rattle.serde_json.specs.Find.{as_str};
+ghost use Rattle.serde_json.specs.Find.{as_bool, as_str};
 ghost use Rattle.serde_json.specs.View.{view};
 ghost use Rattle.facet_names.specs.Paths.{texts};
 ghost use Rattle.facet_words.specs.Shapes.{key, key_or, whole, whole_within, text_within, list_of, list_within, all_some, path, path_from, keys_among as among};
@@ -78,6 +78,34 @@ pub fn name_at<'a>(value: &'a Value, name: &str) -> Option<&'a str>
     ensures { option_map (λ s. s.now) result ≡ key name.now as_str (view value.now) }
 {
     value.get(name).and_then(Value::as_str)
+}
+
+/// The text of at most so many bytes under a key, empty where the key is not there.
+pub fn text_or<'a>(value: &'a Value, name: &str, high: usize) -> Option<&'a str>
+    ensures text { option_map (λ s. s.now) result ≡ key_or name.now [] (text_within 0 high) (view value.now) }
+    ensures short { IfSome result (λ s. length s.now ≤ high) }
+{
+    match value.get(name) {
+        Some(found) => text_in(found, 0, high),
+        None => Some(""),
+    }
+}
+
+/// The truth value under a key.
+pub fn truth_at(value: &Value, name: &str) -> Option<bool>
+    ensures { result ≡ key name.now as_bool (view value.now) }
+{
+    value.get(name).and_then(Value::as_bool)
+}
+
+/// The truth value under a key, false where the key is not there.
+pub fn flag_at(value: &Value, name: &str) -> Option<bool>
+    ensures { result ≡ key_or name.now false as_bool (view value.now) }
+{
+    match value.get(name) {
+        Some(found) => found.as_bool(),
+        None => Some(false),
+    }
 }
 
 fn is_listed(text: &str, names: &[&str]) -> bool
@@ -169,6 +197,22 @@ pub fn read_at<T: Shaped>(alloc: Global, value: &Value, name: &str) -> Result<Op
     match value.get(name) {
         Some(found) => T::read(alloc, found),
         None => Ok(None),
+    }
+}
+
+/// The values of an array of so many under a key, none where the key is not there.
+pub fn list_or<T: Shaped>(
+    alloc: Global,
+    value: &Value,
+    name: &str,
+    high: usize,
+) -> Result<Option<Vec<T>>, NoMemory>
+    ensures each { IfOk result (λ o. option_map (λ v. map T.plain v.items) o ≡ key_or name.now [] (list_within 0 high T.shape) (view value.now)) }
+    ensures count { IfOk result (λ o. IfSome o (λ v. length v.items ≤ high)) }
+{
+    match value.get(name) {
+        Some(list) => list_in(alloc, list, 0, high),
+        None => Ok(Some(Vec::new(alloc))),
     }
 }
 

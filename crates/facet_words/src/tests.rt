@@ -1,6 +1,5 @@
-use crate::{Command, HitLine, Refusal, Reply, ScriptFault, read_script, write_fault, write_reply};
-use facet_model::{Child, FacetAnswer, FacetResult, Word};
-use facet_names::Path;
+use crate::{Command, ScriptFault, read_script};
+use facet_model::Query;
 use std::alloc::Global;
 use std::process::Abort;
 use std::test::Fail;
@@ -114,6 +113,11 @@ null
 {"s":1,"cmd":"addd"}
 {"s":1,"cmd":"Refresh"}
 {"s":1,"cmd":"phase"}
+{"s":1,"cmd":"hold","name":"a"}
+{"s":1,"cmd":"release","name":"a"}
+{"s":1,"cmd":"stats"}
+{"s":1,"cmd":"commit"}
+{"s":1,"cmd":"merge"}
 {"s":1,"cmd":"config"}
 {"cmd":"config"}
 {"s":1,"cmd":"refresh","n":1}
@@ -137,12 +141,41 @@ const BAD_ADD: &str = r#"{"s":1,"cmd":"add"}
 {"s":1,"cmd":"add","id":"a","facets":[["A",1]]}
 {"s":1,"cmd":"add","id":"a","facets":[["A",null]]}
 {"s":1,"cmd":"add","id":"a","facet":[]}
-{"s":1,"cmd":"add","id":"a","text":"b"}"#;
+{"s":1,"cmd":"add","id":"a","Text":"b"}
+{"s":1,"cmd":"add","id":"a","text":null}
+{"s":1,"cmd":"add","id":"a","text":7}
+{"s":1,"cmd":"add","id":"a","text":["b"]}
+{"s":1,"cmd":"add","text":"b"}
+{"s":1,"cmd":"add","id":"a","on":"b"}"#;
+
+const BAD_DOCUMENT: &str = r#"{"s":1,"cmd":"document"}
+{"s":1,"cmd":"document","at":null}
+{"s":1,"cmd":"document","at":"1"}
+{"s":1,"cmd":"document","at":true}
+{"s":1,"cmd":"document","at":[1]}
+{"s":1,"cmd":"document","at":-1}
+{"s":1,"cmd":"document","at":-0}
+{"s":1,"cmd":"document","at":1.0}
+{"s":1,"cmd":"document","at":1e2}
+{"s":1,"cmd":"document","at":4294967296}
+{"s":1,"cmd":"document","at":18446744073709551616}
+{"s":1,"cmd":"document","at":1,"on":"a"}
+{"s":1,"cmd":"document","at":1,"n":1}
+{"s":1,"cmd":"document","At":1}
+{"cmd":"document","at":1}"#;
 
 const BAD_SEARCH: &str = r#"{"s":1,"cmd":"search","on":"a"}
-{"s":1,"cmd":"search","drill":[]}
-{"s":1,"cmd":"search","query":{"all":true}}
-{"s":1,"cmd":"search","sideways":true}
+{"s":1,"cmd":"search","Query":{"all":true}}
+{"s":1,"cmd":"search","sideways":null}
+{"s":1,"cmd":"search","sideways":1}
+{"s":1,"cmd":"search","sideways":"true"}
+{"s":1,"cmd":"search","drill":null}
+{"s":1,"cmd":"search","drill":{}}
+{"s":1,"cmd":"search","drill":"A"}
+{"s":1,"cmd":"search","drill":["A"]}
+{"s":1,"cmd":"search","drill":[null]}
+{"s":1,"cmd":"search","drill":[[]]}
+{"s":1,"cmd":"search","drill":[["A"],["A",""]]}
 {"s":1,"cmd":"search","hits":null}
 {"s":1,"cmd":"search","hits":"1"}
 {"s":1,"cmd":"search","hits":true}
@@ -176,6 +209,57 @@ const BAD_SEARCH: &str = r#"{"s":1,"cmd":"search","on":"a"}
 {"s":1,"cmd":"search","ask":[{"all":4294967296}]}
 {"s":1,"cmd":"search","ask":[{"all":1},{"all":1,"n":1}]}"#;
 
+// The values of the key `query`.
+const BAD_QUERY: &str = r#"null
+true
+"all"
+[]
+[{"all":true}]
+{}
+{"All":true}
+{"all":false}
+{"all":null}
+{"all":1}
+{"all":"true"}
+{"all":true,"all":false}
+{"all":true,"n":1}
+{"all":true,"term":"a"}
+{"term":""}
+{"term":null}
+{"term":7}
+{"term":["a"]}
+{"term":"a","field":"b"}
+{"term":"a","bool":{}}
+{"bool":null}
+{"bool":true}
+{"bool":[]}
+{"bool":{},"all":true}
+{"bool":{},"must":[]}
+{"bool":{"filter":[]}}
+{"bool":{"must":[],"minimum_should_match":1}}
+{"bool":{"must":null}}
+{"bool":{"must":{}}}
+{"bool":{"must":{"all":true}}}
+{"bool":{"must":[7]}}
+{"bool":{"must":[null]}}
+{"bool":{"must":[{}]}}
+{"bool":{"should":null}}
+{"bool":{"should":"a"}}
+{"bool":{"should":[{"all":true},{"all":false}]}}
+{"bool":{"must_not":null}}
+{"bool":{"must_not":true}}
+{"bool":{"must_not":[[{"all":true}]]}}
+{"bool":{"should":[{"term":"a"}],"must_not":[{"bool":{"must":[{"term":""}]}}]}}"#;
+
+const GOOD_QUERY: &str = r#"{"all":true}
+{"all":false,"all":true}
+{"term":"a"}
+{"term":"a b\u0000"}
+{"bool":{}}
+{"bool":{"must":[],"should":[],"must_not":[]}}
+{"bool":{"must":[{"all":true},{"term":"a"}],"should":[{"bool":{}}],"must_not":[{"term":"b"},{"term":"b"}]}}
+{"bool":{"must_not":null,"must_not":[]}}"#;
+
 const BAD_SESSION: &str = r#"{"s":0,"cmd":"refresh"}
 {"s":2,"cmd":"refresh"}
 {"s":64,"cmd":"refresh"}
@@ -184,7 +268,8 @@ const BAD_SESSION: &str = r#"{"s":0,"cmd":"refresh"}
 {"s":18446744073709551615,"cmd":"refresh"}
 {"s":1,"cmd":"refresh","s":2}
 {"s":2,"cmd":"add","id":"a"}
-{"s":2,"cmd":"search"}"#;
+{"s":2,"cmd":"search"}
+{"s":2,"cmd":"document","at":0}"#;
 
 const GOOD: &str = r#"{"s":1,"cmd":"refresh"}
 {"cmd":"refresh","s":2,"s":1}
@@ -193,7 +278,13 @@ const GOOD: &str = r#"{"s":1,"cmd":"refresh"}
 {"s":1,"cmd":"add","id":null,"id":"\u0000"}
 {"s":1,"cmd":"add","id":"\ud83d\ude00","facets":[]}
 {"s":1,"cmd":"add","id":"a","facets":[["A"],["A","b","c"],["A"]]}
+{"s":1,"cmd":"add","id":"a","text":""}
+{"s":1,"cmd":"add","id":"a","text":"a b\u0000"}
+{"s":1,"cmd":"document","at":0}
+{"s":1,"cmd":"document","at":4294967295}
 {"s":1,"cmd":"search"}
+{"s":1,"cmd":"search","drill":[],"sideways":false}
+{"s":1,"cmd":"search","drill":[["A"],["A","b"],["A"]],"sideways":true}
 {"s":1,"cmd":"search","ask":[],"hits":0}
 {"s":1,"cmd":"search","hits":1000000}
 {"s":1,"cmd":"search","ask":[{"top":["A"],"n":0},{"top":["A","b"],"n":4294967295}]}
@@ -201,7 +292,7 @@ const GOOD: &str = r#"{"s":1,"cmd":"refresh"}
 {"s":1,"cmd":"search","ask":[{"all":0},{"all":4294967295}]}"#;
 
 // The fault of these bytes.
-fn fault_of(alloc: Global, bytes: &[u8]) -> Result<Option<ScriptFault>, Fail> {
+pub fn fault_of(alloc: Global, bytes: &[u8]) -> Result<Option<ScriptFault>, Fail> {
     if bytes.len() > 67_108_864 {
         return Err("too long")?;
     }
@@ -212,7 +303,7 @@ fn fault_of(alloc: Global, bytes: &[u8]) -> Result<Option<ScriptFault>, Fail> {
 }
 
 // The fault of a script in which a line that is no JSON stands behind this one.
-fn fault_at(alloc: Global, before: &str, line: &str) -> Result<Option<ScriptFault>, Fail> {
+pub fn fault_at(alloc: Global, before: &str, line: &str) -> Result<Option<ScriptFault>, Fail> {
     let mut script = String::from_str(alloc, before)?;
     script.push_str(line)?;
     script.push_str("\nx\n")?;
@@ -256,7 +347,7 @@ fn faults_of_the_first_line(rt: HostRuntime) -> Result<(), Fail> {
     all_have(&rt, alloc, "", ODD_BYTES, ScriptFault::NotJson { line: 1 })
 }
 
-const CONFIG: &str = "{\"cmd\":\"config\"}\n";
+pub const CONFIG: &str = "{\"cmd\":\"config\"}\n";
 
 #[test]
 fn faults_of_other_lines(rt: HostRuntime) -> Result<(), Fail> {
@@ -270,46 +361,18 @@ fn faults_of_other_lines(rt: HostRuntime) -> Result<(), Fail> {
     all_have(&rt, alloc, CONFIG, BAD_COMMAND, shape)?;
     all_have(&rt, alloc, CONFIG, BAD_ADD, shape)?;
     all_have(&rt, alloc, CONFIG, BAD_SEARCH, shape)?;
+    all_have(&rt, alloc, CONFIG, BAD_DOCUMENT, shape)?;
     all_have(&rt, alloc, CONFIG, BAD_SESSION, session)?;
     all_have(&rt, alloc, CONFIG, GOOD, next)
 }
 
-// A front, a piece with the most times that it may stand there, and a back.
-static LIMITS: [(&str, &str, usize, &str); 6] = [
-    (r#"{"s":1,"cmd":"add","id":""#, "x", 256, r#""}"#),
-    (
-        r#"{"s":1,"cmd":"add","id":"a","facets":[["A"]"#,
-        r#",["A"]"#,
-        255,
-        "]}",
-    ),
-    (
-        r#"{"s":1,"cmd":"add","id":"a","facets":[["A""#,
-        r#","A""#,
-        31,
-        "]]}",
-    ),
-    (
-        r#"{"s":1,"cmd":"add","id":"a","facets":[["A",""#,
-        "x",
-        1024,
-        r#""]]}"#,
-    ),
-    (
-        r#"{"s":1,"cmd":"search","ask":[{"all":1}"#,
-        r#",{"all":1}"#,
-        63,
-        "]}",
-    ),
-    (
-        r#"{"s":1,"cmd":"search","ask":[{"specific":[""#,
-        "x",
-        1024,
-        r#""]}]}"#,
-    ),
-];
-
-fn repeated(alloc: Global, front: &str, piece: &str, n: usize, back: &str) -> Result<String, Fail> {
+pub fn repeated(
+    alloc: Global,
+    front: &str,
+    piece: &str,
+    n: usize,
+    back: &str,
+) -> Result<String, Fail> {
     let mut line = String::from_str(alloc, front)?;
     for _ in 0..n {
         line.push_str(piece)?;
@@ -318,89 +381,22 @@ fn repeated(alloc: Global, front: &str, piece: &str, n: usize, back: &str) -> Re
     Ok(line)
 }
 
-// So many arrays in one another.
-fn nested(alloc: Global, n: usize) -> Result<String, Fail> {
-    let back = repeated(alloc, "", "]", n, "")?;
-    repeated(alloc, "", "[", n, back.as_str())
-}
-
-fn limits_of_lines() -> &'static [(&'static str, &'static str, usize, &'static str)] {
-    &LIMITS
+// The fault of a search for a query.
+pub fn fault_of_query(alloc: Global, query: &str) -> Result<Option<ScriptFault>, Fail> {
+    let line = repeated(alloc, r#"{"s":1,"cmd":"search","query":"#, query, 1, "}")?;
+    fault_at(alloc, CONFIG, line.as_str())
 }
 
 #[test]
-fn limits(rt: HostRuntime) -> Result<(), Fail> {
+fn queries(rt: HostRuntime) -> Result<(), Fail> {
     let alloc = rt.alloc();
-    for (front, piece, most, back) in limits_of_lines() {
-        let line = repeated(alloc, *front, *piece, *most, *back)?;
-        let found = fault_at(alloc, CONFIG, line.as_str())?;
-        assert!(rt; found == Some(ScriptFault::NotJson { line: 3 }), "{front}");
-        let line = repeated(alloc, *front, *piece, most.saturating_add(1), *back)?;
-        let found = fault_at(alloc, CONFIG, line.as_str())?;
-        assert!(rt; found == Some(ScriptFault::BadShape { line: 2 }), "{front}");
+    for query in BAD_QUERY.split("\n") {
+        let found = fault_of_query(alloc, query)?;
+        assert!(rt; found == Some(ScriptFault::BadShape { line: 2 }), "{query}");
     }
-    Ok(())
-}
-
-#[test]
-fn longest_dimension(rt: HostRuntime) -> Result<(), Fail> {
-    let alloc = rt.alloc();
-    let rows: [(usize, Option<ScriptFault>); 2] = [
-        (1024, None),
-        (1025, Some(ScriptFault::BadShape { line: 1 })),
-    ];
-    for (n, fault) in rows {
-        let dim = repeated(
-            alloc,
-            r#"{"cmd":"config","dims":[{"dim":""#,
-            "x",
-            n,
-            r#""}]}"#,
-        )?;
-        assert!(rt; fault_of(alloc, dim.as_str().as_bytes())? == fault);
-    }
-    Ok(())
-}
-
-#[test]
-fn depths(rt: HostRuntime) -> Result<(), Fail> {
-    let alloc = rt.alloc();
-    let shape = Some(ScriptFault::BadShape { line: 2 });
-    let json = Some(ScriptFault::NotJson { line: 2 });
-    let arrays = [(127usize, shape), (128, json)];
-    for (n, fault) in arrays {
-        let line = nested(alloc, n)?;
-        assert!(rt; fault_at(alloc, CONFIG, line.as_str())? == fault, "{n}");
-    }
-    Ok(())
-}
-
-#[test]
-fn long_lines(rt: HostRuntime) -> Result<(), Fail> {
-    let alloc = rt.alloc();
-    let n = 1_048_576usize;
-    let rows: [(&str, &str, &str, ScriptFault); 4] = [
-        (
-            r#"{"s":1,"cmd":"add","id":""#,
-            "x",
-            r#""}"#,
-            ScriptFault::BadShape { line: 2 },
-        ),
-        (
-            "",
-            " ",
-            r#"{"s":1,"cmd":"refresh"}"#,
-            ScriptFault::NotJson { line: 3 },
-        ),
-        ("", "[", "", ScriptFault::NotJson { line: 2 }),
-        ("", "7", "", ScriptFault::NotJson { line: 2 }),
-    ];
-    for (front, piece, back, fault) in rows {
-        let line = repeated(alloc, front, piece, n, back)?;
-        assert!(rt;
-            fault_at(alloc, CONFIG, line.as_str())? == Some(fault),
-            "{piece}"
-        );
+    for query in GOOD_QUERY.split("\n") {
+        let found = fault_of_query(alloc, query)?;
+        assert!(rt; found == Some(ScriptFault::NotJson { line: 3 }), "{query}");
     }
     Ok(())
 }
@@ -424,177 +420,54 @@ fn bytes_that_are_no_text(rt: HostRuntime) -> Result<(), Fail> {
     Ok(())
 }
 
-fn path(alloc: Global, text: &str) -> Result<Path, Fail> {
-    let mut parts = Vec::new(alloc);
-    for part in text.split("/") {
-        parts.push(String::from_str(alloc, part)?)?;
-    }
-    Ok(Path::new(alloc, &parts)?)
-}
-
-fn word(alloc: Global, text: &str) -> Result<Word, Fail> {
-    Ok(Word::new(alloc, text)?.ok_or("no word")?)
-}
-
-fn authors(alloc: Global) -> Result<FacetResult, Fail> {
-    let mut children = Vec::new(alloc);
-    children.push(Child {
-        part: word(alloc, "Lisa")?,
-        count: 2,
-    })?;
-    children.push(Child {
-        part: word(alloc, "\"Bob\"")?,
-        count: 1,
-    })?;
-    Ok(FacetResult {
-        path: path(alloc, "Author")?,
-        value: -1,
-        children,
-        child_count: 4,
-    })
-}
-
-fn answers(alloc: Global) -> Result<Vec<FacetAnswer>, Fail> {
-    let mut results = Vec::new(alloc);
-    results.push(FacetAnswer::Top(None))?;
-    results.push(FacetAnswer::Top(Some(authors(alloc)?)))?;
-    results.push(FacetAnswer::Specific {
-        path: path(alloc, "Author/x")?,
-        value: -1,
-    })?;
-    results.push(FacetAnswer::AllDims(Vec::new(alloc)))?;
-    let mut dims = Vec::new(alloc);
-    dims.push(authors(alloc)?)?;
-    results.push(FacetAnswer::AllDims(dims))?;
-    Ok(results)
-}
-
-fn found(alloc: Global) -> Result<Reply, Fail> {
-    let mut hits = Vec::new(alloc);
-    hits.push(HitLine {
-        at: 1,
-        id: word(alloc, "b2")?,
-    })?;
-    hits.push(HitLine {
-        at: 999_999,
-        id: word(alloc, "b\n3")?,
-    })?;
-    Ok(Reply::Found {
-        n: 5,
-        hit_count: 3,
-        hits,
-        results: answers(alloc)?,
-    })
-}
-
-// Whether this is the line of a reply of session 1 to line 4.
-fn has_line(alloc: Global, reply: &Reply, expected: &str) -> Result<bool, Fail> {
-    let mut out = Vec::new(alloc);
-    write_reply(alloc, &mut out, 1, 4, reply)?;
-    let mut line = String::from_str(alloc, expected)?;
-    line.push('\n')?;
-    Ok(out.as_slice() == line.as_str().as_bytes())
-}
-
-static REFUSALS: [(Refusal, &str); 8] = [
-    (
-        Refusal::NoComponent { facet: 0 },
-        r#"{"facet":0,"line":4,"refused":"no_component","s":1}"#,
-    ),
-    (
-        Refusal::NotHierarchical { facet: 0, len: 2 },
-        r#"{"facet":0,"len":2,"line":4,"refused":"not_hierarchical","s":1}"#,
-    ),
-    (
-        Refusal::NotMultiValued { facet: 1 },
-        r#"{"facet":1,"line":4,"refused":"not_multi_valued","s":1}"#,
-    ),
-    (
-        Refusal::LabelsFull { size: 3 },
-        r#"{"line":4,"refused":"labels_full","s":1,"size":3}"#,
-    ),
-    (
-        Refusal::DocsFull { count: 1 },
-        r#"{"count":1,"line":4,"refused":"docs_full","s":1}"#,
-    ),
-    (
-        Refusal::TopZero { ask: 0 },
-        r#"{"ask":0,"line":4,"refused":"top_zero","s":1}"#,
-    ),
-    (
-        Refusal::DimValueNotKept { ask: 0 },
-        r#"{"ask":0,"line":4,"refused":"dim_value_not_kept","s":1}"#,
-    ),
-    (
-        Refusal::NoMemory,
-        r#"{"line":4,"refused":"no_memory","s":1}"#,
-    ),
-];
-
-fn refusals() -> &'static [(Refusal, &'static str)] {
-    &REFUSALS
-}
-
-#[test]
-fn lines_of_refusals(rt: HostRuntime) -> Result<(), Fail> {
-    for (refusal, expected) in refusals() {
-        let found = has_line(rt.alloc(), &Reply::Refused(*refusal), *expected)?;
-        assert!(rt; found, "{expected}");
-    }
-    Ok(())
-}
-
-#[test]
-fn lines_of_replies(rt: HostRuntime) -> Result<(), Fail> {
-    let alloc = rt.alloc();
-    let placed = has_line(
-        alloc,
-        &Reply::Placed { at: 0 },
-        r#"{"at":0,"line":4,"s":1}"#,
-    )?;
-    let number = has_line(alloc, &Reply::Number { n: 5 }, r#"{"line":4,"n":5,"s":1}"#)?;
-    assert!(rt; placed && number);
-    Ok(())
-}
-
-#[test]
-fn lines_of_searches(rt: HostRuntime) -> Result<(), Fail> {
-    let alloc = rt.alloc();
-    let expected =
-        r#"{"hit_count":3,"hits":[{"at":1,"id":"b2"},{"at":999999,"id":"b\n3"}],"line":4,"n":5,"results":[null,{"child_count":4,"children":[["Lisa",2],["\"Bob\"",1]],"path":["Author"],"value":-1},{"path":["Author","x"],"value":-1},{"dims":[]},{"dims":[{"child_count":4,"children":[["Lisa",2],["\"Bob\"",1]],"path":["Author"],"value":-1}]}],"s":1}"#;
-    let reply = found(alloc)?;
-    assert!(rt; has_line(alloc, &reply, expected)?);
-    Ok(())
-}
-
-#[test]
-fn lines_of_faults(rt: HostRuntime) -> Result<(), Fail> {
-    let alloc = rt.alloc();
-    let mut out = Vec::new(alloc);
-    write_fault(alloc, &mut out, ScriptFault::NotJson { line: 7 })?;
-    write_fault(alloc, &mut out, ScriptFault::BadShape { line: 1 })?;
-    write_fault(
-        alloc,
-        &mut out,
-        ScriptFault::BadSession { line: 67_108_864 },
-    )?;
-    write_fault(alloc, &mut out, ScriptFault::NoConfigFirst)?;
-    write_fault(alloc, &mut out, ScriptFault::NoMemory)?;
-    let expected =
-        b"{\"fault\":\"not_json\",\"line\":7}\n{\"fault\":\"bad_shape\",\"line\":1}\n{\"fault\":\"bad_session\",\"line\":67108864}\n{\"fault\":\"no_config_first\"}\n{\"fault\":\"no_memory\"}\n";
-    assert!(rt; out.as_slice() == expected.as_slice());
-    Ok(())
-}
-
 // What is read of a script that sets all that may be set.
 const SHOP: &[u8] =
-    b"{\"cmd\":\"config\",\"max_docs\":7,\"max_labels\":8,\"stripes\":9,\"cache\":10,\"dims\":[{\"dim\":\"Tag\",\"multi_valued\":true}]}\n{\"s\":1,\"cmd\":\"search\",\"ask\":[{\"all\":3},{\"specific\":[\"Tag\",\"x\"]}]}";
+    b"{\"cmd\":\"config\",\"max_docs\":7,\"max_labels\":8,\"stripes\":9,\"cache\":10,\"dims\":[{\"dim\":\"Tag\",\"multi_valued\":true}]}\n{\"s\":1,\"cmd\":\"search\",\"query\":{\"bool\":{\"must_not\":[{\"term\":\"a\"}]}},\"drill\":[[\"Tag\"]],\"sideways\":true,\"ask\":[{\"all\":3},{\"specific\":[\"Tag\",\"x\"]}]}\n{\"s\":1,\"cmd\":\"search\"}\n{\"s\":1,\"cmd\":\"document\",\"at\":7}";
 
-fn hits_and_asks(command: &Command) -> Option<(u32, usize)> {
-    match command {
-        Command::Search { asks, hits } => Some((*hits, asks.len())),
+// How many queries each list of a boolean query has.
+fn lists(query: &Query) -> Option<(usize, usize, usize)> {
+    match query {
+        Query::Bool {
+            must,
+            should,
+            must_not,
+        } => Some((must.len(), should.len(), must_not.len())),
         _ => None,
     }
+}
+
+// What a command is, in short.
+fn summary(command: &Command) -> (Option<(usize, usize, usize)>, usize, bool, usize, u32) {
+    match command {
+        Command::Search {
+            query,
+            drill,
+            sideways,
+            asks,
+            hits,
+        } => (
+            lists(query),
+            drill.paths().len(),
+            *sideways,
+            asks.len(),
+            *hits,
+        ),
+        Command::Document { at } => (None, 0, false, 0, *at),
+        _ => (None, 0, false, 0, 0),
+    }
+}
+
+#[test]
+fn searches_and_documents(rt: HostRuntime) -> Result<(), Fail> {
+    let alloc = rt.alloc();
+    let script = read_script(alloc, SHOP)?;
+    assert!(rt; script.orders.len() == 3);
+    let order = &script.orders[0];
+    assert!(rt; (order.session, order.line) == (1, 2));
+    assert!(rt; summary(&order.command) == (Some((0, 0, 1)), 1, true, 2, 10));
+    assert!(rt; summary(&script.orders[1].command) == (None, 0, false, 0, 10));
+    assert!(rt; summary(&script.orders[2].command) == (None, 0, false, 0, 7));
+    Ok(())
 }
 
 #[test]
@@ -612,10 +485,6 @@ fn settings_and_defaults(rt: HostRuntime) -> Result<(), Fail> {
     );
     let tag = settings.config.flags("Tag");
     assert!(rt; tag.multi_valued && !tag.hierarchical && !tag.require_dim_count);
-    assert!(rt; script.orders.len() == 1);
-    let order = &script.orders[0];
-    assert!(rt; (order.session, order.line) == (1, 2));
-    assert!(rt; hits_and_asks(&order.command) == Some((10, 2)));
     let script = read_script(alloc, CONFIG.as_bytes())?;
     let settings = &script.settings;
     assert!(rt;

@@ -21,6 +21,21 @@ pub trait ToValue {
         ensures { IfOk result (λ v. view v ≡ json (plain self.now)) };
 }
 
+impl ToValue for u32 {
+    ghost use Rattle.std.specs.Prelude.{ℕ};
+    ghost use Rattle.facet_words.specs.ReplyLines.{whole_data};
+
+    ghost Plain = { ℕ };
+
+    ghost plain = { λ n. n };
+
+    ghost json = { whole_data };
+
+    fn to_value(&self, _alloc: Global) -> Result<Value, NoMemory> {
+        Ok(Value::from(*self))
+    }
+}
+
 /// The array of these values, in their order.
 pub fn list_value<T: ToValue>(alloc: Global, items: &[T]) -> Result<Value, NoMemory>
     ensures { IfOk result (λ v. view v ≡ list_data T.json (map T.plain items.now)) }

@@ -1,15 +1,17 @@
 ghost use Rattle.std.specs.Prelude.{◌≡◌, ◌++◌, ◌∷◌, [], IfOk, OnOk, OnErr, false, string_bytes, map, codes};
+ghost use Rattle.serde_json.specs.Data.{string};
 ghost use Rattle.serde_json.specs.View.{view};
 ghost use Rattle.serde_json.specs.Written.{has_float};
-ghost use Rattle.facet_words.specs.Replies.{placed, numbered, found, refused};
-ghost use Rattle.facet_words.specs.ReplyLines.{fields, whole_data, list_data, hit_data, reply_data, json_line, reply_line, at_line, fault_data, fault_line};
+ghost use Rattle.facet_words.specs.Replies.{placed, numbered, found, shown, refused};
+ghost use Rattle.facet_words.specs.ReplyLines.{fields, whole_data, list_data, path_data, hit_data, reply_data, json_line, reply_line, at_line, fault_data, fault_line};
 ghost use Rattle.facet_words.specs.ReplyViews.{hit_view, reply_view, refusal_view};
 
-use crate::answering::answers_value;
+use crate::answering::{answers_value, paths_value};
 use crate::fault::ScriptFault;
 use crate::refusing::refused_value;
 use crate::reply::{HitLine, Reply};
 use crate::values::{ToValue, list_value};
+use facet_model::Document;
 use facet_names::NoMemory;
 use serde_json::{Value, json};
 use std::alloc::{AllocError, Global};
@@ -71,6 +73,45 @@ fn found_value(
     json!(in alloc; {"hit_count": hit_count, "hits": hits, "line": line, "n": n, "results": results, "s": session})
 }
 
+fn ordinals_value(alloc: Global, ordinals: &[u32]) -> Result<Value, NoMemory>
+    ensures { IfOk result (λ v. view v ≡ list_data whole_data ordinals.now) }
+{
+    list_value(alloc, ordinals)
+}
+
+fn shown_fields(
+    alloc: Global,
+    session: u32,
+    line: u32,
+    n: u64,
+    at: u32,
+    doc: &Document,
+    labels: Value,
+    ordinals: Value,
+) -> Result<Value, AllocError>
+    ensures { IfOk result (λ v. view v ≡ fields ((codes "line", whole_data line) ∷ (codes "s", whole_data session) ∷ (codes "n", whole_data n) ∷ (codes "at", whole_data at) ∷ (codes "id", string doc.now.id) ∷ (codes "text", string doc.now.text) ∷ (codes "labels", view labels) ∷ (codes "ordinals", view ordinals) ∷ [])) }
+{
+    json!(in alloc; {"at": at, "id": doc.id(), "labels": labels, "line": line, "n": n, "ordinals": ordinals, "s": session, "text": doc.text()})
+}
+
+#[tactic(auto, unfolding(crate::specs::ReplyLines::reply_data))]
+fn shown_value(
+    alloc: Global,
+    session: u32,
+    line: u32,
+    n: u64,
+    at: u32,
+    doc: &Document,
+    ordinals: &[u32],
+) -> Result<Value, NoMemory>
+    ensures { IfOk result (λ v. view v ≡ reply_data session line (shown (record { operations = n; at = at; doc = doc.now; ordinals = ordinals.now }))) }
+{
+    let labels = paths_value(alloc, doc.facets())?;
+    let ordinals = ordinals_value(alloc, ordinals)?;
+    let value = shown_fields(alloc, session, line, n, at, doc, labels, ordinals)?;
+    Ok(value)
+}
+
 #[tactic(auto, unfolding(crate::specs::ReplyLines::reply_data))]
 fn reply_value(alloc: Global, session: u32, line: u32, reply: &Reply) -> Result<Value, NoMemory>
     ensures { IfOk result (λ v. view v ≡ reply_data session line (reply_view reply.now)) }
@@ -89,6 +130,12 @@ fn reply_value(alloc: Global, session: u32, line: u32, reply: &Reply) -> Result<
             let value = found_value(alloc, session, line, *n, *hit_count, hits, results)?;
             Ok(value)
         }
+        Reply::Shown {
+            n,
+            at,
+            doc,
+            ordinals,
+        } => shown_value(alloc, session, line, *n, *at, doc, ordinals),
         Reply::Refused(refusal) => refused_value(alloc, session, line, *refusal),
     }
 }

@@ -1,12 +1,12 @@
 use Rattle.std.proofs.Common.{ℕ, List, sym, subst}
 use Rattle.facet_model.specs.CountedPaths.{AreResolved}
 use Rattle.facet_config.specs.Expanding.{AreAsLong}
-use Rattle.facet_shell.proofs.Entered.{entries_stay}
+use Rattle.facet_shell.proofs.Decoded.{entries_stay}
 use Rattle.facet_shell.proofs.Ordinals.{resolved_as_long}
 use Rattle.facet_shell.proofs.adding.add.Goals as goal
 
-pub place-requires : goal.place-requires
-place-requires c =
+pub place-requires-clause-as_long : goal.place-requires-clause-as_long
+place-requires-clause-as_long c =
     let at : AreResolved c.add_labels-added.new.labels c.args.doc.labels c.in-Ok-added.resolved.items = subst (λ (ps : List (List (List ℕ))). AreResolved c.add_labels-added.new.labels ps c.in-Ok-added.resolved.items) c.facets.ensures.labels c.in-Ok-added.ensures.ordinals in
     subst (AreAsLong c.args.doc.labels) (sym c.deref.ensures.value) (resolved_as_long c.add_labels-added.new.labels c.args.doc.labels c.in-Ok-added.resolved.items at)
 

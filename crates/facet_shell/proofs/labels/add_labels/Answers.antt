@@ -3,7 +3,9 @@ use Rattle.std.specs.Prelude.{fold, flat_map}
 use Rattle.facet_names.specs.Labels.{prefixes, with_label}
 use Rattle.facet_shell.specs.Growing.{IsBetween}
 use Rattle.facet_shell.proofs.Grown.{between_more, first_paths_go_on, all_go_on, one_path_more, stays}
+use Rattle.facet_shell.specs.Entries.{IsShort}
 use Rattle.facet_shell.proofs.Ordinals.{one_path_resolved}
+use Rattle.std.proofs.lemmas.List.Elements.{All-more}
 use Rattle.facet_shell.proofs.labels.add_labels.Goals as goal
 
 pub returns-in-Err-clause-between : goal.returns-in-Err-clause-between
@@ -34,4 +36,5 @@ loop-path-preserved c =
       grown = grown;
       resolved = one_path_resolved c.loop-path.labels c.add_prefixes.new.labels c.in-Ok.ensures.between.0 c.args.paths.now c.loop-path.resolved.items c.push.new.self.items c.loop-path.path-index c.path-item.result c.in-Ok.ordinals c.loop-path-test.true (sym c.path-item.is) c.loop-path.invariant.resolved c.in-Ok.ensures.ordinals c.in_ok-push.ensures.items;
       few = c.in-Ok.ensures.few;
+      short = All-more IsShort c.args.paths.now c.loop-path.path-index c.path-item.result c.loop-path-test.true c.loop-path.invariant.short (subst IsShort c.path-item.is c.add_prefixes.ensures.short);
     }

@@ -1,7 +1,8 @@
 use Rattle.std.proofs.Common.{◌≡◌, ◌≤◌, take, length}
-use Rattle.std.specs.Prelude.{fold, flat_map}
+use Rattle.std.specs.Prelude.{fold, flat_map, All}
 use Rattle.facet_names.specs.Labels.{prefixes, with_label}
 use Rattle.facet_model.specs.CountedPaths.{AreResolved}
+use Rattle.facet_shell.specs.Entries.{IsShort}
 use Rattle.facet_shell.proofs.labels.add_labels.Given as goal
 
 abbrev pub invariant-loop-path : goal.invariant-loop-path
@@ -9,4 +10,5 @@ invariant-loop-path l = record {
   grown : l.labels ≡ fold with_label l.fn.labels (flat_map prefixes (take l.path-index l.paths));
   resolved : AreResolved l.labels (take l.path-index l.paths) l.resolved.items;
   few : length l.labels ≤ l.limit;
+  short : All IsShort (take l.path-index l.paths);
 }

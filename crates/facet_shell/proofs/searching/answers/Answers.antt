@@ -1,15 +1,24 @@
-use Rattle.std.proofs.Common.{◌∙◌, ap}
+use Rattle.std.proofs.Common.{◌≡◌, ◌∙◌, ◌<◌, ◌++◌, ◌∷◌, [], List, length, map, get_or, ap, subst, arith}
+use Rattle.std.specs.List.{AllZip}
+use Rattle.std.proofs.lemmas.List.{length-map, map_push, take_all}
+use Rattle.std.proofs.lemmas.Option.{slice_get-get_or}
+use Rattle.facet_model.specs.Asks.{Asked, all_dims}
 use Rattle.facet_model.specs.AskViews.{ask_view}
-use Rattle.facet_model.specs.Asks.{ask_fault}
-use Rattle.facet_model.specs.declared.ask.Ask.{Ask}
-use Rattle.facet_shell.specs.Entries.{docs_of}
-use Rattle.facet_shell.proofs.Searched.{answers_go_on, fits_at}
+use Rattle.facet_model.specs.ResultViews.{answer_view}
+use Rattle.facet_model.specs.Results.{IsAnswer}
+use Rattle.sideways.specs.Questions.{docs_of}
+use Rattle.sideways.specs.Searches.{question}
+use Rattle.facet_shell.proofs.Searched.{asks_more}
 use Rattle.facet_shell.proofs.searching.answers.Goals as goal
 
-pub answer-requires-clause-fit : goal.answer-requires-clause-fit
-answer-requires-clause-fit c = ap (λ (a : Ask). ask_fault c.args.counts.now.config (ask_view a)) c.ask-item.is ∙ fits_at c.args.counts.now.config c.args.asks.now 0 c.loop-ask.ask-index c.ask-item.result c.loop-ask-test.true c.requires.fit
+pub loop-at-preserved : goal.loop-at-preserved
+loop-at-preserved c docs has =
+    let asks : List Asked = map ask_view c.args.answer.now.ask.asks.items in
+    let lt : c.loop-at.at < length asks = omega (arith, length-map c.args.answer.now.ask.asks.items ask_view, c.requires) in
+    let pushed : map answer_view c.push.new.self.items ≡ map answer_view c.loop-at.found.items ++ answer_view c.in_ok-one.one ∷ [] = ap (map answer_view) c.in_ok-push.ensures.items ∙ map_push answer_view c.loop-at.found.items c.in_ok-one.one in
+    asks_more (IsAnswer c.args.answer.now.config docs (docs_of (question c.args.answer.now) docs)) asks c.loop-at.at (all_dims 0) (map answer_view c.loop-at.found.items) (map answer_view c.push.new.self.items) (answer_view c.in_ok-one.one) lt pushed (c.loop-at.invariant docs has) (c.in_ok-one.ensures docs (get_or asks c.loop-at.at (all_dims 0)) has (slice_get-get_or asks c.loop-at.at (all_dims 0) lt))
 
-pub loop-ask-preserved : goal.loop-ask-preserved
-loop-ask-preserved c =
-    answers_go_on c.args.counts.now.config (docs_of c.args.entries.now) (λ dim. docs_of c.args.entries.now) c.args.asks.now c.loop-ask.found.items c.push.new.self.items c.loop-ask.ask-index c.ask-item.result c.ask-item.result c.in_ok-one.one c.loop-ask-test.true c.ask-item.is
-    c.in_ok-push.ensures.items c.loop-ask.invariant c.in_ok-one.ensures
+pub returns : goal.returns
+returns c docs has =
+    let asks : List Asked = map ask_view c.args.answer.now.ask.asks.items in
+    subst (λ (l : List Asked). AllZip (IsAnswer c.args.answer.now.config docs (docs_of (question c.args.answer.now) docs)) l (map answer_view c.loop-at.found.items)) (take_all c.loop-at.at asks (omega (arith, length-map c.args.answer.now.ask.asks.items ask_view, c.requires))) (c.loop-at.invariant docs has)

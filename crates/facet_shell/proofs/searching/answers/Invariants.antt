@@ -1,11 +1,11 @@
-use Rattle.std.proofs.Common.{take, map}
+use Rattle.std.proofs.Common.{List, map, take}
 use Rattle.std.specs.List.{AllZip}
-use Rattle.facet_model.specs.AskViews.{ask_view}
+use Rattle.facet_model.specs.Documents.{Doc}
 use Rattle.facet_model.specs.ResultViews.{answer_view}
 use Rattle.facet_model.specs.Results.{IsAnswer}
-use Rattle.facet_shell.specs.Entries.{docs_of}
+use Rattle.sideways.specs.Questions.{HasDocs, docs_of}
+use Rattle.sideways.specs.Searches.{question}
 use Rattle.facet_shell.proofs.searching.answers.Given as goal
 
--- The asks so far are answered.
-abbrev pub invariant-loop-ask : goal.invariant-loop-ask
-invariant-loop-ask l = AllZip (IsAnswer l.counts.config (docs_of l.entries) (λ dim. docs_of l.entries)) (map ask_view (take l.ask-index l.asks)) (map answer_view l.found.items)
+abbrev pub invariant-loop-at : goal.invariant-loop-at
+invariant-loop-at l = (docs : List Doc) → HasDocs (question l.answer) docs → AllZip (IsAnswer l.answer.config docs (docs_of (question l.answer) docs)) (take l.at (question l.answer).asks) (map answer_view l.found.items)

@@ -1,8 +1,8 @@
-use Rattle.std.proofs.Common.{◌≡◌, take, map}
+use Rattle.std.proofs.Common.{◌≡◌, map, take}
+use Rattle.std.specs.Arc.{arc_value}
 use Rattle.facet_words.specs.ReplyViews.{hit_view}
-use Rattle.facet_shell.proofs.Searched.{all_hits}
+use Rattle.facet_shell.specs.Decoding.{record_at}
 use Rattle.facet_shell.proofs.searching.hit_lines.Given as goal
 
--- The first hits so far.
-abbrev pub invariant-loop-at : goal.invariant-loop-at
-invariant-loop-at l = map hit_view l.lines.items ≡ take l.at (all_hits l.entries)
+abbrev pub invariant-loop-place : goal.invariant-loop-place
+invariant-loop-place l = map hit_view l.lines.items ≡ map (λ at. (at, (record_at (map arc_value l.segments) at).id)) (take l.place-index l.places)

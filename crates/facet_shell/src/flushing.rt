@@ -1,0 +1,30 @@
+ghost use Rattle.std.specs.Prelude.{◌≡◌, ◌≤◌, [], length, map, IfErr, OnOk};
+ghost use Rattle.std.specs.Arc.{arc_value};
+ghost use Rattle.facet_shell.specs.Decoding.{flushed};
+
+use facet_names::NoMemory;
+use seg_file::{Entry, Segment};
+use std::alloc::Global;
+use std::sync::Arc;
+
+/// Turns the entries, if there are any, into one segment behind these. Without memory all stays as it was.
+pub fn flush(
+    alloc: Global,
+    segments: &mut Vec<Arc<Segment>>,
+    entries: &mut Vec<Entry>,
+) -> Result<(), NoMemory>
+    requires { length entries.old.items ≤ 1000000 }
+    ensures segments { OnOk result (map arc_value segments.new.items ≡ flushed (map arc_value segments.old.items) entries.old.items) }
+    ensures entries { OnOk result (entries.new.items ≡ []) }
+    ensures same_segments { IfErr result (λ _. segments.new.items ≡ segments.old.items) }
+    ensures same_entries { IfErr result (λ _. entries.new.items ≡ entries.old.items) }
+{
+    if entries.is_empty() {
+        return Ok(());
+    }
+    let segment = Segment::build(alloc, entries)?;
+    let segment = Arc::new(alloc, segment)?;
+    segments.push(segment)?;
+    entries.clear();
+    Ok(())
+}

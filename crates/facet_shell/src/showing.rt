@@ -1,0 +1,99 @@
+ghost use Rattle.std.specs.Prelude.{◌≡◌, ◌<◌, ◌⊎◌, ℕ, List, Some, None, All, IfOk, MatchOption, length, map, slice_get};
+ghost use Rattle.std.specs.Arc.{arc_value};
+ghost use Rattle.facet_words.specs.ReplyViews.{reply_view};
+ghost use Rattle.seg_grammar.specs.Lookups.{record_of};
+ghost use Rattle.facet_shell.specs.Decoding.{doc_in, records_in};
+ghost use Rattle.facet_shell.specs.Searching.{IsShownFrom};
+
+use facet_model::Document;
+use facet_names::{NoMemory, Path};
+use facet_words::{Refusal, Reply};
+use seg_file::{Ords, Segment};
+use std::alloc::Global;
+use std::sync::Arc;
+use taxo_list::TaxoView;
+
+/// The segment that has the document at a place, with the document's place in it. It goes from segment to segment, and takes no memory.
+pub fn find(segments: &[Arc<Segment>], at: usize) -> Option<(&Segment, u32)>
+    ensures { MatchOption result (slice_get (records_in (map arc_value segments.now)) at ≡ None) (λ p. (p.1 < length p.0.now.records) × (slice_get (records_in (map arc_value segments.now)) at ≡ Some (record_of p.0.now p.1))) }
+{
+    let mut at = at;
+    for segment in segments {
+        let docs = segment.docs();
+        if at < docs as usize {
+            return Some((segment, at as u32));
+        }
+        at -= docs as usize;
+    }
+    None
+}
+
+fn ordinals_of(alloc: Global, mut leaves: Ords<'_>) -> Result<Vec<u32>, NoMemory>
+    ensures { IfOk result (λ v. v.items ≡ leaves.entry) }
+{
+    let mut ordinals = Vec::with_capacity(alloc, leaves.len())?;
+    while let Some(leaf) = leaves.next() {
+        ordinals.push(leaf)?;
+    }
+    Ok(ordinals)
+}
+
+// The labels at these ordinals.
+fn labels_at(alloc: Global, view: &TaxoView, ordinals: &[u32]) -> Result<Vec<Path>, NoMemory>
+    requires { All (λ ord. (0 < ord) × (ord < length view.now)) ordinals.now }
+    ensures { IfOk result (λ v. map (slice_get view.now) ordinals.now ≡ map Some v.items) }
+{
+    let mut labels = Vec::with_capacity(alloc, ordinals.len())?;
+    for ord in ordinals {
+        let label = view.path_of(*ord).dup(alloc)?;
+        labels.push(label)?;
+    }
+    Ok(labels)
+}
+
+// The document that a segment has at a place, and the ordinals of its labels.
+fn document_of(
+    alloc: Global,
+    view: &TaxoView,
+    segment: &Segment,
+    doc: u32,
+) -> Result<(Document, Vec<u32>), NoMemory>
+    requires there { doc < length segment.now.records }
+    requires leaves { All (λ ord. (0 < ord) × (ord < length view.now)) (record_of segment.now doc).leaves }
+    ensures doc { IfOk result (λ p. p.0 ≡ doc_in view.now (record_of segment.now doc)) }
+    ensures ordinals { IfOk result (λ p. p.1.items ≡ (record_of segment.now doc).leaves) }
+{
+    let ordinals = ordinals_of(alloc, segment.leaves(doc))?;
+    let labels = labels_at(alloc, view, &ordinals)?;
+    match Document::new(alloc, segment.id(doc), segment.text(doc), labels) {
+        Ok(doc) => Ok((doc, ordinals)),
+        // It was a document when it was stored, so that nothing else can be wanting.
+        Err(_) => Err(NoMemory),
+    }
+}
+
+/// The reply that shows the document at a place of these segments, which `n` operations made.
+pub fn show(
+    alloc: Global,
+    view: &TaxoView,
+    segments: &[Arc<Segment>],
+    n: u64,
+    at: u32,
+) -> Result<Reply, NoMemory>
+    requires leaves { All (λ r. All (λ ord. (0 < ord) × (ord < length view.now)) r.leaves) (records_in (map arc_value segments.now)) }
+    requires n { n ≡ length (records_in (map arc_value segments.now)) }
+    ensures { IfOk result (λ r. IsShownFrom view.now n at (slice_get (records_in (map arc_value segments.now)) at) (reply_view r)) }
+{
+    match find(segments, at as usize) {
+        Some((segment, place)) => {
+            let (doc, ordinals) = document_of(alloc, view, segment, place)?;
+            Ok(Reply::Shown {
+                n,
+                at,
+                doc,
+                ordinals,
+            })
+        }
+        None => Ok(Reply::Refused(Refusal::NoSuchDocument { count: n })),
+    }
+}

@@ -1,0 +1,199 @@
+ghost use Rattle.std.specs.Prelude.{◌≡◌, ◌≤◌, ◌-◌, [], SomeIff, IfOk, option_map, map};
+ghost use Rattle.serde_json.specs.View.{view};
+ghost use Rattle.facet_model.specs.Queries.{queries, nodes, list_nodes};
+ghost use Rattle.facet_model.specs.QueryViews.{query_view};
+ghost use Rattle.facet_words.specs.Queries.{all_query, term_query, lists_of, bool_query, query_within, query_of};
+ghost use Rattle.facet_words.specs.Shapes.{all_some, key_or, list_of};
+
+use crate::shape::{Shaped, keys_among, name_at, truth_at};
+use facet_model::{Query, Word};
+use facet_names::NoMemory;
+use serde_json::Value;
+use std::alloc::Global;
+
+#[tactic(auto, unfolding(crate::specs::Queries::all_query))]
+fn all_in(value: &Value) -> Option<Query>
+    ensures { option_map query_view result ≡ all_query (view value.now) }
+{
+    let every = truth_at(value, "all")?;
+    if every && keys_among(value, &["all"]) {
+        Some(Query::All)
+    } else {
+        None
+    }
+}
+
+#[tactic(auto, unfolding(crate::specs::Queries::term_query))]
+fn term_in(alloc: Global, value: &Value) -> Result<Option<Query>, NoMemory>
+    ensures { IfOk result (λ o. option_map query_view o ≡ term_query (view value.now)) }
+{
+    let Some(text) = name_at(value, "term") else {
+        return Ok(None);
+    };
+    let Some(word) = Word::new(alloc, text)? else {
+        return Ok(None);
+    };
+    if keys_among(value, &["term"]) {
+        Ok(Some(Query::Term(word)))
+    } else {
+        Ok(None)
+    }
+}
+
+// A query of at most so many levels.
+#[cycle(query_reading)]
+#[tactic(auto, using(crate::proofs::Levels::one_level))]
+fn query_in(alloc: Global, value: &Value, levels: u32) -> Result<Option<Query>, NoMemory>
+    ensures { IfOk result (λ o. option_map query_view o ≡ query_within levels (view value.now)) }
+{
+    if levels == 0 {
+        return Ok(None);
+    }
+    if let Some(query) = all_in(value) {
+        return Ok(Some(query));
+    }
+    if let Some(query) = term_in(alloc, value)? {
+        return Ok(Some(query));
+    }
+    bool_in(alloc, value, levels - 1)
+}
+
+#[cycle(query_reading)]
+#[tactic(auto, unfolding(crate::specs::Queries::bool_query))]
+fn bool_in(alloc: Global, value: &Value, levels: u32) -> Result<Option<Query>, NoMemory>
+    ensures { IfOk result (λ o. option_map query_view o ≡ bool_query (query_within levels) (view value.now)) }
+{
+    if !keys_among(value, &["bool"]) {
+        return Ok(None);
+    }
+    match value.get("bool") {
+        Some(lists) => lists_in(alloc, lists, levels),
+        None => Ok(None),
+    }
+}
+
+#[cycle(query_reading)]
+#[tactic(auto, unfolding(crate::specs::Queries::lists_of))]
+fn lists_in(alloc: Global, value: &Value, levels: u32) -> Result<Option<Query>, NoMemory>
+    ensures { IfOk result (λ o. option_map query_view o ≡ lists_of (query_within levels) (view value.now)) }
+{
+    let Some(must) = queries_at(alloc, value, "must", levels)? else {
+        return Ok(None);
+    };
+    let Some(should) = queries_at(alloc, value, "should", levels)? else {
+        return Ok(None);
+    };
+    let Some(must_not) = queries_at(alloc, value, "must_not", levels)? else {
+        return Ok(None);
+    };
+    if keys_among(value, &["must", "should", "must_not"]) {
+        Ok(Some(Query::Bool {
+            must,
+            should,
+            must_not,
+        }))
+    } else {
+        Ok(None)
+    }
+}
+
+// The queries under a key, each of at most so many levels.
+#[cycle(query_reading)]
+fn queries_at(
+    alloc: Global,
+    value: &Value,
+    name: &str,
+    levels: u32,
+) -> Result<Option<Vec<Query>>, NoMemory>
+    ensures { IfOk result (λ o. option_map (λ v. map query_view v.items) o ≡ key_or name.now [] (list_of (query_within levels)) (view value.now)) }
+{
+    match value.get(name) {
+        Some(list) => queries_in(alloc, list, levels),
+        None => Ok(Some(Vec::new(alloc))),
+    }
+}
+
+#[cycle(query_reading)]
+fn queries_in(alloc: Global, value: &Value, levels: u32) -> Result<Option<Vec<Query>>, NoMemory>
+    ensures { IfOk result (λ o. option_map (λ v. map query_view v.items) o ≡ list_of (query_within levels) (view value.now)) }
+{
+    let Some(list) = value.as_array() else {
+        return Ok(None);
+    };
+    each_query(alloc, list, levels)
+}
+
+#[cycle(query_reading)]
+fn each_query(alloc: Global, list: &[Value], levels: u32) -> Result<Option<Vec<Query>>, NoMemory>
+    ensures { IfOk result (λ o. option_map (λ v. map query_view v.items) o ≡ all_some (map (λ v. query_within levels (view v)) list.now)) }
+{
+    let mut out = Vec::new(alloc);
+    for value in list {
+        let Some(query) = query_in(alloc, value, levels)? else {
+            return Ok(None);
+        };
+        out.push(query)?;
+    }
+    Ok(Some(out))
+}
+
+// What a query leaves of so many nodes, or None where it has more.
+#[cycle(node_count)]
+fn left_by(query: &Query, left: u32) -> Option<u32>
+    ensures { SomeIff result (nodes (query_view query.now) ≤ left) (left - nodes (query_view query.now)) }
+{
+    let left = left.checked_sub(1)?;
+    match query {
+        Query::All => Some(left),
+        Query::Term(_) => Some(left),
+        Query::Bool {
+            must,
+            should,
+            must_not,
+        } => {
+            let left = left_by_all(must, left)?;
+            let left = left_by_all(should, left)?;
+            left_by_all(must_not, left)
+        }
+    }
+}
+
+#[cycle(node_count)]
+fn left_by_all(list: &[Query], left: u32) -> Option<u32>
+    ensures { SomeIff result (list_nodes (queries (map query_view list.now)) ≤ left) (left - list_nodes (queries (map query_view list.now))) }
+{
+    let mut left = left;
+    for query in list {
+        left = left_by(query, left)?;
+    }
+    Some(left)
+}
+
+#[tactic(auto, unfolding(crate::specs::Queries::query_of))]
+fn limited_query_in(alloc: Global, value: &Value) -> Result<Option<Query>, NoMemory>
+    ensures { IfOk result (λ o. option_map query_view o ≡ query_of (view value.now)) }
+{
+    let Some(query) = query_in(alloc, value, 32)? else {
+        return Ok(None);
+    };
+    match left_by(&query, 256) {
+        Some(_) => Ok(Some(query)),
+        None => Ok(None),
+    }
+}
+
+impl Shaped for Query {
+    ghost use Rattle.facet_model.specs.Queries.{QueryTree};
+    ghost use Rattle.facet_model.specs.QueryViews.{query_view};
+    ghost use Rattle.facet_words.specs.Queries.{query_of};
+
+    ghost Plain = { QueryTree };
+
+    ghost plain = { query_view };
+
+    ghost shape = { query_of };
+
+    fn read(alloc: Global, value: &Value) -> Result<Option<Query>, NoMemory> {
+        limited_query_in(alloc, value)
+    }
+}
