@@ -11,12 +11,6 @@ use Rattle.facet_words.specs.declared.reply.Reply as written
 use Rattle.facet_words.specs.Replies.{Reply}
 use Rattle.facet_words.specs.ReplyLines.{reply_line, reply_lines}
 
-pub all_zip_push : {A B : Type 0} (R : A → B → Type 0) (xs : List A) (ys : List B) (x : A) (y : B) → AllZip R xs ys → R x y → AllZip R (xs ++ x ∷ []) (ys ++ y ∷ [])
-all_zip_push R [] [] x y all r = (r, tt)
-all_zip_push R [] (b ∷ ys) x y all r = absurd all
-all_zip_push R (a ∷ xs) [] x y all r = absurd all
-all_zip_push R (a ∷ xs) (b ∷ ys) x y all r = (all.0, all_zip_push R xs ys x y all.1 r)
-
 -- `bytes` are the lines of right replies to the orders so far, which have left this shelf: whatever right replies follow, the whole is right
 pub record AreRepliesTo (settings : Settings) (done : List Order) (shelf : Shelf) (bytes : List ℕ) : Type 0 where
   pub replies : List Reply

@@ -178,7 +178,8 @@ fn many_drill_paths(rt: HostRuntime) -> Result<(), Fail> {
     let script = joined(alloc, &[CONFIG, BOB, LISA, REFRESH, search.as_slice()])?;
     let (ended, sink) = run_on(&rt, &script, 4096, &[], &[])?;
     assert!(rt; ended.status == Status::Done);
-    let reply = b"{\"hit_count\":1,\"hits\":[{\"at\":0,\"id\":\"b1\"}],\"line\":5,\"n\":2,\"results\":[],\"s\":1}\n";
+    let reply =
+        b"{\"hit_count\":1,\"hits\":[{\"at\":0,\"id\":\"b1\"}],\"line\":5,\"n\":2,\"results\":[],\"s\":1}\n";
     assert!(rt; sink.bytes().ends_with(reply));
     Ok(())
 }
