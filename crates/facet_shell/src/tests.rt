@@ -2,6 +2,7 @@ ghost use Rattle.std.specs.Prelude.{◌≤◌};
 
 use crate::rows::ROWS;
 use crate::{Ended, Status, run};
+use facet_codec::{Cursor, put_text, put_u32};
 use facet_io::{MemorySink, MemorySource};
 use std::alloc::Global;
 use std::test::Fail;
@@ -181,6 +182,34 @@ fn many_drill_paths(rt: HostRuntime) -> Result<(), Fail> {
     let reply =
         b"{\"hit_count\":1,\"hits\":[{\"at\":0,\"id\":\"b1\"}],\"line\":5,\"n\":2,\"results\":[],\"s\":1}\n";
     assert!(rt; sink.bytes().ends_with(reply));
+    Ok(())
+}
+
+// Two labels as a list of labels is stored: the root is not, and a parent is named by its ordinal.
+const LABELS: &[u8] =
+    b"FTAX\x00\x00\x00\x01\x00\x00\x00\x01\x00\x00\x00\x02\x00\x00\x00\x00\x06Author\x00\x00\x00\x01\x03Bob";
+
+fn spelled_labels(alloc: Global) -> Result<Vec<u8>, facet_codec::NoMemory> {
+    let mut out = Vec::new(alloc);
+    for number in [0x4654_4158u32, 1, 1, 2, 0] {
+        put_u32(&mut out, number)?;
+    }
+    put_text(&mut out, "Author")?;
+    put_u32(&mut out, 1)?;
+    put_text(&mut out, "Bob")?;
+    Ok(out)
+}
+
+#[test]
+fn stored_labels(rt: HostRuntime) -> Result<(), Fail> {
+    let bytes = spelled_labels(rt.alloc())?;
+    assert!(rt; bytes.as_slice() == LABELS);
+    let mut cursor = Cursor::new(LABELS);
+    for number in [0x4654_4158u32, 1, 1, 2, 0] {
+        assert!(rt; cursor.u32() == Ok(number));
+    }
+    assert!(rt; cursor.text(1024) == Ok("Author"));
+    assert!(rt; cursor.u32() == Ok(1) && cursor.text(1024) == Ok("Bob") && cursor.rest() == 0);
     Ok(())
 }
 
