@@ -1,5 +1,5 @@
 -- The dimensions whose flags differ in two configs.
-use Rattle.std.specs.Prelude.{◌≡◌, ◌≢◌, ◌||◌, ℕ, not, Bool, false, if◌then◌else◌, List, Option, Some, None}
+use Rattle.std.specs.Prelude.{◌≡◌, ◌≢◌, ◌||◌, ℕ, not, Bool, false, if◌then◌else◌, List, map, fold, Option, Some, None}
 use Rattle.std.specs.Ordering.{nat_cmp, is_lt}
 use Rattle.std.specs.Cmp.Lexicographic.{slice_cmp}
 use Rattle.facet_model.specs.Flags.{Config, flags}
@@ -28,3 +28,7 @@ lesser (Some d) dim = if is_lt (slice_cmp nat_cmp dim d) then Some dim else Some
 -- the lesser of the two where the dimension differs
 abbrev pub nearer : Config → Config → Option (List ℕ) → List ℕ → Option (List ℕ)
 nearer one other first dim = if is_different one other dim then lesser first dim else first
+
+-- the least of the declared dimensions whose flags differ
+abbrev pub first_different : Config → Config → Option (List ℕ)
+first_different one other = fold (nearer one other) (fold (nearer one other) None (map (λ d. d.0) one)) (map (λ d. d.0) other)

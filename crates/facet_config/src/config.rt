@@ -7,7 +7,7 @@ ghost use Rattle.facet_model.specs.Flags.{flags};
 ghost use Rattle.facet_model.specs.Documents.{dim_of};
 ghost use Rattle.facet_model.specs.Accepts.{broken_at, first_broken};
 ghost use Rattle.facet_model.specs.CountedPaths.{is_counted_for, ordinals_of_label};
-ghost use Rattle.facet_config.specs.Differences.{IsFirstDifference, is_different, nearer};
+ghost use Rattle.facet_config.specs.Differences.{IsFirstDifference, first_different, is_different, nearer};
 ghost use Rattle.facet_config.specs.Expanding.{AreAsLong, AreExpanded};
 ghost use Rattle.facet_config.specs.Faults.{declare_fault, fault_view, outcome};
 
@@ -167,6 +167,7 @@ impl FacetsConfig {
     /// The first dimension, in the order of their bytes, whose flags differ in the two configs. It goes over the declarations of both, and takes
     /// no memory.
     pub fn differs<'a>(&'a self, other: &'a FacetsConfig) -> Option<&'a str>
+        ensures is { option_map (λ s. s.now) result ≡ first_different self.now other.now }
         ensures none { IfNone result ((dim : List ℕ) → flags self.now dim ≡ flags other.now dim) }
         ensures first { IfSome result (λ d. IsFirstDifference self.now other.now d.now) }
     {
@@ -188,6 +189,22 @@ impl FacetsConfig {
             first = nearer(one, other, first, self.dim_at(at));
         }
         first
+    }
+
+    /// How many dimensions are declared.
+    pub fn len(&self) -> usize
+        ensures { result ≡ length self.now }
+    {
+        self.dims.len()
+    }
+
+    /// The dimension that was declared at a place, from 0, with its flags. It takes no memory.
+    pub fn declared(&self, at: usize) -> (&str, DimFlags)
+        requires { at < length self.now }
+        ensures { slice_get self.now at ≡ Some (result.0.now, result.1) }
+    {
+        let (name, flags) = self.dims.get_index(at).unwrap();
+        (name.as_str(), *flags)
     }
 
     // The name of the dimension that was declared at a place.

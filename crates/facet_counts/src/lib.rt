@@ -19,3 +19,4 @@ pub use counter::Counter;
 pub use counts::Counts;
 pub use dims::{note_dim, order_dims};
 pub use laws::{may_be_counted, no_result_elsewhere, none_elsewhere, one_all_dims};
+pub use links::{child_of, sibling_of};

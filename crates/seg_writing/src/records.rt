@@ -20,15 +20,11 @@ pub fn put_numbers(out: &mut Vec<u8>, numbers: &[u32]) -> Result<(), NoMemory>
     Ok(())
 }
 
-// Appends a record, and tells where its counted ordinals begin. There are as many leaves as facets. No document has a text of more than 65,536
-// bytes, but its type doesn't tell that here.
+// Appends a record, and tells where its counted ordinals begin. There are as many leaves as facets.
 fn put_record(out: &mut Vec<u8>, entry: &Entry) -> Result<usize, NoMemory>
     ensures { IfOk result (λ at. IsRecordPut out.old.items out.new.items at (stored_of entry.now)) }
 {
     let text = entry.doc.text();
-    if text.len() > 65536 {
-        return Err(NoMemory);
-    }
     put_text(out, entry.doc.id())?;
     put_text(out, text)?;
     put_vint(out, entry.doc.facets().len() as u32)?;

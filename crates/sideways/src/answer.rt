@@ -12,10 +12,9 @@ ghost use Rattle.sideways.specs.Questions.{HasDocs, counted_of, docs_of};
 ghost use Rattle.sideways.specs.Searches.{question};
 
 use crate::ask::SearchAsk;
-use crate::links::{child_of, sibling_of};
 use crate::pass::{Found, LiftedCounts};
 use facet_config::FacetsConfig;
-use facet_counts::{Counts, no_result_elsewhere, note_dim, order_dims};
+use facet_counts::{Counts, child_of, no_result_elsewhere, note_dim, order_dims, sibling_of};
 use facet_model::{Ask, FacetAnswer, FacetResult};
 use facet_names::{NoMemory, Path};
 use query_eval::has_path;

@@ -5,7 +5,6 @@
 mod answer;
 mod ask;
 mod count;
-mod links;
 mod node;
 mod part;
 mod pass;

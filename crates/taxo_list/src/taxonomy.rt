@@ -1,4 +1,4 @@
-ghost use Rattle.std.specs.Prelude.{◌≡◌, ◌≢◌, ◌≤◌, ◌<◌, [], ◌∷◌, Some, Err, false, length, is_some, IsTrue, IsOk, IfOk, IfErr, OnOk, OnErr};
+ghost use Rattle.std.specs.Prelude.{◌≡◌, ◌≢◌, ◌≤◌, ◌<◌, [], ◌∷◌, Some, Err, false, length, slice_get, is_some, IsTrue, IsOk, IfOk, IfErr, OnOk, OnErr};
 ghost use Rattle.facet_names.specs.Labels.{GoesOn, IsLabelList, above, place, stands, with_label};
 
 use crate::fault::TaxoFault;
@@ -63,6 +63,15 @@ impl Taxonomy {
         ensures there { is_some result ≡ stands self.now path.now }
     {
         ordinal_in(&self.labels, path)
+    }
+
+    /// The path at an ordinal. The root has none. It takes no memory.
+    pub fn path_of(&self, ord: u32) -> &Path
+        requires some { 0 < ord }
+        requires within { ord < length self.now }
+        ensures { slice_get self.now ord ≡ Some result.now }
+    {
+        &self.labels.as_slice()[ord as usize - 1]
     }
 
     // The ordinal of the parent of a path.

@@ -15,7 +15,7 @@ returns c =
     let entry = c.args.entry.now in
     let r : Stored = stored_of entry in
     let id : c.id.result.now ≡ r.id = c.id.ensures.id in
-    let words : c.text-text.result.now ≡ r.text = c.text-text.ensures in
+    let words : c.text-text.result.now ≡ r.text = c.text-text.ensures.text in
     let leaves : c.deref.result.now ≡ r.leaves = c.deref.ensures.value in
     let many : length c.facets.result.now ≡ length r.leaves = ap length c.facets.ensures.labels ∙ sym entry.as_many in
     let counted : c.ords-counted.result.now ≡ r.counted = c.ords-counted.ensures.ords in
@@ -32,7 +32,7 @@ returns c =
       counted = size ∙ ap length front ∙ length-append c.args.out.now.items (front_bytes r);
       fits = record {
         id = subst IsId id (record { some = omega (arith, c.id.ensures.some); text = record { length = c.id.ensures.short; utf8 = is_utf8-from_IsUtf8 c.id.result.now c.id.utf8 } });
-        text = subst (IsText 65536) words (record { length = omega arith; utf8 = is_utf8-from_IsUtf8 c.text-text.result.now c.text-text.utf8 });
+        text = subst (IsText 65536) words (record { length = c.text-text.ensures.short; utf8 = is_utf8-from_IsUtf8 c.text-text.result.now c.text-text.utf8 });
         leaves = record { few = omega (arith, many, c.facets.ensures.few); fit = subst (AllByRecursion (IsBelow (2 ^ 32))) leaves c.put_numbers.ensures.fit };
         counted = record { few = entry.few; fit = subst (AllByRecursion (IsBelow (2 ^ 32))) counted c.put_numbers-2.ensures.fit; rise = rising_from_increasing r.counted c.ords-counted.ensures.rising };
       };

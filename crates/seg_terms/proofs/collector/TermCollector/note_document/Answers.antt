@@ -15,7 +15,7 @@ returns c =
     let old : Table = c.args.self.now.table in
     let mid : Table = c.note_words.new.self.table in
     let new : Table = c.note_labels.new.self.table in
-    let text : c.as_str.result.now ≡ str_to_ascii_lowercase doc.text = c.as_str.ensures.value ∙ c.in_ok-lowered.ensures.ok ∙ ap str_to_ascii_lowercase c.text.ensures in
+    let text : c.as_str.result.now ≡ str_to_ascii_lowercase doc.text = c.as_str.ensures.value ∙ c.in_ok-lowered.ensures.ok ∙ ap str_to_ascii_lowercase c.text.ensures.text in
     let words : AreNoted c.args.place (piece_terms (slice_split is_blank (str_to_ascii_lowercase doc.text))) old mid = subst (λ t. AreNoted c.args.place (piece_terms (slice_split is_blank t)) old mid) text c.in_ok-note_words.ensures in
     on_ok_weaker c.note_labels.result (λ (labels : AreNoted c.args.place (path_terms (flat_map prefixes c.facets.result.now)) mid new).
     noted_more c.args.place (piece_terms (slice_split is_blank (str_to_ascii_lowercase doc.text))) (path_terms (flat_map prefixes doc.labels)) old mid new words (subst (λ ls. AreNoted c.args.place (path_terms (flat_map prefixes ls)) mid new) c.facets.ensures.labels labels)) c.note_labels.ensures
