@@ -21,9 +21,10 @@ use Rattle.facet_model.specs.Stored.{AreLabelsAt, IsRecordOf}
 use Rattle.seg_terms.specs.Entries.{stored_of}
 use Rattle.facet_config.specs.Expanding.{AreAsLong, AreExpanded}
 use Rattle.seg_terms.specs.declared.entry.Entry.{Entry}
-use Rattle.facet_shell.specs.Entries.{AreEntries, IsShort}
+use Rattle.seg_decoding.specs.Entries.{AreEntries}
+use Rattle.facet_shell.specs.Entries.{IsShort}
 use Rattle.facet_shell.specs.Growing.{leaf_of}
-use Rattle.facet_shell.proofs.Ordinals.{resolved_known}
+use Rattle.seg_decoding.proofs.Ordinals.{resolved_known}
 
 abbrev Labels : Type 0
 Labels = List (List (List ℕ))

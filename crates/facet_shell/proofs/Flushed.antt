@@ -7,11 +7,11 @@ use Rattle.facet_model.specs.Stored.{Records, Decodes}
 use Rattle.seg_terms.specs.declared.entry.Entry.{Entry}
 use Rattle.facet_words.specs.Answers.{RightReply}
 use Rattle.facet_words.specs.Commands.{Settings, refresh}
-use Rattle.facet_words.specs.Replies.{numbered}
-use Rattle.facet_shell.specs.Decoding.{docs_in, flushed}
-use Rattle.facet_shell.specs.Entries.{docs_of}
+use Rattle.facet_replies.specs.Replies.{numbered}
+use Rattle.seg_decoding.specs.Decoding.{docs_in, flushed}
+use Rattle.seg_decoding.specs.Entries.{docs_of}
 use Rattle.facet_shell.specs.Kept.{IsKept}
-use Rattle.facet_shell.proofs.Decoded.{decoded, decodes_stay, flushed_decodes}
+use Rattle.seg_decoding.proofs.Decoded.{decoded, decodes_stay, flushed_decodes}
 use Rattle.facet_shell.proofs.Grown.{stays}
 
 module _ (config : Config) (max_docs max_labels : ℕ) (labels view : List (List (List ℕ))) (segments : List Records) (buffer : List Entry) (taken n : ℕ) (list_view : IsLabelList view) (list : IsLabelList labels) (kept : IsKept config max_docs max_labels labels view segments buffer taken) (added : n ≡ length buffer) where

@@ -5,7 +5,7 @@ use Rattle.std.proofs.lemmas.List.Concat.{flat_map-cons}
 use Rattle.std.proofs.lemmas.Option.{slice_get-get_or}
 use Rattle.facet_model.specs.Stored.{Records}
 use Rattle.seg_grammar.specs.Lookups.{record_of}
-use Rattle.facet_shell.specs.Decoding.{records_in}
+use Rattle.seg_decoding.specs.Decoding.{records_in}
 
 front_get : {X : Type 0} (xs ys : List X) (i : ℕ) → i < length xs → slice_get (xs ++ ys) i ≡ slice_get xs i
 front_get [] ys i lt = absurd (omega arith)

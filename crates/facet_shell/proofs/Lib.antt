@@ -1,6 +1,4 @@
-pub mod Ordinals
 pub mod Grown
-pub mod Decoded
 pub mod Entered
 pub mod Found
 pub mod Replies

@@ -5,11 +5,12 @@ use Rattle.std.specs.List.{AllZip}
 use Rattle.facet_words.specs.Answers.{Shelf, empty_shelf, RightReply, RightReplies}
 use Rattle.facet_words.specs.CommandViews.{command_view, order_view}
 use Rattle.facet_words.specs.Commands.{Order, Settings}
-use Rattle.facet_words.specs.ReplyViews.{reply_view}
+use Rattle.facet_replies.specs.ReplyViews.{reply_view}
 use Rattle.facet_words.specs.declared.command.Order as read
-use Rattle.facet_words.specs.declared.reply.Reply as written
-use Rattle.facet_words.specs.Replies.{Reply}
-use Rattle.facet_words.specs.ReplyLines.{reply_line, reply_lines}
+use Rattle.facet_replies.specs.declared.reply.Reply as written
+use Rattle.facet_replies.specs.Replies.{Reply}
+use Rattle.facet_replies.specs.ReplyLines.{reply_line}
+use Rattle.facet_words.specs.Answers.{reply_lines}
 
 -- `bytes` are the lines of right replies to the orders so far, which have left this shelf: whatever right replies follow, the whole is right
 pub record AreRepliesTo (settings : Settings) (done : List Order) (shelf : Shelf) (bytes : List ℕ) : Type 0 where

@@ -11,15 +11,15 @@ use Rattle.facet_model.specs.Flags.{Config}
 use Rattle.facet_model.specs.Stored.{Stored, Records}
 use Rattle.facet_words.specs.Answers as words
 use Rattle.facet_words.specs.Commands.{Search}
-use Rattle.facet_words.specs.Replies.{Refusal, refused}
+use Rattle.facet_replies.specs.Replies.{Refusal, refused}
 use Rattle.seg_terms.proofs.DocPlaces.{places_below}
 use Rattle.sideways.specs.Refusals as refusals
 use Rattle.sideways.specs.declared.ask.AskRefused.{AskRefused}
 use Rattle.sideways.specs.declared.ask.AskRefused.TheVariants.{NoMemory as Memory}
-use Rattle.facet_shell.specs.Decoding.{doc_in, docs_in, records_in, record_at}
+use Rattle.seg_decoding.specs.Decoding.{doc_in, docs_in, records_in, record_at}
 use Rattle.facet_shell.specs.Searching.{refusal_as}
-use Rattle.facet_shell.proofs.Ordinals.{all_zip_push}
-use Rattle.facet_shell.proofs.Stored.{each_at}
+use Rattle.seg_decoding.proofs.Ordinals.{all_zip_push}
+use Rattle.seg_decoding.proofs.Stored.{each_at}
 
 -- ---- answers
 

@@ -4,8 +4,8 @@ use Rattle.facet_names.specs.Labels.{GoesOn}
 use Rattle.facet_model.specs.Flags.{Config}
 use Rattle.facet_model.specs.Stored.{Records, Decodes}
 use Rattle.seg_terms.specs.declared.entry.Entry.{Entry}
-use Rattle.facet_shell.specs.Decoding.{docs_in}
-use Rattle.facet_shell.specs.Entries.{AreEntries}
+use Rattle.seg_decoding.specs.Decoding.{docs_in}
+use Rattle.seg_decoding.specs.Entries.{AreEntries}
 
 -- No more labels and documents than there may be. The segments decode under the view of the last refresh, from which the labels go on; each document that was
 -- added since has its ordinals under the labels.

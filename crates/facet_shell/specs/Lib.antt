@@ -1,5 +1,4 @@
 pub mod Entries
-pub mod Decoding
 pub mod Kept
 pub mod Growing
 pub mod Sessions

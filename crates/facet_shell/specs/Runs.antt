@@ -3,9 +3,9 @@ use Rattle.std.specs.Prelude.{◌≡◌, ◌≤◌, ◌+◌, ◌⊎◌, ℕ, nat
 use Rattle.std.specs.Io.KnownBytes.{Appends, Consumes, IsAtEnd}
 use Rattle.facet_io.specs.Faults.{Rose}
 use Rattle.facet_words.specs.Answers.{Outputs}
-use Rattle.facet_words.specs.ReplyLines.{fault_line}
+use Rattle.facet_replies.specs.ReplyLines.{fault_line}
 use Rattle.facet_words.specs.Scripts.{script}
-use Rattle.facet_words.specs.declared.fault.ScriptFault.{ScriptFault}
+use Rattle.facet_replies.specs.declared.fault.ScriptFault.{ScriptFault}
 use Rattle.facet_shell.specs.declared.status.Status.{Status}
 use Rattle.facet_shell.specs.declared.status.Status.TheVariants.{Done, BadScript, TooLong}
 

@@ -3,12 +3,12 @@ use Rattle.std.specs.Prelude.{◌≡◌, ℕ, List, map, Option, Some, None}
 use Rattle.facet_model.specs.AskViews.{ask_view}
 use Rattle.facet_model.specs.QueryViews.{query_view}
 use Rattle.facet_words.specs.Commands.{Search}
-use Rattle.facet_words.specs.Replies.{Refusal, top_zero, dim_value_not_kept, no_such_document, no_memory, Reply, shown, refused}
+use Rattle.facet_replies.specs.Replies.{Refusal, top_zero, dim_value_not_kept, no_such_document, no_memory, Reply, shown, refused}
 use Rattle.sideways.specs.declared.ask.SearchAsk.{SearchAsk}
 use Rattle.sideways.specs.declared.ask.AskRefused.{AskRefused}
 use Rattle.sideways.specs.declared.ask.AskRefused.TheVariants as refusals
 use Rattle.facet_model.specs.Stored.{Stored}
-use Rattle.facet_shell.specs.Decoding.{doc_in}
+use Rattle.seg_decoding.specs.Decoding.{doc_in}
 
 abbrev pub search_view : SearchAsk → Search
 search_view ask = record { query = query_view ask.query; drill = ask.drill; sideways = ask.sideways; asks = map ask_view ask.asks.items; hits = ask.hits }

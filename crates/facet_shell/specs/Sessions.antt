@@ -3,8 +3,8 @@ use Rattle.std.specs.Prelude.{◌≡◌, ℕ, List, map}
 use Rattle.facet_words.specs.Answers.{Shelf, RightReplies, empty_shelf}
 use Rattle.facet_words.specs.CommandViews.{order_view}
 use Rattle.facet_words.specs.Commands.{Settings}
-use Rattle.facet_words.specs.Replies.{Reply}
-use Rattle.facet_words.specs.ReplyLines.{reply_lines}
+use Rattle.facet_replies.specs.Replies.{Reply}
+use Rattle.facet_words.specs.Answers.{reply_lines}
 use Rattle.facet_words.specs.declared.command.Order.{Order}
 
 -- the settings of a session, and what its orders work on

@@ -1,6 +1,6 @@
 ghost use Rattle.std.specs.Prelude.{◌≡◌, ◌≤◌, [], length, map, IfErr, OnOk};
 ghost use Rattle.std.specs.Arc.{arc_value};
-ghost use Rattle.facet_shell.specs.Decoding.{flushed};
+ghost use Rattle.seg_decoding.specs.Decoding.{flushed};
 
 use facet_names::NoMemory;
 use seg_file::{Entry, Segment};

@@ -2,9 +2,9 @@ ghost use Rattle.std.specs.Prelude.{◌≡◌, ◌≢◌, ◌<◌, ◌≤◌, �
 ghost use Rattle.facet_io.specs.Faults.{Rose};
 ghost use Rattle.facet_shell.specs.Runs.{ReadsSome, ReadsTooMuch, TellsOfScript, Answers, AnswersPartly, WritesLine, expected};
 ghost use Rattle.facet_words.specs.Answers.{Outputs};
-ghost use Rattle.facet_words.specs.ReplyLines.{fault_line};
+ghost use Rattle.facet_replies.specs.ReplyLines.{fault_line};
 ghost use Rattle.facet_words.specs.Scripts.{script};
-ghost use Rattle.facet_words.specs.declared.fault.ScriptFault.TheVariants.{NoMemory as Memory};
+ghost use Rattle.facet_replies.specs.declared.fault.ScriptFault.TheVariants.{NoMemory as Memory};
 ghost use Rattle.facet_shell.specs.Statuses.{status_line};
 
 use crate::session::reply_to_all;

@@ -6,10 +6,10 @@ ghost use Rattle.facet_model.specs.ResultViews.{answer_view};
 ghost use Rattle.facet_model.specs.Results.{IsAnswer};
 ghost use Rattle.facet_model.specs.Stored.{Decodes};
 ghost use Rattle.facet_words.specs.Answers.{IsFound, first_refused};
-ghost use Rattle.facet_words.specs.ReplyViews.{hit_view, refusal_view, reply_view};
+ghost use Rattle.facet_replies.specs.ReplyViews.{hit_view, refusal_view, reply_view};
 ghost use Rattle.sideways.specs.Questions.{HasDocs, docs_of};
 ghost use Rattle.sideways.specs.Searches.{question};
-ghost use Rattle.facet_shell.specs.Decoding.{docs_in, records_in, record_at};
+ghost use Rattle.seg_decoding.specs.Decoding.{docs_in, records_in, record_at};
 ghost use Rattle.facet_shell.specs.Searching.{refusal_as, search_view};
 ghost use Rattle.sideways.specs.declared.ask.AskRefused.TheVariants.{NoMemory as Memory};
 

@@ -2,7 +2,7 @@ ghost use Rattle.std.specs.Prelude.{◌≡◌, ◌≤◌, ℕ, List, IfOk, IfErr
 ghost use Rattle.facet_words.specs.Answers.{RightReply, empty_shelf};
 ghost use Rattle.facet_words.specs.CommandViews.{command_view, settings_view};
 ghost use Rattle.facet_words.specs.Commands.{add as add_command, refresh as refresh_command, search as search_command, document as document_command};
-ghost use Rattle.facet_words.specs.ReplyViews.{reply_view};
+ghost use Rattle.facet_replies.specs.ReplyViews.{reply_view};
 ghost use Rattle.facet_shell.specs.Searching.{search_view};
 ghost use Rattle.facet_shell.specs.Sessions.{AreReplies};
 
@@ -38,8 +38,8 @@ impl Model for Session {
     ghost use Rattle.std.specs.Prelude.{◌++◌, map};
     ghost use Rattle.std.specs.Arc.{arc_value};
     ghost use Rattle.facet_words.specs.CommandViews.{settings_view};
-    ghost use Rattle.facet_shell.specs.Decoding.{docs_in};
-    ghost use Rattle.facet_shell.specs.Entries.{docs_of};
+    ghost use Rattle.seg_decoding.specs.Decoding.{docs_in};
+    ghost use Rattle.seg_decoding.specs.Entries.{docs_of};
     ghost use Rattle.facet_shell.specs.Kept.{IsKept};
     ghost use Rattle.facet_shell.specs.Sessions.{State};
 

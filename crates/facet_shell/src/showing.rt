@@ -1,8 +1,8 @@
 ghost use Rattle.std.specs.Prelude.{◌≡◌, ◌<◌, ◌⊎◌, ℕ, List, Some, None, All, IfOk, MatchOption, length, map, slice_get};
 ghost use Rattle.std.specs.Arc.{arc_value};
-ghost use Rattle.facet_words.specs.ReplyViews.{reply_view};
+ghost use Rattle.facet_replies.specs.ReplyViews.{reply_view};
 ghost use Rattle.seg_grammar.specs.Lookups.{record_of};
-ghost use Rattle.facet_shell.specs.Decoding.{doc_in, records_in};
+ghost use Rattle.seg_decoding.specs.Decoding.{doc_in, records_in};
 ghost use Rattle.facet_shell.specs.Searching.{IsShownFrom};
 
 use facet_model::Document;

@@ -5,5 +5,4 @@ pub mod Orders
 pub mod Levels
 mod Limits
 pub mod Nodes
-pub mod Floats
 mod Dimensions

@@ -1,7 +1,7 @@
 -- Orders, read line by line.
 use Rattle.std.proofs.Common.{◌≡◌, ℕ, ◌+◌, List, [], ◌∷◌, ◌++◌, Result, Ok, Err, refl, sym, ap, ◌∙◌, append_assoc}
 use Rattle.std.proofs.lemmas.List.{append-nil}
-use Rattle.facet_words.specs.declared.fault.ScriptFault.{ScriptFault}
+use Rattle.facet_replies.specs.declared.fault.ScriptFault.{ScriptFault}
 use Rattle.facet_words.specs.Commands.{Order}
 use Rattle.facet_words.specs.Scripts.{◌>>=◌, order_at, orders_from}
 

@@ -10,8 +10,8 @@ use Rattle.facet_model.specs.Results.{Answer, IsAnswer}
 use Rattle.facet_model.specs.Hits.{is_hit, hits, lifted}
 use Rattle.facet_words.specs.Commands.{Settings, Search, Command, add, refresh, search, document, Order, Script}
 use Rattle.facet_words.specs.Scripts.{script}
-use Rattle.facet_words.specs.Replies.{Refusal, broken, labels_full, docs_full, top_zero, dim_value_not_kept, no_such_document, no_memory, Reply, placed, numbered, found, shown, refused}
-use Rattle.facet_words.specs.ReplyLines.{reply_lines}
+use Rattle.facet_replies.specs.Replies.{Refusal, broken, labels_full, docs_full, top_zero, dim_value_not_kept, no_such_document, no_memory, Reply, placed, numbered, found, shown, refused}
+use Rattle.facet_replies.specs.ReplyLines.{reply_line}
 
 -- what a session works on: the labels with the root, the documents, and how many of them the last refresh took
 pub record Shelf : Type 0 where
@@ -116,6 +116,12 @@ RightReplies settings shelf [] [] = Unit {0}
 RightReplies settings shelf [] (r ∷ rs) = ⊥
 RightReplies settings shelf (o ∷ os) [] = ⊥
 RightReplies settings shelf (o ∷ os) (r ∷ rs) = (next : Shelf) × RightReply settings shelf o.command r next × RightReplies settings next os rs
+
+-- the lines of the replies to these orders, in their order
+abbrev pub reply_lines : List Order → List Reply → List ℕ
+reply_lines [] rs = []
+reply_lines (o ∷ os) [] = []
+reply_lines (o ∷ os) (r ∷ rs) = reply_line o.session o.line r ++ reply_lines os rs
 
 -- the bytes are the lines of right replies
 abbrev pub RightOutput : Script → List ℕ → Type 0

@@ -5,7 +5,4 @@ pub mod Queries
 pub mod Orders
 pub mod Scripts
 pub mod CommandViews
-pub mod Replies
-pub mod ReplyLines
-pub mod ReplyViews
 pub mod Answers

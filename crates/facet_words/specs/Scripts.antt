@@ -4,8 +4,8 @@ use Rattle.std.specs.Option.{option_map_or}
 use Rattle.std.specs.Str.{bytes_eq}
 use Rattle.serde_json.specs.Data.{Data}
 use Rattle.serde_json.specs.Find.{as_str}
-use Rattle.facet_words.specs.declared.fault.ScriptFault.{ScriptFault}
-use Rattle.facet_words.specs.declared.fault.ScriptFault.TheVariants.{NotJson, BadShape, BadSession, NoConfigFirst}
+use Rattle.facet_replies.specs.declared.fault.ScriptFault.{ScriptFault}
+use Rattle.facet_replies.specs.declared.fault.ScriptFault.TheVariants.{NotJson, BadShape, BadSession, NoConfigFirst}
 use Rattle.facet_words.specs.Commands.{Settings, Command, Order, Script}
 use Rattle.facet_words.specs.Lines.{lines_of, line_data}
 use Rattle.facet_words.specs.Orders.{settings_of, command_of}

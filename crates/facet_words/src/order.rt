@@ -7,16 +7,16 @@ ghost use Rattle.facet_words.specs.Orders.{add_of, refresh_of, search_of, docume
 ghost use Rattle.facet_words.specs.Queries.{query_of};
 ghost use Rattle.facet_words.specs.Scripts.{order_of, order_at};
 ghost use Rattle.facet_words.specs.Shapes.{key_or, is_within};
-ghost use Rattle.facet_words.specs.declared.fault.ScriptFault.TheVariants.{NoMemory as Memory};
+ghost use Rattle.facet_replies.specs.declared.fault.ScriptFault.TheVariants.{NoMemory as Memory};
 
 use crate::command::{Command, Order};
-use crate::fault::ScriptFault;
 use crate::lines::line_value;
 use crate::shape::{
     Shaped, flag_at, keys_among, list_or, name_at, number_at, text_at, text_or, whole_at, whole_or,
 };
 use facet_model::{Ask, Document, Drill, Query};
 use facet_names::{NoMemory, Path};
+use facet_replies::ScriptFault;
 use serde_json::Value;
 use std::alloc::Global;
 

@@ -2,13 +2,13 @@ ghost use Rattle.std.specs.Prelude.{◌≡◌, ◌≢◌, ◌≤◌, Ok, Err, If
 ghost use Rattle.facet_words.specs.CommandViews.{order_view, script_view};
 ghost use Rattle.facet_words.specs.Lines.{lines_of};
 ghost use Rattle.facet_words.specs.Scripts.{orders_from, script};
-ghost use Rattle.facet_words.specs.declared.fault.ScriptFault.TheVariants.{NoMemory as Memory};
+ghost use Rattle.facet_replies.specs.declared.fault.ScriptFault.TheVariants.{NoMemory as Memory};
 
 use crate::command::{Order, Script};
-use crate::fault::ScriptFault;
 use crate::lines::cut_line;
 use crate::order::read_order;
 use crate::settings::read_settings;
+use facet_replies::ScriptFault;
 use std::alloc::Global;
 
 // The orders of the lines behind the first one.

@@ -4,15 +4,15 @@ ghost use Rattle.facet_words.specs.CommandViews.{settings_view};
 ghost use Rattle.facet_words.specs.Orders.{dimension_of, config_from, settings_of};
 ghost use Rattle.facet_words.specs.Scripts.{config_of, config_at};
 ghost use Rattle.facet_words.specs.Shapes.{key_or, list_of};
-ghost use Rattle.facet_words.specs.declared.fault.ScriptFault.TheVariants.{NoMemory as Memory};
+ghost use Rattle.facet_replies.specs.declared.fault.ScriptFault.TheVariants.{NoMemory as Memory};
 
 use crate::command::Settings;
-use crate::fault::ScriptFault;
 use crate::lines::line_value;
 use crate::shape::{Shaped, flag_at, keys_among, list_of_in, name_at, text_at, whole_or};
 use facet_config::{DeclareFault, FacetsConfig};
 use facet_model::DimFlags;
 use facet_names::NoMemory;
+use facet_replies::ScriptFault;
 use serde_json::Value;
 use std::alloc::Global;
 

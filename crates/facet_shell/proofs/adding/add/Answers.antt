@@ -1,8 +1,8 @@
 use Rattle.std.proofs.Common.{ℕ, List, sym, subst}
 use Rattle.facet_model.specs.CountedPaths.{AreResolved}
 use Rattle.facet_config.specs.Expanding.{AreAsLong}
-use Rattle.facet_shell.proofs.Decoded.{entries_stay}
-use Rattle.facet_shell.proofs.Ordinals.{resolved_as_long}
+use Rattle.seg_decoding.proofs.Decoded.{entries_stay}
+use Rattle.seg_decoding.proofs.Ordinals.{resolved_as_long}
 use Rattle.facet_shell.proofs.adding.add.Goals as goal
 
 pub place-requires-clause-as_long : goal.place-requires-clause-as_long

@@ -1,7 +1,7 @@
 use Rattle.std.proofs.Common.{◌≡◌, ◌≤◌, true, take, length}
 use Rattle.std.specs.Prelude.{fold}
 use Rattle.facet_names.specs.Labels.{prefixes, stands, with_label}
-use Rattle.facet_shell.proofs.Ordinals.{AreAt}
+use Rattle.seg_decoding.proofs.Ordinals.{AreAt}
 use Rattle.facet_shell.proofs.labels.add_prefixes.Given as goal
 
 abbrev pub invariant-loop-n : goal.invariant-loop-n

@@ -4,11 +4,11 @@ use Rattle.std.specs.Prelude.{All}
 use Rattle.facet_model.specs.Hits.{is_hit}
 use Rattle.facet_model.specs.Stored.{Records}
 use Rattle.sideways.specs.Searches.{question}
-use Rattle.facet_shell.specs.Decoding.{doc_in, docs_in, records_in, record_at}
+use Rattle.seg_decoding.specs.Decoding.{doc_in, docs_in, records_in, record_at}
 use Rattle.facet_shell.proofs.Searched.{places_within, hits_are, hit_of}
-use Rattle.facet_words.specs.Replies.{Found}
-use Rattle.facet_words.specs.Replies as replies
-use Rattle.facet_words.specs.ReplyViews.{hit_view}
+use Rattle.facet_replies.specs.Replies.{Found}
+use Rattle.facet_replies.specs.Replies as replies
+use Rattle.facet_replies.specs.ReplyViews.{hit_view}
 use Rattle.facet_model.specs.ResultViews.{answer_view}
 use Rattle.facet_shell.proofs.searching.found.Goals as goal
 

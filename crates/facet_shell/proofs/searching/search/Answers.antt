@@ -3,12 +3,12 @@ use Rattle.std.specs.Arc.{arc_value}
 use Rattle.std.specs.Result.{IfOk}
 use Rattle.facet_model.specs.AskViews.{ask_view}
 use Rattle.facet_words.specs.Answers.{IsFound, first_refused}
-use Rattle.facet_words.specs.Replies as replies
-use Rattle.facet_words.specs.ReplyViews.{refusal_view, reply_view}
-use Rattle.facet_words.specs.Replies.{Refusal}
+use Rattle.facet_replies.specs.Replies as replies
+use Rattle.facet_replies.specs.ReplyViews.{refusal_view, reply_view}
+use Rattle.facet_replies.specs.Replies.{Refusal}
 use Rattle.sideways.specs.Refusals as refusals
 use Rattle.sideways.specs.Searches.{Search}
-use Rattle.facet_shell.specs.Decoding.{docs_in}
+use Rattle.seg_decoding.specs.Decoding.{docs_in}
 use Rattle.facet_shell.specs.Searching.{refusal_as, search_view}
 use Rattle.facet_shell.proofs.Searched.{first_refused_as, none_refused, refused_found}
 use Rattle.facet_shell.proofs.searching.search.Goals as goal

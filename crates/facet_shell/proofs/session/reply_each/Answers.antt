@@ -5,7 +5,7 @@ use Rattle.std.proofs.lemmas.Iterator.Consumers.{YieldsList-end}
 use Rattle.facet_words.specs.Answers.{RightReply}
 use Rattle.facet_words.specs.Commands.{Settings}
 use Rattle.facet_words.specs.CommandViews.{command_view}
-use Rattle.facet_words.specs.ReplyViews.{reply_view}
+use Rattle.facet_replies.specs.ReplyViews.{reply_view}
 use Rattle.facet_words.specs.declared.command.Order.{Order}
 use Rattle.facet_shell.specs.Sessions.{AreReplies}
 use Rattle.facet_shell.proofs.Replies.{replied, replies_end}

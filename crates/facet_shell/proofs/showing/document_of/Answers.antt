@@ -1,8 +1,8 @@
 use Rattle.std.proofs.Common.{◌≡◌, ◌∙◌, ℕ, List, map, slice_get, Some, sym, subst}
 use Rattle.facet_model.specs.Stored.{AreLabelsAt}
 use Rattle.seg_grammar.specs.Lookups.{record_of}
-use Rattle.facet_shell.specs.Decoding.{doc_in}
-use Rattle.facet_shell.proofs.Decoded.{labels_at}
+use Rattle.seg_decoding.specs.Decoding.{doc_in}
+use Rattle.seg_decoding.proofs.Decoded.{labels_at}
 use Rattle.facet_shell.proofs.showing.document_of.Goals as goal
 
 pub returns-in-Ok-clause-doc : goal.returns-in-Ok-clause-doc

@@ -2,7 +2,7 @@ use Rattle.std.proofs.Common.{◌≡◌, ◌∙◌, ◌+◌, ◌-◌, ◌<◌, l
 use Rattle.std.specs.Arc.{arc_value}
 use Rattle.facet_model.specs.Stored.{Records}
 use Rattle.seg_grammar.specs.Lookups.{record_of}
-use Rattle.facet_shell.specs.Decoding.{records_in}
+use Rattle.seg_decoding.specs.Decoding.{records_in}
 use Rattle.facet_shell.proofs.Found.{record_here, record_later}
 use Rattle.facet_shell.proofs.showing.find.Goals as goal
 

@@ -4,12 +4,13 @@ use Rattle.std.specs.Arc.{arc_value}
 use Rattle.facet_model.specs.Stored.{Stored}
 use Rattle.facet_words.specs.Answers.{RightReply, Shelf}
 use Rattle.facet_words.specs.Commands.{document}
-use Rattle.facet_words.specs.ReplyViews.{reply_view}
-use Rattle.facet_shell.specs.Decoding.{docs_in, records_in}
-use Rattle.facet_shell.specs.Entries.{docs_of}
+use Rattle.facet_replies.specs.ReplyViews.{reply_view}
+use Rattle.seg_decoding.specs.Decoding.{docs_in, records_in}
+use Rattle.seg_decoding.specs.Entries.{docs_of}
 use Rattle.facet_shell.specs.Searching.{IsShownFrom}
 use Rattle.facet_shell.specs.Sessions.{State}
-use Rattle.facet_shell.proofs.Stored.{records_are, leaves_within, shown_is}
+use Rattle.seg_decoding.proofs.Stored.{records_are, leaves_within}
+use Rattle.facet_shell.proofs.Stored.{shown_is}
 use Rattle.facet_shell.proofs.session.Session.document.Goals as goal
 
 pub show-requires-clause-leaves : goal.show-requires-clause-leaves

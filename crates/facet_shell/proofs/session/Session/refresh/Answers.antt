@@ -4,9 +4,9 @@ use Rattle.facet_model.specs.Stored.{Records}
 use Rattle.seg_terms.specs.declared.entry.Entry.{Entry}
 use Rattle.facet_words.specs.Answers.{RightReply}
 use Rattle.facet_words.specs.Commands.{refresh}
-use Rattle.facet_words.specs.Replies.{numbered}
-use Rattle.facet_shell.specs.Decoding.{docs_in, flushed}
-use Rattle.facet_shell.specs.Entries.{docs_of}
+use Rattle.facet_replies.specs.Replies.{numbered}
+use Rattle.seg_decoding.specs.Decoding.{docs_in, flushed}
+use Rattle.seg_decoding.specs.Entries.{docs_of}
 use Rattle.facet_shell.specs.Kept.{IsKept}
 use Rattle.facet_shell.specs.Sessions.{State}
 use Rattle.facet_shell.proofs.Flushed.{kept_flushed, refreshed}

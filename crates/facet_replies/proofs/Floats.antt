@@ -1,0 +1,100 @@
+-- No reply and no fault has a float.
+use Rattle.std.proofs.Common.{◌≡◌, ℕ, false, List, [], ◌∷◌, map, Some, None, refl}
+use Rattle.std.specs.Prelude.{ℤ, pos, negsuc}
+use Rattle.serde_json.specs.Data.{string}
+use Rattle.serde_json.specs.Find.{of_integer, is_float}
+use Rattle.serde_json.specs.View.{items_of}
+use Rattle.serde_json.specs.Written.{has_float, items_have_float}
+use Rattle.facet_model.specs.Listing.{PartCount}
+use Rattle.facet_model.specs.Results.{Listed, Answer, top_answer, value_answer, dims_answer}
+use Rattle.facet_model.specs.Accepts.{no_component, not_hierarchical, not_multi_valued}
+use Rattle.facet_replies.specs.declared.fault.ScriptFault.{ScriptFault}
+use Rattle.facet_replies.specs.declared.fault.ScriptFault.TheVariants as faults
+use Rattle.facet_replies.specs.Replies.{broken, labels_full, docs_full, top_zero, dim_value_not_kept, no_such_document, disk_failed, closed, numbers_spent, no_memory, Reply, placed, numbered, found, shown, stats, refused}
+use Rattle.facet_replies.specs.ReplyLines.{whole_data, path_data, child_data, listed_data, value_data, dims_data, answer_data, hit_data, reply_data, fault_data}
+use Rattle.facet_replies.specs.StoreLines.{Unopened, missing, damaged, malformed, uncovered, spent, other_config, unopened_data}
+
+children_plain : (cs : List PartCount) → items_have_float (items_of (map child_data cs)) ≡ false
+children_plain [] = refl
+children_plain (c ∷ cs) = children_plain cs
+
+path_plain : (ps : List (List ℕ)) → items_have_float (items_of (map string ps)) ≡ false
+path_plain [] = refl
+path_plain (p ∷ ps) = path_plain ps
+
+integer_plain : (z : ℤ) → is_float (of_integer z) ≡ false
+integer_plain (pos n) = refl
+integer_plain (negsuc n) = refl
+
+listed_plain : (r : Listed) → has_float (listed_data r) ≡ false
+unfolding listed_data
+listed_plain r = rw (children_plain r.children, path_plain r.path, integer_plain r.value) refl
+
+value_plain : (path : List (List ℕ)) (value : ℤ) → has_float (value_data path value) ≡ false
+unfolding value_data
+value_plain path value = rw (path_plain path, integer_plain value) refl
+
+all_plain : (rs : List Listed) → items_have_float (items_of (map listed_data rs)) ≡ false
+all_plain [] = refl
+all_plain (r ∷ rs) = rw (listed_plain r) (all_plain rs)
+
+dims_plain : (rs : List Listed) → has_float (dims_data rs) ≡ false
+unfolding dims_data
+dims_plain rs = rw (all_plain rs) refl
+
+hits_plain : (hits : List (ℕ × List ℕ)) → items_have_float (items_of (map hit_data hits)) ≡ false
+unfolding hit_data
+hits_plain [] = refl
+hits_plain (hit ∷ hits) = hits_plain hits
+
+answers_plain : (answers : List Answer) → items_have_float (items_of (map answer_data answers)) ≡ false
+answers_plain [] = refl
+answers_plain (top_answer None ∷ answers) = answers_plain answers
+answers_plain (top_answer (Some r) ∷ answers) = rw (listed_plain r) (answers_plain answers)
+answers_plain (value_answer path value ∷ answers) = rw (value_plain path value) (answers_plain answers)
+answers_plain (dims_answer rs ∷ answers) = rw (dims_plain rs) (answers_plain answers)
+
+paths_plain : (paths : List (List (List ℕ))) → items_have_float (items_of (map path_data paths)) ≡ false
+paths_plain [] = refl
+paths_plain (p ∷ ps) = rw (path_plain p) (paths_plain ps)
+
+wholes_plain : (ns : List ℕ) → items_have_float (items_of (map whole_data ns)) ≡ false
+wholes_plain [] = refl
+wholes_plain (n ∷ ns) = wholes_plain ns
+
+pub reply_plain : (session line : ℕ) (reply : Reply) → has_float (reply_data session line reply) ≡ false
+unfolding reply_data
+reply_plain session line (placed at) = refl
+reply_plain session line (numbered n) = refl
+reply_plain session line (found f) = rw (hits_plain f.hits, answers_plain f.answers) refl
+reply_plain session line (shown s) = rw (paths_plain s.doc.labels, wholes_plain s.ordinals) refl
+reply_plain session line (refused (broken (no_component facet))) = refl
+reply_plain session line (refused (broken (not_hierarchical facet len))) = refl
+reply_plain session line (refused (broken (not_multi_valued facet))) = refl
+reply_plain session line (refused (labels_full size)) = refl
+reply_plain session line (refused (docs_full count)) = refl
+reply_plain session line (refused (top_zero ask)) = refl
+reply_plain session line (refused (dim_value_not_kept ask)) = refl
+reply_plain session line (refused (no_such_document count)) = refl
+reply_plain session line (refused (disk_failed count)) = refl
+reply_plain session line (refused (closed count)) = refl
+reply_plain session line (refused (numbers_spent number)) = refl
+reply_plain session line (refused no_memory) = refl
+reply_plain session line (stats s) = refl
+
+pub fault_plain : (fault : ScriptFault) → has_float (fault_data fault) ≡ false
+unfolding fault_data
+fault_plain (faults.NotJson line) = refl
+fault_plain (faults.BadShape line) = refl
+fault_plain (faults.BadSession line) = refl
+fault_plain faults.NoConfigFirst = refl
+fault_plain faults.NoMemory = refl
+
+pub unopened_plain : (why : Unopened) → has_float (unopened_data why) ≡ false
+unfolding unopened_data
+unopened_plain (missing file) = refl
+unopened_plain (damaged file kept digest) = refl
+unopened_plain (malformed file at) = refl
+unopened_plain (uncovered needs has) = refl
+unopened_plain (spent number) = refl
+unopened_plain (other_config dim) = refl

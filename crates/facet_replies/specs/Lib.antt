@@ -1,0 +1,5 @@
+pub mod Replies
+pub mod ReplyViews
+pub mod ReplyLines
+pub mod StoreLines
+pub mod StoreViews

@@ -1,0 +1,46 @@
+-- Replies, as plain data.
+use Rattle.std.specs.Prelude.{ℕ, List}
+use Rattle.facet_model.specs.Accepts.{Broken}
+use Rattle.facet_model.specs.Documents.{Doc}
+use Rattle.facet_model.specs.Results.{Answer}
+
+-- A facet is broken. The label list has this size, or there are so many documents, and no more fit. The ask at this place asks for no child, or for a value that is not kept. There are only so many documents. The disk failed at this count of faults, now or at an earlier commit. The last file number would be this one.
+pub data Refusal : Type 0 where
+  broken : Broken → Refusal
+  labels_full : ℕ → Refusal
+  docs_full : ℕ → Refusal
+  top_zero : ℕ → Refusal
+  dim_value_not_kept : ℕ → Refusal
+  no_such_document : ℕ → Refusal
+  disk_failed : ℕ → Refusal
+  closed : ℕ → Refusal
+  numbers_spent : ℕ → Refusal
+  no_memory : Refusal
+
+-- the number of operations that a search saw, and what it found of them: how many hits, the first of them with their places and ids, and the answers to the asks
+pub record Found : Type 0 where
+  pub operations : ℕ
+  pub hit_count : ℕ
+  pub hits : List (ℕ × List ℕ)
+  pub answers : List Answer
+
+-- the number of operations that were seen, and the document at a place of them with the ordinals of its labels
+pub record Shown : Type 0 where
+  pub operations : ℕ
+  pub at : ℕ
+  pub doc : Doc
+  pub ordinals : List ℕ
+
+-- how many operations, labels with the root and documents the last refresh took
+pub record Numbers : Type 0 where
+  pub operations : ℕ
+  pub labels : ℕ
+  pub documents : ℕ
+
+pub data Reply : Type 0 where
+  placed : ℕ → Reply
+  numbered : ℕ → Reply
+  found : Found → Reply
+  shown : Shown → Reply
+  stats : Numbers → Reply
+  refused : Refusal → Reply

@@ -1,0 +1,123 @@
+-- Segments that decode, under a list of labels that goes on, and with one segment more.
+use Rattle.std.proofs.Common.{◌≡◌, ℕ, true, List, [], ◌∷◌, ◌++◌, map, get_or, slice_get, Some, refl, sym, ap, subst, ◌∙◌}
+use Rattle.std.specs.Prelude.{flat_map}
+use Rattle.std.specs.List.{AllZip}
+use Rattle.std.proofs.lemmas.List.{append-nil, map-append, flat_map_more}
+use Rattle.std.proofs.lemmas.Grind.{flat_map-append}
+use Rattle.std.proofs.lemmas.List.Concat.{flat_map-cons}
+use Rattle.std.proofs.lemmas.Option.{get_or_from_slice_get}
+use Rattle.facet_names.specs.Labels.{GoesOn, IsLabelList}
+use Rattle.facet_model.specs.Documents.{Doc}
+use Rattle.facet_model.specs.Flags.{Config}
+use Rattle.facet_model.specs.Histories.{knows}
+use Rattle.facet_model.specs.Stored.{Stored, Records, AreLabelsAt, IsRecordOf, IsSegmentOf, Decodes}
+use Rattle.facet_model.proofs.Fronts.{knows_its_labels}
+use Rattle.facet_config.proofs.Staying.{counted_stay, known_stay}
+use Rattle.seg_terms.specs.Entries.{stored_of}
+use Rattle.seg_terms.specs.declared.entry.Entry.{Entry}
+use Rattle.seg_decoding.specs.Decoding.{doc_in, records_in, docs_in, segment_of, flushed}
+use Rattle.seg_decoding.specs.Entries.{AreEntries, docs_of}
+use Rattle.seg_decoding.proofs.Ordinals.{all_stay, all_zip_push, known_at}
+
+abbrev Labels : Type 0
+Labels = List (List (List ℕ))
+
+-- ---- lists side by side
+
+all_zip_map : {A B : Type 0} (R S : A → B → Type 0) → ((x : A) (y : B) → R x y → S x y) → (xs : List A) (ys : List B) → AllZip R xs ys → AllZip S xs ys
+all_zip_map R S so [] [] all = tt
+all_zip_map R S so [] (y ∷ ys) all = absurd all
+all_zip_map R S so (x ∷ xs) [] all = absurd all
+all_zip_map R S so (x ∷ xs) (y ∷ ys) all = (so x y all.0, all_zip_map R S so xs ys all.1)
+
+pub all_zip_is : {A B : Type 0} (R : A → B → Type 0) (f : A → B) → ((x : A) (y : B) → R x y → f x ≡ y) → (xs : List A) (ys : List B) → AllZip R xs ys → map f xs ≡ ys
+all_zip_is R f so [] [] all = refl
+all_zip_is R f so [] (y ∷ ys) all = absurd all
+all_zip_is R f so (x ∷ xs) [] all = absurd all
+all_zip_is R f so (x ∷ xs) (y ∷ ys) all = λ i. so x y all.0 i ∷ all_zip_is R f so xs ys all.1 i
+
+-- ---- a record is its document's
+
+pub labels_at : (known : Labels) (leaves : List ℕ) (labels : Labels) → AreLabelsAt known leaves labels → map (λ leaf. get_or known leaf []) leaves ≡ labels
+labels_at known [] [] at = refl
+labels_at known [] (l ∷ ls) at = absurd cc
+labels_at known (o ∷ os) [] at = absurd cc
+labels_at known (o ∷ os) (l ∷ ls) at =
+    let head : slice_get known o ≡ Some l = cc in
+    let tail : map (slice_get known) os ≡ map Some ls = cc in
+    let here : get_or known o [] ≡ l = get_or_from_slice_get known o l [] head in
+    λ i. here i ∷ labels_at known os ls tail i
+
+pub record_is : (known : Labels) (config : Config) (r : Stored) (doc : Doc) → IsRecordOf known config r doc → doc_in known r ≡ doc
+record_is known config r doc is = λ i. record { id = is.id i; text = is.text i; labels = labels_at known r.leaves doc.labels is.labels i }
+
+pub record_known : (known : Labels) (config : Config) (r : Stored) (doc : Doc) → IsLabelList known → IsRecordOf known config r doc → knows known doc ≡ true
+record_known known config r doc list is = knows_its_labels known list doc (known_at known r.leaves doc.labels is.labels)
+
+-- ---- labels that go on
+
+module _ (config : Config) (a b : Labels) (list_a : IsLabelList a) (list_b : IsLabelList b) (on : GoesOn a b) where
+  pub record_stays : (r : Stored) (doc : Doc) → IsRecordOf a config r doc → IsRecordOf b config r doc
+  record_stays r doc is = record {
+    id = is.id;
+    text = is.text;
+    labels = all_stay a b on r.leaves doc.labels is.labels;
+    accepted = is.accepted;
+    counted = is.counted ∙ sym (counted_stay a b list_a list_b on config doc.labels (record_known a config r doc list_a is));
+  }
+
+  pub segment_stays : (s : Records) (piece : List Doc) → IsSegmentOf a config s piece → IsSegmentOf b config s piece
+  segment_stays s piece is = record {
+    records = all_zip_map (IsRecordOf a config) (IsRecordOf b config) record_stays s.records piece is.records;
+    terms = is.terms;
+  }
+
+  pub decodes_stay : (segments : List Records) (docs : List Doc) → Decodes a config segments docs → Decodes b config segments docs
+  decodes_stay segments docs d = (d.0, all_zip_map (IsSegmentOf a config) (IsSegmentOf b config) segment_stays segments d.0 d.1, d.2)
+
+  pub entries_stay : (entries : List Entry) → AreEntries config a entries → AreEntries config b entries
+  entries_stay [] are = tt
+  entries_stay (e ∷ es) are = (
+    record { known = known_stay a b on e.doc.labels are.0.known; stored = record_stays (stored_of e) e.doc are.0.stored },
+    entries_stay es are.1,
+  )
+
+-- ---- the documents of segments
+
+pieces_are : (known : Labels) (config : Config) (segments : List Records) (pieces : List (List Doc)) → AllZip (IsSegmentOf known config) segments pieces → docs_in known segments ≡ flat_map (λ p. p) pieces
+pieces_are known config [] [] all = refl
+pieces_are known config [] (p ∷ ps) all = absurd all
+pieces_are known config (s ∷ ss) [] all = absurd all
+pieces_are known config (s ∷ ss) (p ∷ ps) all =
+    let one : map (doc_in known) s.records ≡ p = all_zip_is (IsRecordOf known config) (doc_in known) (record_is known config) s.records p all.0.records in
+    ap (map (doc_in known)) (flat_map-cons (λ (x : Records). x.records) s ss) ∙ map-append (doc_in known) s.records (records_in ss) ∙ (λ i. one i ++ pieces_are known config ss ps all.1 i) ∙ sym (flat_map-cons (λ (x : List Doc). x) p ps)
+
+-- the documents are determined
+pub decoded : (known : Labels) (config : Config) (segments : List Records) (docs : List Doc) → Decodes known config segments docs → docs_in known segments ≡ docs
+decoded known config segments docs d = pieces_are known config segments d.0 d.1 ∙ sym d.2
+
+-- ---- one segment more
+
+entries_zip : (config : Config) (labels : Labels) (entries : List Entry) → AreEntries config labels entries → AllZip (IsRecordOf labels config) (map stored_of entries) (docs_of entries)
+entries_zip config labels [] are = tt
+entries_zip config labels (e ∷ es) are = (are.0.stored, entries_zip config labels es are.1)
+
+-- one segment more decodes
+pub decodes_push : (known : Labels) (config : Config) (segments : List Records) (docs : List Doc) (s : Records) (piece : List Doc) → Decodes known config segments docs → IsSegmentOf known config s piece → Decodes known config (segments ++ s ∷ []) (docs ++ piece)
+decodes_push known config segments docs s piece d one = (
+  d.0 ++ piece ∷ [],
+  all_zip_push (IsSegmentOf known config) segments d.0 s piece d.1 one,
+  ap (λ (ds : List Doc). ds ++ piece) d.2 ∙ flat_map_more (λ (x : List Doc). x) [] d.0 piece,
+)
+
+-- the documents of one segment more come behind the others
+pub docs_push : (known : Labels) (segments : List Records) (s : Records) → docs_in known (segments ++ s ∷ []) ≡ docs_in known segments ++ map (doc_in known) s.records
+docs_push known segments s =
+    let own : records_in (s ∷ []) ≡ s.records = flat_map-cons (λ (x : Records). x.records) s [] ∙ append-nil s.records in
+    ap (map (doc_in known)) (flat_map-append (λ (x : Records). x.records) segments (s ∷ []) ∙ ap (λ (rs : List Stored). records_in segments ++ rs) own) ∙ map-append (doc_in known) (records_in segments) s.records
+
+-- the entries become a segment
+pub flushed_decodes : (config : Config) (known : Labels) (segments : List Records) (docs : List Doc) (entries : List Entry) → Decodes known config segments docs → AreEntries config known entries → Decodes known config (flushed segments entries) (docs ++ docs_of entries)
+flushed_decodes config known segments docs [] d are = subst (Decodes known config segments) (sym (append-nil docs)) d
+flushed_decodes config known segments docs (e ∷ es) d are =
+    decodes_push known config segments docs (segment_of (e ∷ es)) (docs_of (e ∷ es)) d (record { records = entries_zip config known (e ∷ es) are; terms = refl })

@@ -1,0 +1,14 @@
+pub mod Ordinals
+pub mod Decoded
+pub mod Stored
+pub mod Differences
+pub mod Fitting
+pub mod Few
+pub mod Shapes
+pub mod Prefixes
+pub mod RecordSizes
+pub mod Opened
+pub mod Again
+pub mod Longer
+pub mod Telling
+pub mod Compared

@@ -1,0 +1,52 @@
+use Rattle.std.proofs.Common.{List, ◌≡◌, ◌∙◌, map, sym, ap}
+use Rattle.std.proofs.lemmas.Result.{err_from_is_err_and}
+use Rattle.facet_model.specs.Terms.{terms_of}
+use Rattle.seg_terms.specs.Entries.{stored_of}
+use Rattle.seg_terms.specs.declared.entry.Entry.{Entry}
+use Rattle.seg_decoding.specs.Entries.{docs_of}
+use Rattle.seg_decoding.specs.Opening.{opened, documents_fit, rebuilt, first_difference, stored_segment}
+use Rattle.seg_decoding.proofs.Compared.{number_is, stored_unread, stored_unfit, differs, agrees, decodes, leaves_low}
+use Rattle.seg_decoding.proofs.Telling.{fails_on}
+use Rattle.seg_decoding.proofs.opening.open_stored.Goals as goal
+
+pub returns-in_err-segment-clause-err : goal.returns-in_err-segment-clause-err
+returns-in_err-segment-clause-err c =
+    let p = err_from_is_err_and c.from_residual.result c.from_residual.ensures.1 in
+    rw (p.1, p.2) (fails_on c.in_err-segment.field-0.0 (opened c.args.documents c.args.bytes.items) (stored_segment c.args.config.now c.args.labels.now c.args.needs c.args.documents c.args.bytes.items)
+    (λ e h. stored_unread c.args.config.now c.args.labels.now c.args.needs c.args.documents c.args.bytes.items e h) c.in_err-segment.ensures.read)
+
+pub returns-in_err-entries-clause-err : goal.returns-in_err-entries-clause-err
+returns-in_err-entries-clause-err c =
+    let p = err_from_is_err_and c.from_residual-in_err-entries.result c.from_residual-in_err-entries.ensures.1 in
+    rw (p.1, p.2) (fails_on c.in_err-entries.field-0.0 (documents_fit c.args.config.now c.args.labels.now c.args.needs 12 c.in_ok-segment.segment.records) (stored_segment c.args.config.now c.args.labels.now c.args.needs c.args.documents c.args.bytes.items)
+    (λ e h. stored_unfit c.args.config.now c.args.labels.now c.args.needs c.args.documents c.args.bytes.items c.in_ok-segment.segment c.in_ok-segment.ensures.read e h) c.in_err-entries.ensures.fits)
+
+pub returns-in-Some-clause-err : goal.returns-in-Some-clause-err
+returns-in-Some-clause-err c =
+    let known = c.args.labels.now in
+    let built : c.in_ok-rebuilt.rebuilt ≡ rebuilt c.args.config.now known c.in_ok-segment.segment.records = c.in_ok-rebuilt.ensures
+    ∙ ap (λ (es : List Entry). record { records = map stored_of es; terms = terms_of (docs_of es) }) c.deref.ensures.value ∙ (λ i. record { records = c.in_ok-entries.ensures.stored i; terms = terms_of (c.in_ok-entries.ensures.docs i) }) in
+    differs c.args.config.now known c.args.needs c.args.documents c.args.bytes.items c.in_ok-segment.segment c.in_ok-segment.ensures.read c.in_ok-rebuilt.rebuilt c.in_ok-segment.ensures.found c.in_ok-entries.ensures.fits built c.docs.ensures.is c.in-Some.at
+    ((λ i. first_difference (sym c.bytes.ensures i) (sym c.bytes-2.ensures i)) ∙ sym c.in-Some.ensures)
+
+pub returns-in-None-clause-ok : goal.returns-in-None-clause-ok
+returns-in-None-clause-ok c =
+    let known = c.args.labels.now in
+    let built : c.in_ok-rebuilt.rebuilt ≡ rebuilt c.args.config.now known c.in_ok-segment.segment.records = c.in_ok-rebuilt.ensures
+    ∙ ap (λ (es : List Entry). record { records = map stored_of es; terms = terms_of (docs_of es) }) c.deref.ensures.value ∙ (λ i. record { records = c.in_ok-entries.ensures.stored i; terms = terms_of (c.in_ok-entries.ensures.docs i) }) in
+    agrees c.args.config.now known c.args.needs c.args.documents c.args.bytes.items c.in_ok-segment.segment c.in_ok-segment.ensures.read c.in_ok-rebuilt.rebuilt c.in_ok-segment.ensures.found c.in_ok-entries.ensures.fits built c.docs.ensures.is
+    ((λ i. first_difference (sym c.bytes.ensures i) (sym c.bytes-2.ensures i)) ∙ sym c.in-None.ensures)
+
+pub returns-in-None-clause-decodes : goal.returns-in-None-clause-decodes
+returns-in-None-clause-decodes c =
+    let known = c.args.labels.now in
+    let built : c.in_ok-rebuilt.rebuilt ≡ rebuilt c.args.config.now known c.in_ok-segment.segment.records = c.in_ok-rebuilt.ensures
+    ∙ ap (λ (es : List Entry). record { records = map stored_of es; terms = terms_of (docs_of es) }) c.deref.ensures.value ∙ (λ i. record { records = c.in_ok-entries.ensures.stored i; terms = terms_of (c.in_ok-entries.ensures.docs i) }) in
+    decodes c.args.config.now known c.args.needs c.args.documents c.args.bytes.items c.in_ok-segment.segment c.in_ok-segment.ensures.read c.in_ok-rebuilt.rebuilt c.in_ok-segment.ensures.found c.in_ok-entries.ensures.fits built c.docs.ensures.is
+    ((λ i. first_difference (sym c.bytes.ensures i) (sym c.bytes-2.ensures i)) ∙ sym c.in-None.ensures) c.requires
+
+pub returns-in-None-clause-leaves : goal.returns-in-None-clause-leaves
+returns-in-None-clause-leaves c = leaves_low c.args.config.now c.args.labels.now c.args.needs c.in_ok-segment.segment.records c.in_ok-entries.ensures.fits
+
+pub returns-in-None-clause-number : goal.returns-in-None-clause-number
+returns-in-None-clause-number c = number_is c.args.documents c.args.bytes.items c.in_ok-segment.segment c.in_ok-segment.ensures.found c.in_ok-segment.ensures.read

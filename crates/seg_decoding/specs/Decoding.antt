@@ -1,0 +1,33 @@
+-- The documents that segments stand for, under a list of labels.
+use Rattle.std.specs.Prelude.{ℕ, List, [], ◌∷◌, ◌++◌, map, flat_map, slice_index_or}
+use Rattle.facet_model.specs.Documents.{Doc}
+use Rattle.facet_model.specs.Stored.{Stored, Records}
+use Rattle.facet_model.specs.Terms.{terms_of}
+use Rattle.seg_terms.specs.Entries.{stored_of}
+use Rattle.seg_terms.specs.declared.entry.Entry.{Entry}
+use Rattle.seg_decoding.specs.Entries.{docs_of}
+
+-- the document of a record: its labels are those at the leaves
+abbrev pub doc_in : List (List (List ℕ)) → Stored → Doc
+doc_in known r = record { id = r.id; text = r.text; labels = map (λ leaf. slice_index_or known leaf []) r.leaves }
+
+-- all records, in order
+abbrev pub records_in : List Records → List Stored
+records_in segments = flat_map (λ s. s.records) segments
+
+-- the record at a place, which is there
+abbrev pub record_at : List Records → ℕ → Stored
+record_at segments at = slice_index_or (records_in segments) at (record { id = []; text = []; leaves = []; counted = [] })
+
+-- the documents of all records, in order
+abbrev pub docs_in : List (List (List ℕ)) → List Records → List Doc
+docs_in known segments = map (doc_in known) (records_in segments)
+
+-- the segment of these entries
+abbrev pub segment_of : List Entry → Records
+segment_of entries = record { records = map stored_of entries; terms = terms_of (docs_of entries) }
+
+-- the segments with one more, of these entries, if there are any
+abbrev pub flushed : List Records → List Entry → List Records
+flushed segments [] = segments
+flushed segments (e ∷ es) = segments ++ segment_of (e ∷ es) ∷ []

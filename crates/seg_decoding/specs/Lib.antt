@@ -1,0 +1,5 @@
+pub mod Entries
+pub mod Decoding
+pub mod Opening
+pub mod Answers
+pub mod Laws

@@ -1,0 +1,19 @@
+ghost use Rattle.std.specs.Prelude.{◌≡◌};
+ghost use Rattle.seg_decoding.specs.Opening.{first_difference};
+
+/// The first place where two lists of bytes differ; where one is longer, its first byte more.
+pub(crate) fn first_difference(left: &[u8], right: &[u8]) -> Option<u64>
+    ensures { result ≡ first_difference left.now right.now }
+{
+    let common = left.len().min(right.len());
+    for at in 0..common {
+        if left[at] != right[at] {
+            return Some(at as u64);
+        }
+    }
+    if left.len() == right.len() {
+        None
+    } else {
+        Some(common as u64)
+    }
+}

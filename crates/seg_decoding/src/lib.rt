@@ -1,0 +1,16 @@
+//! What documents stored segments stand for, and opening a segment that was stored: it is answered exactly where its bytes are what is written for its
+//! documents.
+#![tactic(auto)]
+
+mod difference;
+mod entries;
+mod fault;
+pub mod laws;
+mod opening;
+mod resolving;
+mod sizes;
+#[cfg(test)]
+mod tests;
+
+pub use fault::StoredFault;
+pub use opening::open_stored;

@@ -1,0 +1,91 @@
+ghost use Rattle.std.specs.Prelude.{◌≡◌, ◌≤◌, ◌<◌, Ok, All, IfOk, IfErr, length, map};
+ghost use Rattle.facet_model.specs.Stored.{IsSegmentOf};
+ghost use Rattle.seg_grammar.specs.Spelling.{IsSegment, seg_bytes};
+ghost use Rattle.seg_decoding.specs.Answers.{Fails, Gives, IsLeaf};
+ghost use Rattle.seg_decoding.specs.Decoding.{doc_in};
+ghost use Rattle.seg_decoding.specs.Opening.{head_fits, opened, stored_segment};
+
+use crate::difference::first_difference;
+use crate::entries::entries_of;
+use crate::fault::StoredFault;
+use facet_codec::Cursor;
+use facet_config::FacetsConfig;
+use seg_file::Segment;
+use std::alloc::Global;
+use taxo_list::Taxonomy;
+
+// The first bytes are those of a segment that has so many documents.
+fn check_head(bytes: &[u8], documents: u32) -> Result<(), StoredFault>
+    ensures { Gives (λ _. tt) result (head_fits documents bytes.now) }
+{
+    let mut cursor = Cursor::new(bytes);
+    match cursor.u32() {
+        Ok(magic) => {
+            if magic != 0x4653_4547 {
+                return Err(StoredFault::Malformed { at: 0 });
+            }
+        }
+        Err(_) => return Err(StoredFault::Malformed { at: 0 }),
+    }
+    let version = cursor.u32()?;
+    if version != 1 {
+        return Err(StoredFault::Malformed { at: 4 });
+    }
+    let number = cursor.u32()?;
+    if number != documents {
+        return Err(StoredFault::Malformed { at: 8 });
+    }
+    Ok(())
+}
+
+// The segment that the bytes are, if it has so many documents.
+#[tactic(auto, unfolding(crate::specs::Opening::opened))]
+fn opened(alloc: Global, documents: u32, bytes: Vec<u8>) -> Result<Segment, StoredFault>
+    ensures read { Gives (λ s. s) result (opened documents bytes.items) }
+    ensures found { IfOk result (λ s. IsSegment bytes.items s) }
+{
+    check_head(&bytes, documents)?;
+    let segment = Segment::open(alloc, bytes)?;
+    Ok(segment)
+}
+
+/// Opens a segment of 1 to 1,000,000 documents that was stored, under a list of labels of which it needs the first `needs`. It is answered exactly where
+/// the bytes are what is written for its documents: the leaves are ordinals of labels, the config accepts each document, and the ordinals that are
+/// counted and the terms are those of the documents.
+///
+/// Else the place of the first fault is told. The number of documents is looked at before all that stands behind it, then the form of the bytes, then
+/// each document: a leaf that is none of the labels is told where it stands, a document that is not accepted where it begins. In the end each byte is
+/// compared. Beside a refused allocation it answers that there is no memory where the documents have 2^32 terms or more.
+///
+/// It makes the documents and the segment anew, so it takes the time and memory of adding them all and building the segment once more. Of that it keeps
+/// only the given bytes and their index, 16 bytes a document and 8 a term.
+pub fn open_stored(
+    alloc: Global,
+    config: &FacetsConfig,
+    labels: &Taxonomy,
+    needs: u32,
+    documents: u32,
+    bytes: Vec<u8>,
+) -> Result<Segment, StoredFault>
+    requires { needs ≤ length labels.now }
+    ensures ok { IfOk result (λ s. stored_segment config.now labels.now needs documents bytes.items ≡ Ok s) }
+    ensures err { IfErr result (λ e. Fails e (stored_segment config.now labels.now needs documents bytes.items)) }
+    ensures bytes { IfOk result (λ s. seg_bytes s ≡ bytes.items) }
+    ensures decodes { IfOk result (λ s. IsSegmentOf labels.now config.now s (map (doc_in labels.now) s.records)) }
+    ensures leaves { IfOk result (λ s. All (λ r. All (IsLeaf needs) r.leaves) s.records) }
+    ensures number { IfOk result (λ s. length s.records ≡ documents) }
+    ensures some { IfOk result (λ s. 0 < length s.records) }
+    ensures few { IfOk result (λ s. length s.records ≤ 1000000) }
+{
+    // Its clause says that these are a label list.
+    let _ = labels.size();
+    let segment = opened(alloc, documents, bytes)?;
+    let entries = entries_of(alloc, config, labels, needs, &segment)?;
+    let rebuilt = Segment::build(alloc, &entries)?;
+    // Its clause says that its bytes are a segment.
+    let _ = rebuilt.docs();
+    match first_difference(segment.bytes(), rebuilt.bytes()) {
+        Some(at) => Err(StoredFault::Malformed { at }),
+        None => Ok(segment),
+    }
+}

@@ -1,0 +1,43 @@
+//! The ordinals of labels that stand in a list of labels.
+ghost use Rattle.std.specs.Prelude.{◌≡◌, ◌<◌, ◌≤◌, Some, IsTrue, All, IfOk, OnOk, length, map, slice_get};
+ghost use Rattle.std.specs.List.{list_all};
+ghost use Rattle.facet_names.specs.Labels.{prefixes, stands};
+ghost use Rattle.facet_model.specs.CountedPaths.{AreResolved};
+
+use facet_model::Resolved;
+use facet_names::{NoMemory, Path};
+use std::alloc::Global;
+use taxo_list::Taxonomy;
+
+// The ordinals of a path's prefixes, the dimension's first.
+fn resolve(alloc: Global, labels: &Taxonomy, path: &Path) -> Result<Resolved, NoMemory>
+    requires { IsTrue (list_all (stands labels.now) (prefixes path.now)) }
+    ensures ordinals { IfOk result (λ r. map (slice_get labels.now) r ≡ map Some (prefixes path.now)) }
+    ensures short { (0 < length path.now) × (length path.now ≤ 32) }
+{
+    let mut ords = Vec::with_capacity(alloc, path.len())?;
+    for n in 0..path.len() {
+        let prefix = path.front(alloc, n + 1)?;
+        let ord = labels.find(&prefix).unwrap();
+        ords.push(ord)?;
+    }
+    Ok(Resolved::new(ords))
+}
+
+/// The ordinals of the prefixes of each path.
+pub(crate) fn resolve_all(
+    alloc: Global,
+    labels: &Taxonomy,
+    paths: &[Path],
+) -> Result<Vec<Resolved>, NoMemory>
+    requires { IsTrue (list_all (λ path. list_all (stands labels.now) (prefixes path)) paths.now) }
+    ensures ordinals { IfOk result (λ v. AreResolved labels.now paths.now v.items) }
+    ensures short { OnOk result (All (λ path. (0 < length path) × (length path ≤ 32)) paths.now) }
+{
+    let mut resolved = Vec::with_capacity(alloc, paths.len())?;
+    for path in paths {
+        let ordinals = resolve(alloc, labels, path)?;
+        resolved.push(ordinals)?;
+    }
+    Ok(resolved)
+}
