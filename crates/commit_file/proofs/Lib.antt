@@ -1,0 +1,7 @@
+pub mod Each
+pub mod Rising
+pub mod Ordering
+pub mod Puts
+pub mod Digests
+pub mod Again
+pub mod Found

@@ -1,0 +1,4 @@
+pub mod Commits
+pub mod Spelling
+pub mod Reading
+pub mod Limits

@@ -1,0 +1,252 @@
+ghost use Rattle.std.specs.Prelude.{◌≡◌, ◌≢◌, ◌+◌, ◌<◌, ◌≤◌, ◌^◌, ◌++◌, ◌∷◌, [], ℕ, List, Ok, Err, None, true, length, map, IfOk, OnOk, IfErr};
+ghost use Rattle.commit_file.specs.declared.fault.FileFault.TheVariants.{NoMemory as Memory};
+ghost use Rattle.std.specs.Ordering.{is_lt};
+ghost use Rattle.std.specs.List.{AllByRecursion, sum_by};
+ghost use Rattle.facet_model.specs.Words.{word_cmp};
+ghost use Rattle.facet_config.specs.Faults.{declare_fault};
+ghost use Rattle.commit_file.specs.Commits.{index_listing, declaration, documents_of, documents_listed, kept_of};
+ghost use Rattle.commit_file.specs.Limits.{IsDocumentPart, IsDeclaration};
+ghost use Rattle.commit_file.specs.Spelling.{index_commit_bytes};
+ghost use Rattle.commit_file.specs.Reading.{Reads, Gives, flags_of, flags_at, dim_at, declaration_at, declarations_at, documents_at, document_part_at, document_parts_at, index_at, index_commit};
+
+use crate::digest::{body, seal};
+use crate::fault::FileFault;
+use crate::kept::{Declaration, kept};
+use crate::reading::{digest, head, some};
+use crate::writing::{put_declarations, put_documents, put_head};
+use facet_codec::{Cursor, put_u32, put_vint};
+use facet_config::{DeclareFault, FacetsConfig};
+use facet_model::DimFlags;
+use facet_names::NoMemory;
+use std::alloc::Global;
+
+/// A segment of documents: its number, how many documents it has, and the digest of its bytes.
+#[derive(Clone, Copy, Debug, PartialEq, Eq)]
+pub struct DocumentPart {
+    pub number: u64,
+    pub documents: u32,
+    pub digest: [u8; 32],
+}
+
+/// What a commit of the index says: how many labels its documents need, the declarations that are kept, and the segments of documents.
+#[derive(Drop)]
+pub struct IndexCommit {
+    pub needs: u32,
+    pub kept: FacetsConfig,
+    pub parts: Vec<DocumentPart>,
+}
+
+const MAGIC: u32 = 0x4649_434d;
+
+// The flags that a number tells.
+fn flags_of(n: u8) -> DimFlags
+    ensures { result ≡ flags_of n }
+{
+    DimFlags {
+        hierarchical: n % 2 == 1,
+        multi_valued: n / 2 % 2 == 1,
+        require_dim_count: n >= 4,
+    }
+}
+
+// Flags in one byte, of which one is set.
+#[tactic(auto, unfolding(crate::specs::Reading::flags_at))]
+fn flags(cursor: &mut Cursor<'_>) -> Result<DimFlags, FileFault>
+    ensures { Reads (λ x. x) result cursor.new (flags_at cursor.old) }
+{
+    let at = cursor.at() as u64;
+    let n = cursor.u8()?;
+    if n == 0 || n > 7 {
+        return Err(FileFault::Malformed { at });
+    }
+    Ok(flags_of(n))
+}
+
+// A dimension, which comes after the one before it.
+#[tactic(auto, unfolding(crate::specs::Reading::dim_at))]
+fn dim<'a>(cursor: &mut Cursor<'a>, before: &str) -> Result<&'a str, FileFault>
+    ensures read { Reads (λ x. x.now) result cursor.new (dim_at before.now cursor.old) }
+    ensures short { IfOk result (λ x. length x.now ≤ 1024) }
+    ensures after { IfOk result (λ x. is_lt (word_cmp before.now x.now) ≡ true) }
+{
+    cursor.bounds();
+    let at = cursor.at() as u64;
+    let dim = cursor.text(1024)?;
+    if before >= dim {
+        return Err(FileFault::Malformed { at });
+    }
+    Ok(dim)
+}
+
+// A declaration, whose dimension comes after the one before it.
+#[tactic(auto, unfolding(crate::specs::Reading::declaration_at))]
+fn declaration<'a>(cursor: &mut Cursor<'a>, before: &str) -> Result<Declaration<'a>, FileFault>
+    ensures read { Reads declaration result cursor.new (declaration_at before.now cursor.old) }
+    ensures short { IfOk result (λ d. length d.dim.now ≤ 1024) }
+    ensures after { IfOk result (λ d. is_lt (word_cmp before.now d.dim.now) ≡ true) }
+{
+    let dim = dim(cursor, before)?;
+    let flags = flags(cursor)?;
+    Ok(Declaration { dim, flags })
+}
+
+// Keeps one more declaration.
+fn keep(kept: &mut FacetsConfig, one: Declaration<'_>) -> Result<(), FileFault>
+    requires { declare_fault kept.old one.dim.now ≡ None }
+    ensures ok { OnOk result (kept.new ≡ kept.old ++ declaration one.entry ∷ []) }
+    ensures err { IfErr result (λ e. e ≡ Memory) }
+{
+    match kept.declare(one.dim, one.flags) {
+        Ok(()) => Ok(()),
+        Err(DeclareFault::NoMemory) => Err(FileFault::NoMemory),
+        Err(DeclareFault::BadName { .. } | DeclareFault::Twice) => unreachable!(),
+    }
+}
+
+// So many declarations.
+fn declarations(alloc: Global, cursor: &mut Cursor<'_>, n: u32) -> Result<FacetsConfig, FileFault>
+    ensures { Reads (λ c. c) result cursor.new (declarations_at n cursor.old) }
+{
+    let mut kept = FacetsConfig::new(alloc);
+    let mut before = "";
+    for _ in 0..n {
+        let next = declaration(cursor, before)?;
+        before = next.dim;
+        keep(&mut kept, next)?;
+    }
+    Ok(kept)
+}
+
+// How many documents a segment has that stands behind so many documents.
+#[tactic(auto, unfolding(crate::specs::Reading::documents_at))]
+fn documents(cursor: &mut Cursor<'_>, before: u64) -> Result<u32, FileFault>
+    requires { before ≤ 1000000 }
+    ensures read { Reads (λ x. x) result cursor.new (documents_at before cursor.old) }
+    ensures few { IfOk result (λ n. before + n ≤ 1000000) }
+{
+    let at = cursor.at() as u64;
+    let n = cursor.u32()?;
+    if before + n as u64 > 1_000_000 {
+        return Err(FileFault::Malformed { at });
+    }
+    Ok(n)
+}
+
+// A segment of documents that stands behind so many documents.
+#[tactic(auto, unfolding(crate::specs::Reading::document_part_at))]
+fn document_part(cursor: &mut Cursor<'_>, before: u64) -> Result<DocumentPart, FileFault>
+    requires { before ≤ 1000000 }
+    ensures read { Reads (λ x. x) result cursor.new (document_part_at before cursor.old) }
+    ensures few { IfOk result (λ part. before + part.documents ≤ 1000000) }
+{
+    let number = cursor.u64()?;
+    let documents = documents(cursor, before)?;
+    let digest = digest(cursor)?;
+    Ok(DocumentPart {
+        number,
+        documents,
+        digest,
+    })
+}
+
+// So many segments of documents.
+fn document_parts(
+    alloc: Global,
+    cursor: &mut Cursor<'_>,
+    n: u32,
+) -> Result<Vec<DocumentPart>, FileFault>
+    ensures { Reads (λ v. v.items) result cursor.new (document_parts_at n cursor.old) }
+{
+    let mut parts = Vec::new(alloc);
+    let mut before: u64 = 0;
+    for _ in 0..n {
+        let part = document_part(cursor, before)?;
+        before += part.documents as u64;
+        parts.push(part)?;
+    }
+    Ok(parts)
+}
+
+// What stands before the digest.
+#[tactic(auto, unfolding(crate::specs::Reading::index_at))]
+fn index(alloc: Global, wanted: u64, body: &[u8]) -> Result<IndexCommit, FileFault>
+    ensures { Gives index_listing result (index_at wanted body.now) }
+{
+    let mut cursor = Cursor::new(body);
+    head(&mut cursor, MAGIC, wanted)?;
+    let needs = cursor.u32()?;
+    let n = cursor.vint()?;
+    let kept = declarations(alloc, &mut cursor, n)?;
+    let n = some(&mut cursor)?;
+    let parts = document_parts(alloc, &mut cursor, n)?;
+    if cursor.rest() > 0 {
+        return Err(FileFault::Malformed {
+            at: cursor.at() as u64,
+        });
+    }
+    Ok(IndexCommit { needs, kept, parts })
+}
+
+/// The commit of the index that the bytes of a file with this number are, or the first fault. The digest is looked at before the rest, and the rest from
+/// left to right. It takes memory for the declarations and segments that it has met, and goes over the bytes twice.
+#[tactic(auto, unfolding(crate::specs::Reading::index_commit))]
+pub fn read_index_commit(alloc: Global, number: u64, bytes: &[u8]) -> Result<IndexCommit, FileFault>
+    ensures ok { IfOk result (λ c. index_commit number bytes.now ≡ Ok (index_listing c)) }
+    ensures err { IfErr result (λ e. e ≢ Memory → index_commit number bytes.now ≡ Err e) }
+{
+    let body = body(bytes)?;
+    index(alloc, number, body)
+}
+
+#[tactic(auto, unfolding(crate::specs::Spelling::index_bytes))]
+fn write(
+    alloc: Global,
+    number: u64,
+    needs: u32,
+    kept: &[Declaration<'_>],
+    parts: &[DocumentPart],
+) -> Result<Vec<u8>, facet_codec::NoMemory>
+    requires kept { length kept.now < 2 ^ 32 }
+    requires parts { length parts.now < 2 ^ 32 }
+    ensures bytes { IfOk result (λ v. v.items ≡ index_commit_bytes number (documents_listed needs (map declaration kept.now) parts.now)) }
+    ensures declarations { IfOk result (λ _. AllByRecursion IsDeclaration (map declaration kept.now)) }
+    ensures documents { IfOk result (λ _. AllByRecursion IsDocumentPart parts.now) }
+{
+    let mut out = Vec::new(alloc);
+    put_head(&mut out, MAGIC, number)?;
+    put_u32(&mut out, needs)?;
+    put_vint(&mut out, kept.len() as u32)?;
+    put_declarations(&mut out, kept)?;
+    put_u32(&mut out, parts.len() as u32)?;
+    put_documents(&mut out, parts)?;
+    seal(&mut out)?;
+    Ok(out)
+}
+
+/// The bytes of a commit of the index with this number. It sorts the declarations, goes over the segments once, and takes memory for both and for the
+/// bytes. A declaration of which no flag is set is left out.
+///
+/// Beside a refused allocation, there is no memory for 2^32 declarations or more.
+pub fn write_index_commit(
+    alloc: Global,
+    number: u64,
+    needs: u32,
+    config: &FacetsConfig,
+    parts: &[DocumentPart],
+) -> Result<Vec<u8>, NoMemory>
+    requires number { 0 < number }
+    requires some { 0 < length parts.now }
+    requires few { length parts.now < 2 ^ 32 }
+    requires documents { sum_by documents_of parts.now ≤ 1000000 }
+    ensures bytes { IfOk result (λ v. v.items ≡ index_commit_bytes number (documents_listed needs (kept_of config.now) parts.now)) }
+    ensures again { IfOk result (λ v. index_commit number v.items ≡ Ok (documents_listed needs (kept_of config.now) parts.now)) }
+{
+    let kept = kept(alloc, config)?;
+    if kept.len() > u32::MAX as usize {
+        return Err(NoMemory);
+    }
+    match write(alloc, number, needs, &kept, parts) {
+        Ok(bytes) => Ok(bytes),
+        Err(_) => Err(NoMemory),
+    }
+}

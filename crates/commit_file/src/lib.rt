@@ -1,0 +1,21 @@
+//! The commit files of a store, format 1. A commit of the taxonomy names its segments of labels, and one of the index its segments of documents and
+//! the declarations that they were made under.
+//!
+//! Numbers have their highest byte first, and the last 32 bytes of a file are the SHA-256 of those before them. A commit has exactly one spelling.
+#![tactic(auto)]
+
+mod digest;
+mod fault;
+mod index;
+mod kept;
+pub mod laws;
+mod reading;
+mod taxonomy;
+#[cfg(test)]
+mod tests;
+mod writing;
+
+pub use digest::{check_digest, digest_of};
+pub use fault::FileFault;
+pub use index::{DocumentPart, IndexCommit, read_index_commit, write_index_commit};
+pub use taxonomy::{LabelPart, TaxonomyCommit, read_taxonomy_commit, write_taxonomy_commit};

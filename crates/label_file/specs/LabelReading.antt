@@ -1,0 +1,82 @@
+-- Reading the labels of a taxonomy segment from left to right. A fault is told by its place.
+use Rattle.std.specs.Prelude.{◌≡◌, ℕ, zero, suc, ◌||◌, List, [], ◌∷◌, ◌++◌, length, Option, Some, None, is_some, slice_get, option_and_then, Result, Ok, Err, ◌==◌, if◌then◌else◌}
+use Rattle.std.specs.Option.{option_map}
+use Rattle.facet_names.specs.Faults.{path_fault}
+use Rattle.facet_names.specs.Labels.{stands}
+use Rattle.facet_codec.specs.declared.fault.CodecFault.{CodecFault}
+use Rattle.facet_codec.specs.Places.{Place}
+use Rattle.facet_codec.specs.Faults.{fault_at, told_as}
+use Rattle.facet_codec.specs.Reading.{◌>>=◌, u32_at, text_at}
+use Rattle.label_file.specs.declared.fault.LabelsFault.{LabelsFault}
+use Rattle.label_file.specs.declared.fault.LabelsFault.TheVariants.{Malformed, NoMemory}
+
+-- ---- what a call answers
+
+-- Unless memory ran out, the fault is the one that reading meets.
+abbrev pub Fails : {Y : Type 0} → LabelsFault → Result Y ℕ → Type 0
+Fails (Malformed at) read = read ≡ Err at
+Fails NoMemory read = Unit {0}
+
+-- ---- numbers and paths
+
+-- a value of the codec, whose fault is told by its place
+abbrev pub codec : {A : Type 0} → Result A CodecFault → Result A ℕ
+codec read = told_as fault_at read
+
+-- the place behind four bytes that are this number
+unfoldable pub behind : ℕ → Place → Result Place ℕ
+behind wanted p = do
+  number ← codec (u32_at p)
+  if number.0 == wanted then Ok number.1 else Err p.at
+
+-- a component below the label at an ordinal, where such a label stands
+abbrev pub joined : List (List (List ℕ)) → ℕ → List ℕ → Option (List (List ℕ))
+joined labels parent part = option_map (λ above. above ++ part ∷ []) (slice_get labels parent)
+
+-- a path that may be added, or none where it is no path or stands already
+abbrev pub addable : List (List (List ℕ)) → List (List ℕ) → Option (List (List ℕ))
+addable labels path = if is_some (path_fault path) || stands labels path then None else Some path
+
+-- the path of a component below the label at an ordinal, where that may be added
+unfoldable pub path_below : List (List (List ℕ)) → ℕ → List ℕ → Option (List (List ℕ))
+path_below labels parent part = option_and_then (addable labels) (joined labels parent part)
+
+-- a value with the place behind it, or a fault where there is none
+abbrev pub or_fault : {A : Type 0} → ℕ → Place → Option A → Result (A × Place) ℕ
+or_fault at p (Some x) = Ok (x, p)
+or_fault at p None = Err at
+
+-- ---- labels
+
+-- the path of the label that stands behind these
+unfoldable pub label_at : List (List (List ℕ)) → Place → Result (List (List ℕ) × Place) ℕ
+label_at labels p = do
+  parent ← codec (u32_at p)
+  part ← codec (text_at 4294967295 parent.1)
+  or_fault p.at part.1 (path_below labels parent.0 part.0)
+
+-- the labels with so many more
+unfoldable pub labels_at : ℕ → List (List (List ℕ)) → Place → Result (List (List (List ℕ)) × Place) ℕ
+labels_at zero labels p = Ok (labels, p)
+labels_at (suc n) labels p = do
+  first ← label_at labels p
+  labels_at n (labels ++ first.0 ∷ []) first.1
+
+-- ---- all of it
+
+-- `FTAX`, the version, the ordinal of the first label, and how many there are, which is not 0
+unfoldable pub head_at : ℕ → ℕ → Place → Result Place ℕ
+head_at first count p = do
+  magic ← behind 0x46544158 p
+  version ← behind 1 magic
+  number ← behind first version
+  many ← behind count number
+  if count == 0 then Err number.at else Ok many
+
+-- The known labels with those of the segment at their end, or the place of the first fault. The segment has `count` labels, the first of which has
+-- the ordinal `first`.
+unfoldable pub stored_labels : List (List (List ℕ)) → ℕ → ℕ → List ℕ → Result (List (List (List ℕ))) ℕ
+stored_labels known first count bytes = do
+  start ← head_at first count (record { at = 0; rest = bytes })
+  labels ← labels_at count known start
+  if length labels.1.rest == 0 then Ok labels.0 else Err labels.1.at

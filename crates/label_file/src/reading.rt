@@ -1,0 +1,148 @@
+ghost use Rattle.std.specs.Prelude.{◌≡◌, ◌≢◌, ◌≤◌, ◌<◌, ◌+◌, ◌++◌, [], ◌∷◌, ℕ, List, Some, None, Ok, length, option_and_then, IfOk, IfErr, OnOk};
+ghost use Rattle.facet_names.specs.declared.fault.PathFault.TheVariants.{NoMemory as Memory};
+ghost use Rattle.facet_names.specs.Faults.{path_fault};
+ghost use Rattle.facet_names.specs.Labels.{GoesOn};
+ghost use Rattle.label_file.specs.LabelReading.{Fails, behind, head_at, joined, path_below, label_at, labels_at, stored_labels};
+
+use crate::fault::LabelsFault;
+use facet_codec::Cursor;
+use facet_names::{NoMemory, Path, PathFault};
+use std::alloc::Global;
+use taxo_list::Taxonomy;
+
+/// Passes four bytes, which have to be this number.
+#[tactic(auto, unfolding(crate::specs::LabelReading::behind))]
+fn number(cursor: &mut Cursor<'_>, wanted: u32) -> Result<(), LabelsFault>
+    ensures ok { OnOk result (behind wanted cursor.old ≡ Ok cursor.new) }
+    ensures err { IfErr result (λ e. Fails e (behind wanted cursor.old)) }
+{
+    let at = cursor.at() as u64;
+    if cursor.u32()? != wanted {
+        return Err(LabelsFault::Malformed { at });
+    }
+    Ok(())
+}
+
+/// Passes the bytes before the labels.
+#[tactic(auto, unfolding(crate::specs::LabelReading::head_at))]
+fn head(cursor: &mut Cursor<'_>, first: u32, count: u32) -> Result<(), LabelsFault>
+    ensures ok { OnOk result (head_at first count cursor.old ≡ Ok cursor.new) }
+    ensures err { IfErr result (λ e. Fails e (head_at first count cursor.old)) }
+{
+    number(cursor, 0x4654_4158)?;
+    number(cursor, 1)?;
+    number(cursor, first)?;
+    let at = cursor.at() as u64;
+    number(cursor, count)?;
+    if count == 0 {
+        return Err(LabelsFault::Malformed { at });
+    }
+    Ok(())
+}
+
+/// The path of a component below the label at an ordinal, or why it is no path.
+fn joined(labels: &Taxonomy, alloc: Global, parent: u32, part: &str) -> Result<Path, PathFault>
+    requires { parent < length labels.now }
+    ensures ok { IfOk result (λ p. joined labels.now parent part.now ≡ Some p) }
+    ensures fits { IfOk result (λ p. path_fault p ≡ None) }
+    ensures err { IfErr result (λ e. e ≢ Memory → option_and_then path_fault (joined labels.now parent part.now) ≡ Some e) }
+{
+    let _ = labels.size();
+    if parent == 0 {
+        return Path::new(alloc, &[String::from_str(alloc, part)?]);
+    }
+    labels.path_of(parent).child(alloc, part)
+}
+
+/// The path of a component below the label at an ordinal; None where there is no such label, and where it is no path or stands already.
+#[tactic(auto, unfolding(crate::specs::LabelReading::path_below))]
+fn path_below(
+    labels: &Taxonomy,
+    alloc: Global,
+    parent: u32,
+    part: &str,
+) -> Result<Option<Path>, NoMemory>
+    ensures { IfOk result (λ o. o ≡ path_below labels.now parent part.now) }
+{
+    if parent >= labels.size() {
+        return Ok(None);
+    }
+    let path = match joined(labels, alloc, parent, part) {
+        Ok(path) => path,
+        Err(PathFault::NoMemory) => return Err(NoMemory),
+        Err(_) => return Ok(None),
+    };
+    if labels.find(&path).is_some() {
+        return Ok(None);
+    }
+    Ok(Some(path))
+}
+
+/// Adds the label that is read.
+#[tactic(auto, unfolding(crate::specs::LabelReading::label_at))]
+fn label(labels: &mut Taxonomy, alloc: Global, cursor: &mut Cursor<'_>) -> Result<(), LabelsFault>
+    requires { length labels.old < 1000000 }
+    ensures ok { OnOk result ((path : List (List ℕ)) × (label_at labels.old cursor.old ≡ Ok (path, cursor.new)) × (labels.new ≡ labels.old ++ path ∷ [])) }
+    ensures err { IfErr result (λ e. Fails e (label_at labels.old cursor.old)) }
+    ensures goes_on { GoesOn labels.old labels.new }
+{
+    let at = cursor.at() as u64;
+    let parent = cursor.u32()?;
+    let part = cursor.text(u32::MAX)?;
+    let Some(path) = path_below(labels, alloc, parent, part)? else {
+        return Err(LabelsFault::Malformed { at });
+    };
+    // The list is not full, so that only memory can be wanting.
+    if labels.add(&path, 1_000_000).is_err() {
+        return Err(LabelsFault::NoMemory);
+    }
+    Ok(())
+}
+
+/// Adds so many labels.
+fn labels_after(
+    labels: &mut Taxonomy,
+    alloc: Global,
+    cursor: &mut Cursor<'_>,
+    count: u32,
+) -> Result<(), LabelsFault>
+    requires { length labels.old + count ≤ 1000000 }
+    ensures ok { OnOk result (labels_at count labels.old cursor.old ≡ Ok (labels.new, cursor.new)) }
+    ensures err { IfErr result (λ e. Fails e (labels_at count labels.old cursor.old)) }
+    ensures goes_on { GoesOn labels.old labels.new }
+{
+    for _ in 0..count {
+        label(labels, alloc, cursor)?;
+    }
+    Ok(())
+}
+
+/// Puts the labels of a taxonomy segment behind these. The segment, which is all of the bytes, has to be one of `count` labels, the first of which has
+/// the ordinal `first`; `count` is at least 1. Each label's parent stands before it, and no label stands twice, also among the labels before.
+///
+/// After a fault some of the segment's labels may stand behind the others. It reads the bytes once from left to right, and takes memory for each label
+/// when that was read, whatever the count says.
+#[tactic(auto, unfolding(crate::specs::LabelReading::stored_labels))]
+pub fn read_labels(
+    labels: &mut Taxonomy,
+    alloc: Global,
+    first: u32,
+    count: u32,
+    bytes: &[u8],
+) -> Result<(), LabelsFault>
+    requires first { length labels.old ≡ first }
+    requires few { first + count ≤ 1000000 }
+    ensures ok { OnOk result (stored_labels labels.old first count bytes.now ≡ Ok labels.new) }
+    ensures err { IfErr result (λ e. Fails e (stored_labels labels.old first count bytes.now)) }
+    ensures goes_on { GoesOn labels.old labels.new }
+{
+    let mut cursor = Cursor::new(bytes);
+    head(&mut cursor, first, count)?;
+    labels_after(labels, alloc, &mut cursor, count)?;
+    if cursor.rest() > 0 {
+        return Err(LabelsFault::Malformed {
+            at: cursor.at() as u64,
+        });
+    }
+    Ok(())
+}
