@@ -1,0 +1,10 @@
+pub mod Bounds
+pub mod Carrying
+pub mod Images
+pub mod Lists
+pub mod Names
+pub mod Newest
+pub mod Plans
+pub mod Reaching
+pub mod Runs
+pub mod Tellings

@@ -1,0 +1,14 @@
+use Rattle.commit_calls.proofs.Runs.{cleared_one, cleared_more}
+use Rattle.commit_calls.proofs.calls.+clear.Goals as goal
+
+pub returns-in_err-remove-in-len1-up-clause-passes : goal.returns-in_err-remove-in-len1-up-clause-passes
+returns-in_err-remove-in-len1-up-clause-passes g t c =
+    cleared_one g.D.Disk.may_leave g.D.Disk.moment g.D.Disk.left_since c.args.names.now _ c.args.disk.now c.remove.new.self c.in-len1-up.len_at_least c.remove.ensures.time c.remove.ensures.crash
+
+pub returns-in_err-clear-in-len1-up-clause-passes : goal.returns-in_err-clear-in-len1-up-clause-passes
+returns-in_err-clear-in-len1-up-clause-passes g t c =
+    cleared_more g.D.Disk.may_leave g.D.Disk.moment g.D.Disk.left_since c.args.names.now _ c.args.disk.now c.remove.new.self c.clear.new.disk c.in-len1-up.len_at_least c.remove.ensures.time c.remove.ensures.crash c.clear.ensures.passes
+
+pub returns-in_ok-clear-in-len1-up-clause-passes : goal.returns-in_ok-clear-in-len1-up-clause-passes
+returns-in_ok-clear-in-len1-up-clause-passes g t c =
+    cleared_more g.D.Disk.may_leave g.D.Disk.moment g.D.Disk.left_since c.args.names.now _ c.args.disk.now c.remove.new.self c.clear.new.disk c.in-len1-up.len_at_least c.remove.ensures.time c.remove.ensures.crash c.clear.ensures.passes

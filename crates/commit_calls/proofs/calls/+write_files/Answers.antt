@@ -1,0 +1,21 @@
+use Rattle.std.proofs.Common.{◌≡◌, ◌-◌, ◌+◌, ◌∙◌, Some, ap, sym, subst, inl, inr, arith, take, drop, length, List, ◌∷◌}
+use Rattle.std.proofs.lemmas.List.Elements.{All-cons}
+use Rattle.commit_calls.specs.declared.plan.Write.{Write}
+use Rattle.commit_calls.specs.Outcomes.{file_told}
+use Rattle.commit_calls.specs.Plans.{Rises}
+use Rattle.commit_calls.specs.Stages.{AreWritten}
+use Rattle.commit_calls.proofs.Lists.{split_first}
+use Rattle.commit_calls.proofs.calls.+write_files.Goals as goal
+
+pub returns-in_ok-write_files-in-len1-up-clause-durable : goal.returns-in_ok-write_files-in-len1-up-clause-durable
+returns-in_ok-write_files-in-len1-up-clause-durable g t c = λ s from to rises is image left.
+    let first = c.first-item.result in
+    let rest : List Write = take (length c.args.files.now - 1) (drop 1 c.args.files.now) in
+    let split = split_first c.args.files.now first c.in-len1-up.len_at_least c.first-item.is in
+    let rise : Rises from to (first ∷ rest) = subst (Rises from to) split rises in
+    let told = c.in_ok-write_file-in-len1-up.ensures.told s is in
+    let later = c.in_ok-write_files-in-len1-up.ensures.durable (file_told s first.name c.deref.result.now) (first.name.number + 1) to rise.3 told image left in
+    let before = (c.write_files.ensures.passes (first.name.number + 1) to rise.3).now image left in
+    let here = c.in_ok-write_file-in-len1-up.ensures.durable s is before.0 before.1 in
+    subst (λ (ws : List Write). AreWritten ws image) (sym split)
+    (All-cons (λ w. image w.name ≡ Some w.bytes.items) first rest (before.2 first.name (inr (inl (omega arith))) ∙ here ∙ ap Some c.deref.ensures.value) later)

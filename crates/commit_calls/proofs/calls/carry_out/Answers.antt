@@ -1,0 +1,107 @@
+use Rattle.std.proofs.Common.{◌≡◌, ◌∙◌, sym, subst, List, Some}
+use Rattle.facet_disk.specs.declared.name.Dir.TheVariants.{Taxonomy, Index}
+use Rattle.facet_disk.specs.declared.name.FileName.{FileName}
+use Rattle.facet_disk.specs.Images.{Image, Told}
+use Rattle.commit_calls.specs.declared.plan.Write.{Write}
+use Rattle.commit_calls.specs.Held.{Below, CommitsBelow}
+use Rattle.commit_calls.specs.Moments.{IsOneOfThree}
+use Rattle.commit_calls.specs.Outcomes.{files_told, published_told, cleared_told, carried_told}
+use Rattle.commit_calls.proofs.Images.{leaves_three, is_after}
+use Rattle.commit_calls.proofs.Reaching.{while_writing, after_writing, while_half, after_half, while_whole, after_whole, while_clearing, after_clearing}
+use Rattle.commit_calls.proofs.Runs.{leaves_now}
+use Rattle.commit_calls.proofs.Tellings.{carried_below}
+use Rattle.commit_calls.proofs.calls.carry_out.Goals as goal
+
+pub returns-in_err-write_files-clause-any_moment : goal.returns-in_err-write_files-clause-any_moment
+returns-in_err-write_files-clause-any_moment g c = λ s t i t' i' is leads at.
+    let laws = g.met.D.Disk g.world.𝓛 g.world.𝓜 g.world.𝓡 ((λ s x. x), (λ x. x), (λ x. x), λ x. x) in
+    let fresh : (image : Image) → g.D.Disk.may_leave c.args.disk.now image → CommitsBelow c.args.plan.now.from image = λ image left. (at image left).commits in
+    leaves_three g.D.Disk.may_leave g.D.Disk.moment g.D.Disk.left_since laws.only_now c.args.plan.now c.requires.plan t i t' i' leads c.args.disk.now c.write_files.new.disk at
+    (while_writing c.args.plan.now c.requires.plan g.D.Disk.told g.D.Disk.may_leave g.D.Disk.moment g.D.Disk.left_since laws.own c.args.disk.now s fresh c.deref.result.now c.deref.ensures.value c.write_files.new.disk c.write_files.ensures.passes)
+
+pub returns-in_err-write_files-clause-now : goal.returns-in_err-write_files-clause-now
+returns-in_err-write_files-clause-now g c = λ s t i t' i' is leads at.
+    let laws = g.met.D.Disk g.world.𝓛 g.world.𝓜 g.world.𝓡 ((λ s x. x), (λ x. x), (λ x. x), λ x. x) in
+    leaves_now g.D.Disk.may_leave g.D.Disk.moment g.D.Disk.left_since laws.counts_now (IsOneOfThree c.args.plan.now.to t i t' i') c.args.disk.now c.write_files.new.disk (returns-in_err-write_files-clause-any_moment g c s t i t' i' is leads at)
+
+pub returns-in_err-publish-clause-any_moment : goal.returns-in_err-publish-clause-any_moment
+returns-in_err-publish-clause-any_moment g c = λ s t i t' i' is leads at.
+    let laws = g.met.D.Disk g.world.𝓛 g.world.𝓜 g.world.𝓡 ((λ s x. x), (λ x. x), (λ x. x), λ x. x) in
+    let fresh : (image : Image) → g.D.Disk.may_leave c.args.disk.now image → CommitsBelow c.args.plan.now.from image = λ image left. (at image left).commits in
+    let first = after_writing c.args.plan.now c.requires.plan g.D.Disk.told g.D.Disk.may_leave g.D.Disk.moment g.D.Disk.left_since laws.own c.args.disk.now s fresh c.deref.result.now c.deref.ensures.value c.write_files.new.disk is c.write_files.ensures.passes c.in_ok-write_files.ensures.durable c.in_ok-write_files.ensures.told in
+    leaves_three g.D.Disk.may_leave g.D.Disk.moment g.D.Disk.left_since laws.only_now c.args.plan.now c.requires.plan t i t' i' leads c.args.disk.now c.publish.new.disk at
+    (while_half c.args.plan.now c.requires.plan g.D.Disk.told g.D.Disk.may_leave g.D.Disk.moment g.D.Disk.left_since laws.own c.args.disk.now s fresh c.write_files.new.disk c.publish.new.disk first c.publish.ensures.passes)
+
+pub returns-in_err-publish-clause-now : goal.returns-in_err-publish-clause-now
+returns-in_err-publish-clause-now g c = λ s t i t' i' is leads at.
+    let laws = g.met.D.Disk g.world.𝓛 g.world.𝓜 g.world.𝓡 ((λ s x. x), (λ x. x), (λ x. x), λ x. x) in
+    leaves_now g.D.Disk.may_leave g.D.Disk.moment g.D.Disk.left_since laws.counts_now (IsOneOfThree c.args.plan.now.to t i t' i') c.args.disk.now c.publish.new.disk (returns-in_err-publish-clause-any_moment g c s t i t' i' is leads at)
+
+pub returns-in_err-publish-2-clause-any_moment : goal.returns-in_err-publish-2-clause-any_moment
+returns-in_err-publish-2-clause-any_moment g c = λ s t i t' i' is leads at.
+    let laws = g.met.D.Disk g.world.𝓛 g.world.𝓜 g.world.𝓡 ((λ s x. x), (λ x. x), (λ x. x), λ x. x) in
+    let fresh : (image : Image) → g.D.Disk.may_leave c.args.disk.now image → CommitsBelow c.args.plan.now.from image = λ image left. (at image left).commits in
+    let first = after_writing c.args.plan.now c.requires.plan g.D.Disk.told g.D.Disk.may_leave g.D.Disk.moment g.D.Disk.left_since laws.own c.args.disk.now s fresh c.deref.result.now c.deref.ensures.value c.write_files.new.disk is c.write_files.ensures.passes c.in_ok-write_files.ensures.durable c.in_ok-write_files.ensures.told in
+    let second = after_half c.args.plan.now c.requires.plan g.D.Disk.told g.D.Disk.may_leave g.D.Disk.moment g.D.Disk.left_since laws.own c.args.disk.now s fresh c.write_files.new.disk c.publish.new.disk first c.publish.ensures.passes c.in_ok-publish.ensures.done c.in_ok-publish.ensures.told in
+    leaves_three g.D.Disk.may_leave g.D.Disk.moment g.D.Disk.left_since laws.only_now c.args.plan.now c.requires.plan t i t' i' leads c.args.disk.now c.publish-2.new.disk at
+    (while_whole c.args.plan.now c.requires.plan g.D.Disk.told g.D.Disk.may_leave g.D.Disk.moment g.D.Disk.left_since laws.own c.args.disk.now s fresh c.publish.new.disk c.publish-2.new.disk second c.publish-2.ensures.passes)
+
+pub returns-in_err-publish-2-clause-now : goal.returns-in_err-publish-2-clause-now
+returns-in_err-publish-2-clause-now g c = λ s t i t' i' is leads at.
+    let laws = g.met.D.Disk g.world.𝓛 g.world.𝓜 g.world.𝓡 ((λ s x. x), (λ x. x), (λ x. x), λ x. x) in
+    leaves_now g.D.Disk.may_leave g.D.Disk.moment g.D.Disk.left_since laws.counts_now (IsOneOfThree c.args.plan.now.to t i t' i') c.args.disk.now c.publish-2.new.disk (returns-in_err-publish-2-clause-any_moment g c s t i t' i' is leads at)
+
+pub returns-in_err-clear-clause-any_moment : goal.returns-in_err-clear-clause-any_moment
+returns-in_err-clear-clause-any_moment g c = λ s t i t' i' is leads at.
+    let laws = g.met.D.Disk g.world.𝓛 g.world.𝓜 g.world.𝓡 ((λ s x. x), (λ x. x), (λ x. x), λ x. x) in
+    let fresh : (image : Image) → g.D.Disk.may_leave c.args.disk.now image → CommitsBelow c.args.plan.now.from image = λ image left. (at image left).commits in
+    let first = after_writing c.args.plan.now c.requires.plan g.D.Disk.told g.D.Disk.may_leave g.D.Disk.moment g.D.Disk.left_since laws.own c.args.disk.now s fresh c.deref.result.now c.deref.ensures.value c.write_files.new.disk is c.write_files.ensures.passes c.in_ok-write_files.ensures.durable c.in_ok-write_files.ensures.told in
+    let second = after_half c.args.plan.now c.requires.plan g.D.Disk.told g.D.Disk.may_leave g.D.Disk.moment g.D.Disk.left_since laws.own c.args.disk.now s fresh c.write_files.new.disk c.publish.new.disk first c.publish.ensures.passes c.in_ok-publish.ensures.done c.in_ok-publish.ensures.told in
+    let third = after_whole c.args.plan.now c.requires.plan g.D.Disk.told g.D.Disk.may_leave g.D.Disk.moment g.D.Disk.left_since laws.own c.args.disk.now s fresh c.publish.new.disk c.publish-2.new.disk second c.publish-2.ensures.passes c.in_ok-publish-2.ensures.done c.in_ok-publish-2.ensures.told in
+    leaves_three g.D.Disk.may_leave g.D.Disk.moment g.D.Disk.left_since laws.only_now c.args.plan.now c.requires.plan t i t' i' leads c.args.disk.now c.clear.new.disk at
+    (while_clearing c.args.plan.now c.requires.plan g.D.Disk.told g.D.Disk.may_leave g.D.Disk.moment g.D.Disk.left_since laws.own c.args.disk.now s fresh c.deref-2.result.now c.deref-2.ensures.value c.publish-2.new.disk c.clear.new.disk third c.clear.ensures.passes)
+
+pub returns-in_err-clear-clause-now : goal.returns-in_err-clear-clause-now
+returns-in_err-clear-clause-now g c = λ s t i t' i' is leads at.
+    let laws = g.met.D.Disk g.world.𝓛 g.world.𝓜 g.world.𝓡 ((λ s x. x), (λ x. x), (λ x. x), λ x. x) in
+    leaves_now g.D.Disk.may_leave g.D.Disk.moment g.D.Disk.left_since laws.counts_now (IsOneOfThree c.args.plan.now.to t i t' i') c.args.disk.now c.clear.new.disk (returns-in_err-clear-clause-any_moment g c s t i t' i' is leads at)
+
+pub returns-clause-any_moment : goal.returns-clause-any_moment
+returns-clause-any_moment g c = λ s t i t' i' is leads at.
+    let laws = g.met.D.Disk g.world.𝓛 g.world.𝓜 g.world.𝓡 ((λ s x. x), (λ x. x), (λ x. x), λ x. x) in
+    let fresh : (image : Image) → g.D.Disk.may_leave c.args.disk.now image → CommitsBelow c.args.plan.now.from image = λ image left. (at image left).commits in
+    let first = after_writing c.args.plan.now c.requires.plan g.D.Disk.told g.D.Disk.may_leave g.D.Disk.moment g.D.Disk.left_since laws.own c.args.disk.now s fresh c.deref.result.now c.deref.ensures.value c.write_files.new.disk is c.write_files.ensures.passes c.in_ok-write_files.ensures.durable c.in_ok-write_files.ensures.told in
+    let second = after_half c.args.plan.now c.requires.plan g.D.Disk.told g.D.Disk.may_leave g.D.Disk.moment g.D.Disk.left_since laws.own c.args.disk.now s fresh c.write_files.new.disk c.publish.new.disk first c.publish.ensures.passes c.in_ok-publish.ensures.done c.in_ok-publish.ensures.told in
+    let third = after_whole c.args.plan.now c.requires.plan g.D.Disk.told g.D.Disk.may_leave g.D.Disk.moment g.D.Disk.left_since laws.own c.args.disk.now s fresh c.publish.new.disk c.publish-2.new.disk second c.publish-2.ensures.passes c.in_ok-publish-2.ensures.done c.in_ok-publish-2.ensures.told in
+    leaves_three g.D.Disk.may_leave g.D.Disk.moment g.D.Disk.left_since laws.only_now c.args.plan.now c.requires.plan t i t' i' leads c.args.disk.now c.clear.new.disk at
+    (while_clearing c.args.plan.now c.requires.plan g.D.Disk.told g.D.Disk.may_leave g.D.Disk.moment g.D.Disk.left_since laws.own c.args.disk.now s fresh c.deref-2.result.now c.deref-2.ensures.value c.publish-2.new.disk c.clear.new.disk third c.clear.ensures.passes)
+
+pub returns-clause-now : goal.returns-clause-now
+returns-clause-now g c = λ s t i t' i' is leads at.
+    let laws = g.met.D.Disk g.world.𝓛 g.world.𝓜 g.world.𝓡 ((λ s x. x), (λ x. x), (λ x. x), λ x. x) in
+    leaves_now g.D.Disk.may_leave g.D.Disk.moment g.D.Disk.left_since laws.counts_now (IsOneOfThree c.args.plan.now.to t i t' i') c.args.disk.now c.clear.new.disk (returns-clause-any_moment g c s t i t' i' is leads at)
+
+pub returns-clause-done : goal.returns-clause-done
+returns-clause-done g c = λ s t i t' i' is leads at.
+    let laws = g.met.D.Disk g.world.𝓛 g.world.𝓜 g.world.𝓡 ((λ s x. x), (λ x. x), (λ x. x), λ x. x) in
+    let fresh : (image : Image) → g.D.Disk.may_leave c.args.disk.now image → CommitsBelow c.args.plan.now.from image = λ image left. (at image left).commits in
+    let first = after_writing c.args.plan.now c.requires.plan g.D.Disk.told g.D.Disk.may_leave g.D.Disk.moment g.D.Disk.left_since laws.own c.args.disk.now s fresh c.deref.result.now c.deref.ensures.value c.write_files.new.disk is c.write_files.ensures.passes c.in_ok-write_files.ensures.durable c.in_ok-write_files.ensures.told in
+    let second = after_half c.args.plan.now c.requires.plan g.D.Disk.told g.D.Disk.may_leave g.D.Disk.moment g.D.Disk.left_since laws.own c.args.disk.now s fresh c.write_files.new.disk c.publish.new.disk first c.publish.ensures.passes c.in_ok-publish.ensures.done c.in_ok-publish.ensures.told in
+    let third = after_whole c.args.plan.now c.requires.plan g.D.Disk.told g.D.Disk.may_leave g.D.Disk.moment g.D.Disk.left_since laws.own c.args.disk.now s fresh c.publish.new.disk c.publish-2.new.disk second c.publish-2.ensures.passes c.in_ok-publish-2.ensures.done c.in_ok-publish-2.ensures.told in
+    is_after g.D.Disk.may_leave g.D.Disk.moment g.D.Disk.left_since laws.only_now c.args.plan.now c.requires.plan t i t' i' leads c.args.disk.now c.clear.new.disk at
+    (after_clearing c.args.plan.now c.requires.plan g.D.Disk.told g.D.Disk.may_leave g.D.Disk.moment g.D.Disk.left_since laws.own c.args.disk.now s fresh c.deref-2.result.now c.deref-2.ensures.value c.publish-2.new.disk c.clear.new.disk third c.clear.ensures.passes)
+
+pub returns-clause-names : goal.returns-clause-names
+returns-clause-names g c = λ s u is after below.
+    let made = files_told c.args.plan.now.writes.items s in
+    let told : g.D.Disk.told c.write_files.new.disk ≡ Some made = subst (λ (ws : List Write). g.D.Disk.told c.write_files.new.disk ≡ Some (files_told ws s)) c.deref.ensures.value (c.in_ok-write_files.ensures.told s is) in
+    let next = published_told Taxonomy c.args.plan.now.taxonomy made in
+    let both = published_told Index c.args.plan.now.index next in
+    let told_both = c.in_ok-publish-2.ensures.told next (c.in_ok-publish.ensures.told made told) in
+    let told_last : g.D.Disk.told c.clear.new.disk ≡ Some (carried_told c.args.plan.now s) =
+    subst (λ (names : List FileName). g.D.Disk.told c.clear.new.disk ≡ Some (cleared_told names both)) c.deref-2.ensures.value (c.in_ok-clear.ensures.told both told_both) in
+    let same : carried_told c.args.plan.now s ≡ u = one_told (sym told_last ∙ after) in
+    subst (λ (v : Told). Below c.args.plan.now.to v.files) same (carried_below c.args.plan.now c.requires.plan s below)
+  where
+    one_told : {a b : Told} → Some a ≡ Some b → a ≡ b
+    one_told e = cc e
