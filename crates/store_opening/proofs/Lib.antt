@@ -1,0 +1,7 @@
+pub mod Accepted
+pub mod Documents
+pub mod Greatest
+pub mod Held
+pub mod Loops
+pub mod Quiet
+pub mod Whole

@@ -1,0 +1,75 @@
+-- Loops that read one segment after the other.
+use Rattle.std.proofs.Common.{◌≡◌, ℕ, zero, suc, ◌+◌, ◌≤◌, ◌<◌, List, [], ◌∷◌, ◌++◌, length, drop, get_or, Result, Ok, Err, refl, sym, ap, subst, ◌∙◌, arith, append_assoc}
+use Rattle.std.specs.List.{AllZip}
+use Rattle.std.proofs.lemmas.List.{drop_all, append-nil}
+use Rattle.facet_codec.specs.Reading.{◌>>=◌}
+use Rattle.facet_model.specs.Flags.{Config}
+use Rattle.facet_model.specs.Stored.{Records}
+use Rattle.commit_file.specs.declared.taxonomy.LabelPart.{LabelPart}
+use Rattle.commit_file.specs.declared.index.DocumentPart.{DocumentPart}
+use Rattle.commit_file.specs.Commits.{AreInOrder, end_of}
+use Rattle.store_opening.specs.declared.fault.OpenFault.{OpenFault}
+use Rattle.store_opening.specs.Files.{Segments, labels_behind, labels_of, segment_of, segments_of}
+
+-- the next element and those behind it
+pub drop_at : {A : Type 0} (xs : List A) (i : ℕ) (d : A) → i < length xs → drop i xs ≡ get_or xs i d ∷ drop (i + 1) xs
+drop_at [] i d lt = absurd (omega (arith, lt))
+drop_at (x ∷ xs) zero d lt = refl
+drop_at (x ∷ xs) (suc i) d lt =
+    let n : suc i + 1 ≡ suc (i + 1) = omega arith in
+    rw n (drop_at xs i d (omega (arith, lt)))
+
+-- ---- labels
+
+module _ (segments : Segments) (known : List (List (List ℕ))) (parts : List LabelPart) (i : ℕ) (d : LabelPart) where
+  pub labels_more : (longer : List (List (List ℕ))) → i < length parts → labels_behind segments known (get_or parts i d) ≡ Ok longer → labels_of segments longer (drop (i + 1) parts) ≡ labels_of segments known (drop i parts)
+  unfolding labels_of
+  labels_more longer lt e = sym (ap (labels_of segments known) (drop_at parts i d lt) ∙ ap (λ (r : Result (List (List (List ℕ))) OpenFault). r >>= λ l. labels_of segments l (drop (i + 1) parts)) e)
+
+  pub labels_fail : (fault : OpenFault) → i < length parts → labels_behind segments known (get_or parts i d) ≡ Err fault → labels_of segments known (drop i parts) ≡ Err fault
+  unfolding labels_of
+  labels_fail fault lt e = ap (labels_of segments known) (drop_at parts i d lt) ∙ ap (λ (r : Result (List (List (List ℕ))) OpenFault). r >>= λ l. labels_of segments l (drop (i + 1) parts)) e
+
+  pub labels_end : length parts ≤ i → labels_of segments known (drop i parts) ≡ Ok known
+  unfolding labels_of
+  labels_end le = ap (labels_of segments known) (drop_all i parts le)
+
+pub order_at : (total start : ℕ) (parts : List LabelPart) (i : ℕ) (d : LabelPart) → i < length parts → AreInOrder total start (drop i parts) → ((get_or parts i d).first ≡ start) × AreInOrder total (end_of (get_or parts i d)) (drop (i + 1) parts)
+order_at total start parts i d lt order = subst (AreInOrder total start) (drop_at parts i d lt) order
+
+pub order_low : (total start : ℕ) (parts : List LabelPart) → AreInOrder total start parts → start ≤ total
+order_low total start [] order = omega (arith, order)
+order_low total start (part ∷ parts) order = let low = order_low total (end_of part) parts order.1 in omega (arith, low, order.0)
+
+-- ---- segments of documents
+
+-- what is still to be read, behind what was read
+abbrev pub behind : List Records → Result (List Records) OpenFault → Result (List Records) OpenFault
+behind front r = r >>= λ xs. Ok (front ++ xs)
+
+module _ (config : Config) (labels : List (List (List ℕ))) (needs : ℕ) (segments : Segments) (parts : List DocumentPart) (i : ℕ) (d : DocumentPart) (front : List Records) where
+  regroup : (x : Records) (r : Result (List Records) OpenFault) → behind (front ++ x ∷ []) r ≡ behind front (r >>= λ others. Ok (x ∷ others))
+  regroup x (Ok ys) = ap (λ (xs : List Records). Ok xs) (append_assoc front (x ∷ []) ys)
+  regroup x (Err e) = refl
+
+  pub segments_more : (x : Records) → i < length parts → segment_of config labels needs segments (get_or parts i d) ≡ Ok x
+      → behind (front ++ x ∷ []) (segments_of config labels needs segments (drop (i + 1) parts)) ≡ behind front (segments_of config labels needs segments (drop i parts))
+  unfolding segments_of
+  segments_more x lt e = regroup x (segments_of config labels needs segments (drop (i + 1) parts))
+      ∙ ap (behind front) (sym (ap (segments_of config labels needs segments) (drop_at parts i d lt) ∙ ap (λ (r : Result Records OpenFault). r >>= λ y. segments_of config labels needs segments (drop (i + 1) parts) >>= λ others. Ok (y ∷ others)) e))
+
+  pub segments_fail : (fault : OpenFault) → i < length parts → segment_of config labels needs segments (get_or parts i d) ≡ Err fault
+      → behind front (segments_of config labels needs segments (drop i parts)) ≡ Err fault
+  unfolding segments_of
+  segments_fail fault lt e = ap (behind front) (ap (segments_of config labels needs segments) (drop_at parts i d lt) ∙ ap (λ (r : Result Records OpenFault). r >>= λ y. segments_of config labels needs segments (drop (i + 1) parts) >>= λ others. Ok (y ∷ others)) e)
+
+  pub segments_end : length parts ≤ i → behind front (segments_of config labels needs segments (drop i parts)) ≡ Ok front
+  unfolding segments_of
+  segments_end le = ap (λ (xs : List DocumentPart). behind front (segments_of config labels needs segments xs)) (drop_all i parts le) ∙ ap (λ (xs : List Records). Ok xs) (append-nil front)
+
+-- one more pair
+pub zip_push : {A B : Type 0} (R : A → B → Type 0) (xs : List A) (ys : List B) (x : A) (y : B) → AllZip R xs ys → R x y → AllZip R (xs ++ x ∷ []) (ys ++ y ∷ [])
+zip_push R [] [] x y all here = (here, tt)
+zip_push R [] (b ∷ bs) x y all here = absurd all
+zip_push R (a ∷ as') [] x y all here = absurd all
+zip_push R (a ∷ as') (b ∷ bs) x y all here = (all.0, zip_push R as' bs x y all.1 here)

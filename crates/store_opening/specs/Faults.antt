@@ -1,0 +1,27 @@
+-- Faults of the parts of a store as faults of opening it.
+use Rattle.facet_disk.specs.declared.fault.DiskFault.{DiskFault}
+use Rattle.facet_disk.specs.declared.fault.DiskFault.TheVariants as disks
+use Rattle.facet_disk.specs.declared.name.FileName.{FileName}
+use Rattle.label_file.specs.declared.fault.LabelsFault.{LabelsFault}
+use Rattle.label_file.specs.declared.fault.LabelsFault.TheVariants as labels
+use Rattle.seg_decoding.specs.declared.fault.StoredFault.{StoredFault}
+use Rattle.seg_decoding.specs.declared.fault.StoredFault.TheVariants as segments
+use Rattle.store_opening.specs.declared.fault.OpenFault.{OpenFault}
+use Rattle.store_opening.specs.declared.fault.OpenFault.TheVariants.{Disk, Malformed, NoMemory}
+
+-- that of a call of the disk
+abbrev pub of_disk : DiskFault → OpenFault
+of_disk disks.Failed = Disk
+of_disk (disks.Absent name) = Disk
+of_disk (disks.Present name) = Disk
+of_disk disks.NoMemory = NoMemory
+
+-- that of a segment of labels, with its name
+abbrev pub of_labels : FileName → LabelsFault → OpenFault
+of_labels name (labels.Malformed at) = Malformed name at
+of_labels name labels.NoMemory = NoMemory
+
+-- that of a segment of documents, with its name
+abbrev pub of_segment : FileName → StoredFault → OpenFault
+of_segment name (segments.Malformed at) = Malformed name at
+of_segment name segments.NoMemory = NoMemory

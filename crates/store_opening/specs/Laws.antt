@@ -1,0 +1,22 @@
+-- Files and the commits that they are held by.
+use Rattle.std.specs.Prelude.{◌≡◌, ℕ, Ok}
+use Rattle.facet_disk.specs.declared.name.Dir.TheVariants.{Taxonomy, Index}
+use Rattle.facet_disk.specs.Images.{Image, Told}
+use Rattle.facet_model.specs.Flags.{Config}
+use Rattle.commit_calls.specs.Held.{Held, Below, Stands}
+use Rattle.commit_calls.specs.Moments.{IsAt}
+use Rattle.store_opening.specs.Files.{Found, files, files_of}
+use Rattle.store_opening.specs.Settled.{IsSettled, held_in}
+
+-- an image that stands for two directories stands for what these hold
+abbrev pub StandsForHeld : Type 0
+StandsForHeld = (config : Config) (next : ℕ) (taxonomy index : Held) (c : Image) (f : Found) → Stands next taxonomy index c → files_of config taxonomy index ≡ Ok f → files config c ≡ Ok f
+
+-- what an image stands for is what its directories hold
+abbrev pub HoldsFiles : Type 0
+HoldsFiles = (config : Config) (c : Image) (f : Found) → files config c ≡ Ok f → files_of config (held_in Taxonomy c) (held_in Index c) ≡ Ok f
+
+-- each image of a settled disk stands for what the directories hold as they read, and a commit may take numbers above all that are listed
+abbrev pub SettledStands : {D : Type 0} → (D → Image → Type 0) → D → Type 0
+SettledStands may_leave disk = (config : Config) (s : Told) (f : Found) (next : ℕ) → IsSettled may_leave config s disk → files config s.files ≡ Ok f → Below next s.files
+    → IsAt may_leave next (held_in Taxonomy s.files) (held_in Index s.files) disk

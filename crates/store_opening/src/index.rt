@@ -1,0 +1,199 @@
+//! The index of a disk.
+ghost use Rattle.std.specs.Prelude.{◌≡◌, ◌≢◌, ◌≤◌, ◌++◌, [], ◌∷◌, ℕ, List, Option, Some, Ok, Err, length, map, IfOk, IfErr, OnOk, IsErrOf};
+ghost use Rattle.std.specs.Arc.{arc_value};
+ghost use Rattle.std.specs.List.{AllZip, sum_by};
+ghost use Rattle.facet_codec.specs.Faults.{told_as};
+ghost use Rattle.facet_config.specs.Differences.{first_different};
+ghost use Rattle.facet_disk.specs.Images.{Told};
+ghost use Rattle.facet_disk.specs.Calls.{Rose};
+ghost use Rattle.commit_calls.specs.Held.{file, newest_file};
+ghost use Rattle.commit_file.specs.Commits.{index_listing, documents_of};
+ghost use Rattle.commit_file.specs.Reading.{index_commit};
+ghost use Rattle.store_opening.specs.declared.fault.OpenFault.TheVariants.{Disk, NoMemory as Memory};
+ghost use Rattle.store_opening.specs.Files.{segments_in, of_file, same_flags, agrees, segment_of, segments_of, index_in};
+ghost use Rattle.store_opening.specs.Newest.{AreListed, IsNewestIndex, IsNamedAs};
+ghost use Rattle.store_opening.specs.Quiet.{IsQuiet};
+
+use crate::fault::{OpenFault, of_file, of_segment};
+use crate::reading::{CommitBytes, read_newest, read_segment};
+use commit_file::{DocumentPart, IndexCommit, read_index_commit};
+use facet_config::FacetsConfig;
+use facet_disk::{Dir, Disk, FileName, Kind};
+use facet_model::Word;
+use facet_names::NoMemory;
+use seg_decoding::open_stored;
+use seg_file::Segment;
+use std::alloc::Global;
+use std::sync::Arc;
+use taxo_list::Taxonomy;
+
+/// An index that was read, and the commit that names its segments.
+#[derive(Drop)]
+pub(crate) struct IndexRead {
+    pub(crate) number: Option<u64>,
+    pub(crate) parts: Vec<DocumentPart>,
+    pub(crate) segments: Vec<Arc<Segment>>,
+}
+
+// Reads a segment, whose documents need the first so many of the labels.
+#[tactic(auto, unfolding(crate::specs::Files::segment_of))]
+fn read_document_part<D: Disk>(
+    alloc: Global,
+    disk: &mut D,
+    config: &FacetsConfig,
+    labels: &Taxonomy,
+    needs: u32,
+    listed: &[FileName],
+    part: DocumentPart,
+) -> Result<Segment, OpenFault>
+    requires { needs ≤ length labels.now }
+    ensures ok { IfOk result (λ v. (s : Told) → D.told disk.old ≡ Some s → AreListed s.files listed.now → segment_of config.now labels.now needs (segments_in Dir.Index s.files) part ≡ Ok v) }
+    ensures named { IfOk result (λ v. IsNamedAs config.now labels.now part v) }
+    ensures err { IfErr result (λ e. e ≢ Memory → e ≢ Disk → (s : Told) → D.told disk.old ≡ Some s → AreListed s.files listed.now → segment_of config.now labels.now needs (segments_in Dir.Index s.files) part ≡ Err e) }
+    ensures disk { IsErrOf result Disk → Rose (D.faults disk.old) (D.faults disk.new) }
+    ensures quiet { IsQuiet D.told D.may_leave D.moment D.left_since D.faults disk.old disk.new }
+{
+    let name = FileName {
+        dir: Dir::Index,
+        kind: Kind::Segment,
+        number: part.number,
+    };
+    let bytes = read_segment(alloc, disk, listed, name, part.digest)?;
+    match open_stored(alloc, config, labels, needs, part.documents, bytes) {
+        Ok(segment) => Ok(segment),
+        Err(fault) => Err(of_segment(name, fault)),
+    }
+}
+
+// Puts a segment behind these.
+fn keep(alloc: Global, segments: &mut Vec<Arc<Segment>>, segment: Segment) -> Result<(), NoMemory>
+    ensures { OnOk result (map arc_value segments.new.items ≡ map arc_value segments.old.items ++ segment ∷ []) }
+{
+    let shared = Arc::new(alloc, segment)?;
+    segments.push(shared)?;
+    Ok(())
+}
+
+// Reads the segments of a commit.
+fn read_document_parts<D: Disk>(
+    alloc: Global,
+    disk: &mut D,
+    config: &FacetsConfig,
+    labels: &Taxonomy,
+    needs: u32,
+    listed: &[FileName],
+    parts: &[DocumentPart],
+) -> Result<Vec<Arc<Segment>>, OpenFault>
+    requires { needs ≤ length labels.now }
+    ensures ok { IfOk result (λ v. (s : Told) → D.told disk.old ≡ Some s → AreListed s.files listed.now → segments_of config.now labels.now needs (segments_in Dir.Index s.files) parts.now ≡ Ok (map arc_value v.items)) }
+    ensures named { IfOk result (λ v. AllZip (IsNamedAs config.now labels.now) parts.now (map arc_value v.items)) }
+    ensures err { IfErr result (λ e. e ≢ Memory → e ≢ Disk → (s : Told) → D.told disk.old ≡ Some s → AreListed s.files listed.now → segments_of config.now labels.now needs (segments_in Dir.Index s.files) parts.now ≡ Err e) }
+    ensures disk { IsErrOf result Disk → Rose (D.faults disk.old) (D.faults disk.new) }
+    ensures quiet { IsQuiet D.told D.may_leave D.moment D.left_since D.faults disk.old disk.new }
+{
+    let mut segments = Vec::new(alloc);
+    for part in parts {
+        let segment = read_document_part(alloc, disk, config, labels, needs, listed, *part)?;
+        keep(alloc, &mut segments, segment)?;
+    }
+    Ok(segments)
+}
+
+// The commit of the index that a file is.
+fn commit_of(alloc: Global, found: &CommitBytes) -> Result<IndexCommit, OpenFault>
+    ensures ok { IfOk result (λ c. index_commit found.now.number found.now.bytes.items ≡ Ok (index_listing c)) }
+    ensures few { IfOk result (λ c. sum_by documents_of c.parts.items ≤ 1000000) }
+    ensures err { IfErr result (λ e. e ≢ Memory → told_as (of_file (file Dir.Index Kind.Commit found.now.number)) (index_commit found.now.number found.now.bytes.items) ≡ Err e) }
+{
+    let name = FileName {
+        dir: Dir::Index,
+        kind: Kind::Commit,
+        number: found.number,
+    };
+    match read_index_commit(alloc, found.number, &found.bytes) {
+        Ok(commit) => Ok(commit),
+        Err(fault) => Err(of_file(name, fault)),
+    }
+}
+
+// The dimensions have the flags that were kept.
+fn check_flags(alloc: Global, config: &FacetsConfig, kept: &FacetsConfig) -> Result<(), OpenFault>
+    ensures ok { IfOk result (λ _. same_flags (first_different config.now kept.now) ≡ Ok tt) }
+    ensures err { IfErr result (λ e. e ≢ Memory → same_flags (first_different config.now kept.now) ≡ Err e) }
+    ensures device { IfErr result (λ e. e ≢ Disk) }
+{
+    let Some(dim) = config.differs(kept) else {
+        return Ok(());
+    };
+    match Word::new(alloc, dim)? {
+        Some(dim) => Err(OpenFault::OtherConfig { dim }),
+        // A declared dimension has 1 to 1,024 bytes, so it is always a word.
+        None => Err(OpenFault::NoMemory),
+    }
+}
+
+// The documents were stored under these flags, and the labels that they need are there.
+#[tactic(auto, unfolding(crate::specs::Files::agrees))]
+fn check_commit(
+    alloc: Global,
+    config: &FacetsConfig,
+    labels: &Taxonomy,
+    commit: &IndexCommit,
+) -> Result<(), OpenFault>
+    ensures ok { IfOk result (λ _. agrees config.now (length labels.now) (index_listing commit.now) ≡ Ok tt) }
+    ensures needs { IfOk result (λ _. commit.now.needs ≤ length labels.now) }
+    ensures err { IfErr result (λ e. e ≢ Memory → agrees config.now (length labels.now) (index_listing commit.now) ≡ Err e) }
+    ensures device { IfErr result (λ e. e ≢ Disk) }
+{
+    check_flags(alloc, config, &commit.kept)?;
+    let has = labels.size();
+    if commit.needs > has {
+        return Err(OpenFault::Uncovered {
+            needs: commit.needs as u64,
+            has: has as u64,
+        });
+    }
+    Ok(())
+}
+
+/// The index: the segments of its newest commit, or none. It reads the commit file and each of its segments once, and makes each segment's documents
+/// anew.
+pub(crate) fn read_index<D: Disk>(
+    alloc: Global,
+    disk: &mut D,
+    config: &FacetsConfig,
+    labels: &Taxonomy,
+    listed: &[FileName],
+) -> Result<IndexRead, OpenFault>
+    ensures ok { IfOk result (λ r. (s : Told) → D.told disk.old ≡ Some s → AreListed s.files listed.now → index_in config.now labels.now (newest_file Dir.Index s.files) (segments_in Dir.Index s.files) ≡ Ok (map arc_value r.segments.items)) }
+    ensures newest { IfOk result (λ r. (s : Told) → D.told disk.old ≡ Some s → AreListed s.files listed.now → IsNewestIndex (newest_file Dir.Index s.files) r.number r.parts.items) }
+    ensures named { IfOk result (λ r. AllZip (IsNamedAs config.now labels.now) r.parts.items (map arc_value r.segments.items)) }
+    ensures few { IfOk result (λ r. sum_by documents_of r.parts.items ≤ 1000000) }
+    ensures err { IfErr result (λ e. e ≢ Memory → e ≢ Disk → (s : Told) → D.told disk.old ≡ Some s → AreListed s.files listed.now → index_in config.now labels.now (newest_file Dir.Index s.files) (segments_in Dir.Index s.files) ≡ Err e) }
+    ensures disk { IsErrOf result Disk → Rose (D.faults disk.old) (D.faults disk.new) }
+    ensures quiet { IsQuiet D.told D.may_leave D.moment D.left_since D.faults disk.old disk.new }
+{
+    let Some(found) = read_newest(alloc, disk, listed, Dir::Index)? else {
+        return Ok(IndexRead {
+            number: None,
+            parts: Vec::new(alloc),
+            segments: Vec::new(alloc),
+        });
+    };
+    let commit = commit_of(alloc, &found)?;
+    check_commit(alloc, config, labels, &commit)?;
+    let segments = read_document_parts(
+        alloc,
+        disk,
+        config,
+        labels,
+        commit.needs,
+        listed,
+        &commit.parts,
+    )?;
+    Ok(IndexRead {
+        number: Some(found.number),
+        parts: commit.parts,
+        segments,
+    })
+}

@@ -1,0 +1,17 @@
+//! What the files of a store stand for, and reading them.
+#![tactic(auto)]
+
+mod fault;
+mod index;
+pub mod laws;
+mod newest;
+mod numbers;
+mod opening;
+mod reading;
+mod taxonomy;
+#[cfg(test)]
+mod tests;
+
+pub use fault::OpenFault;
+pub use newest::Newest;
+pub use opening::{Read, read_store};

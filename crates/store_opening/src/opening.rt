@@ -1,0 +1,93 @@
+//! Reading the store of a disk.
+ghost use Rattle.std.specs.Prelude.{◌≡◌, ◌≢◌, ◌≤◌, ◌<◌, ◌^◌, Some, Ok, Err, length, Contains, IfOk, IfErr, IsErrOf};
+ghost use Rattle.std.specs.List.{AllZip};
+ghost use Rattle.facet_disk.specs.declared.name.FileName.{FileName};
+ghost use Rattle.facet_disk.specs.Images.{Told};
+ghost use Rattle.facet_disk.specs.Calls.{Rose};
+ghost use Rattle.facet_model.specs.Stored.{Decodes};
+ghost use Rattle.commit_calls.specs.Held.{newest_file};
+ghost use Rattle.commit_file.specs.Commits.{AreInOrder};
+ghost use Rattle.seg_decoding.specs.Decoding.{docs_in};
+ghost use Rattle.store_opening.specs.declared.fault.OpenFault.TheVariants.{Disk, NoMemory as Memory};
+ghost use Rattle.store_opening.specs.Files.{files, greatest_number};
+ghost use Rattle.store_opening.specs.Newest.{AreListed, next_after, IsNewestTaxonomy, IsNewestIndex, IsNamedAs};
+ghost use Rattle.store_opening.specs.Quiet.{IsQuiet};
+ghost use Rattle.store_opening.specs.Reads.{found};
+
+use crate::fault::OpenFault;
+use crate::index::read_index;
+use crate::newest::Newest;
+use crate::numbers::next_number;
+use crate::reading::list_all;
+use crate::taxonomy::read_taxonomy;
+use facet_config::FacetsConfig;
+use facet_disk::{Dir, Disk, FileName};
+use seg_file::Segment;
+use std::alloc::Global;
+use std::sync::Arc;
+use taxo_list::Taxonomy;
+
+/// A store that was read from a disk: its labels, the segments of its documents, and the files that hold them.
+#[derive(Drop)]
+pub struct Read {
+    pub newest: Newest,
+    pub labels: Taxonomy,
+    pub segments: Vec<Arc<Segment>>,
+}
+
+/// Reads the store of a disk, and writes nothing.
+///
+/// Each directory is listed, and then the newest commit of the taxonomy is read with the segments that it names, and the newest commit of the index
+/// with those that it names. Each of these files is read once and whole; other files are not read. The first fault that is met in this order is
+/// answered.
+///
+/// It takes the time and the memory of adding all labels, and of adding all documents and building their segments once more. It keeps the labels, the
+/// segments, and the names of all files.
+pub fn read_store<D: Disk>(
+    alloc: Global,
+    disk: &mut D,
+    config: &FacetsConfig,
+) -> Result<Read, OpenFault>
+    // It is what the files stand for, or the first fault, unless memory ran out or a call of the disk failed.
+    ensures ok { IfOk result (λ r. (s : Told) → D.told disk.old ≡ Some s → files config.now s.files ≡ Ok (found r)) }
+    ensures err { IfErr result (λ e. e ≢ Memory → e ≢ Disk → (s : Told) → D.told disk.old ≡ Some s → files config.now s.files ≡ Err e) }
+    ensures disk { IsErrOf result Disk → Rose (D.faults disk.old) (D.faults disk.new) }
+    ensures quiet { IsQuiet D.told D.may_leave D.moment D.left_since D.faults disk.old disk.new }
+
+    // Whatever the disk tells, the segments are those of their documents, which are at most 1,000,000.
+    ensures decodes { IfOk result (λ r. Decodes r.labels config.now (found r).segments (docs_in r.labels (found r).segments)) }
+    ensures few { IfOk result (λ r. length (docs_in r.labels (found r).segments) ≤ 1000000) }
+
+    // All files are listed, and the next number is one more than the greatest.
+    ensures listed { IfOk result (λ r. (s : Told) → D.told disk.old ≡ Some s → AreListed s.files r.newest.listed.items) }
+    ensures next { IfOk result (λ r. (s : Told) → D.told disk.old ≡ Some s → r.newest.next ≡ next_after (greatest_number s.files)) }
+    ensures below { IfOk result (λ r. (n : FileName) → Contains r.newest.listed.items n → n.number < r.newest.next) }
+    ensures some { IfOk result (λ r. 1 ≤ r.newest.next) }
+    ensures room { IfOk result (λ r. r.newest.next ≤ 2 ^ 63) }
+
+    // The segments of labels follow one another, whatever the disk tells.
+    ensures order { IfOk result (λ r. AreInOrder (length r.labels) 1 r.newest.label_parts.items) }
+
+    // The numbers and the parts are those of the newest commits, and each part of the index is that of its segment.
+    ensures taxonomy { IfOk result (λ r. (s : Told) → D.told disk.old ≡ Some s → IsNewestTaxonomy (newest_file Dir.Taxonomy s.files) r.newest.taxonomy r.newest.label_parts.items r.labels) }
+    ensures index { IfOk result (λ r. (s : Told) → D.told disk.old ≡ Some s → IsNewestIndex (newest_file Dir.Index s.files) r.newest.index r.newest.document_parts.items) }
+    ensures named { IfOk result (λ r. AllZip (IsNamedAs config.now r.labels) r.newest.document_parts.items (found r).segments) }
+{
+    let listed = list_all(alloc, disk)?;
+    let next = next_number(&listed)?;
+    let taxonomy = read_taxonomy(alloc, disk, &listed)?;
+    let index = read_index(alloc, disk, config, &taxonomy.labels, &listed)?;
+    let newest = Newest {
+        next,
+        listed,
+        taxonomy: taxonomy.number,
+        label_parts: taxonomy.parts,
+        index: index.number,
+        document_parts: index.parts,
+    };
+    Ok(Read {
+        newest,
+        labels: taxonomy.labels,
+        segments: index.segments,
+    })
+}

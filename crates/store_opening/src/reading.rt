@@ -1,0 +1,108 @@
+//! Reading files of a disk.
+ghost use Rattle.std.specs.Prelude.{◌≡◌, ◌≢◌, ◌⊎◌, Some, Ok, Err, IfOk, IfErr, IsErrOf, option_map};
+ghost use Rattle.sha2.specs.Sha256.{sha256};
+ghost use Rattle.facet_disk.specs.Images.{Told};
+ghost use Rattle.facet_disk.specs.Calls.{Lists, Rose};
+ghost use Rattle.commit_calls.specs.Held.{newest_file};
+ghost use Rattle.store_opening.specs.declared.fault.OpenFault.TheVariants.{Disk, NoMemory as Memory};
+ghost use Rattle.store_opening.specs.Files.{segment_bytes};
+ghost use Rattle.store_opening.specs.Newest.{AreListed};
+ghost use Rattle.store_opening.specs.Commits.{commit_bytes};
+ghost use Rattle.store_opening.specs.Quiet.{IsQuiet};
+
+use crate::fault::{OpenFault, of_file};
+use crate::numbers::newest_of;
+use commit_file::check_digest;
+use facet_disk::{Dir, Disk, FileName, Kind};
+use std::alloc::Global;
+
+/// A commit file: its number and its bytes.
+#[derive(Drop)]
+pub(crate) struct CommitBytes {
+    pub(crate) number: u64,
+    pub(crate) bytes: Vec<u8>,
+}
+
+// The names of a directory.
+fn list_dir<D: Disk>(alloc: Global, disk: &mut D, dir: Dir) -> Result<Vec<FileName>, OpenFault>
+    ensures ok { IfOk result (λ v. (s : Told) → D.told disk.old ≡ Some s → Lists dir s.files v.items) }
+    ensures err { IfErr result (λ e. (e ≡ Memory) ⊎ (e ≡ Disk)) }
+    ensures disk { IsErrOf result Disk → Rose (D.faults disk.old) (D.faults disk.new) }
+    ensures quiet { IsQuiet D.told D.may_leave D.moment D.left_since D.faults disk.old disk.new }
+{
+    let names = disk.list(alloc, dir)?;
+    Ok(names.into_vec())
+}
+
+/// The names of both directories.
+pub(crate) fn list_all<D: Disk>(alloc: Global, disk: &mut D) -> Result<Vec<FileName>, OpenFault>
+    ensures ok { IfOk result (λ v. (s : Told) → D.told disk.old ≡ Some s → AreListed s.files v.items) }
+    ensures err { IfErr result (λ e. (e ≡ Memory) ⊎ (e ≡ Disk)) }
+    ensures disk { IsErrOf result Disk → Rose (D.faults disk.old) (D.faults disk.new) }
+    ensures quiet { IsQuiet D.told D.may_leave D.moment D.left_since D.faults disk.old disk.new }
+{
+    let mut names = list_dir(alloc, disk, Dir::Taxonomy)?;
+    let others = list_dir(alloc, disk, Dir::Index)?;
+    names.extend_from_slice(&others)?;
+    Ok(names)
+}
+
+// The bytes of a file.
+fn read_file<D: Disk>(alloc: Global, disk: &mut D, name: FileName) -> Result<Vec<u8>, OpenFault>
+    ensures ok { IfOk result (λ v. (s : Told) → D.told disk.old ≡ Some s → s.files name ≡ Some v.items) }
+    ensures err { IfErr result (λ e. (e ≡ Memory) ⊎ (e ≡ Disk)) }
+    ensures disk { IsErrOf result Disk → Rose (D.faults disk.old) (D.faults disk.new) }
+    ensures quiet { IsQuiet D.told D.may_leave D.moment D.left_since D.faults disk.old disk.new }
+{
+    let bytes = disk.read(alloc, name)?;
+    Ok(bytes)
+}
+
+/// The newest commit file of a directory, where there is one.
+pub(crate) fn read_newest<D: Disk>(
+    alloc: Global,
+    disk: &mut D,
+    listed: &[FileName],
+    dir: Dir,
+) -> Result<Option<CommitBytes>, OpenFault>
+    ensures ok { IfOk result (λ o. (s : Told) → D.told disk.old ≡ Some s → AreListed s.files listed.now → newest_file dir s.files ≡ option_map commit_bytes o) }
+    ensures err { IfErr result (λ e. (e ≡ Memory) ⊎ (e ≡ Disk)) }
+    ensures disk { IsErrOf result Disk → Rose (D.faults disk.old) (D.faults disk.new) }
+    ensures quiet { IsQuiet D.told D.may_leave D.moment D.left_since D.faults disk.old disk.new }
+{
+    let Some(number) = newest_of(listed, dir) else {
+        return Ok(None);
+    };
+    let name = FileName {
+        dir,
+        kind: Kind::Commit,
+        number,
+    };
+    let bytes = read_file(alloc, disk, name)?;
+    Ok(Some(CommitBytes { number, bytes }))
+}
+
+/// The bytes of a segment, which has to be listed, and to have the digest that a commit kept of it.
+#[tactic(auto, unfolding(crate::specs::Files::segment_bytes))]
+pub(crate) fn read_segment<D: Disk>(
+    alloc: Global,
+    disk: &mut D,
+    listed: &[FileName],
+    name: FileName,
+    digest: [u8; 32],
+) -> Result<Vec<u8>, OpenFault>
+    ensures ok { IfOk result (λ v. (s : Told) → D.told disk.old ≡ Some s → AreListed s.files listed.now → segment_bytes name digest (s.files name) ≡ Ok v.items) }
+    ensures digest { IfOk result (λ v. sha256 v.items ≡ digest) }
+    ensures err { IfErr result (λ e. e ≢ Memory → e ≢ Disk → (s : Told) → D.told disk.old ≡ Some s → AreListed s.files listed.now → segment_bytes name digest (s.files name) ≡ Err e) }
+    ensures disk { IsErrOf result Disk → Rose (D.faults disk.old) (D.faults disk.new) }
+    ensures quiet { IsQuiet D.told D.may_leave D.moment D.left_since D.faults disk.old disk.new }
+{
+    if !listed.contains(&name) {
+        return Err(OpenFault::Missing { name });
+    }
+    let bytes = read_file(alloc, disk, name)?;
+    if let Err(fault) = check_digest(digest, &bytes) {
+        return Err(of_file(name, fault));
+    }
+    Ok(bytes)
+}

@@ -1,0 +1,127 @@
+//! The taxonomy of a disk.
+ghost use Rattle.std.specs.Prelude.{◌≡◌, ◌≢◌, ◌+◌, ◌≤◌, [], ◌∷◌, ℕ, List, Option, Some, Ok, Err, length, IfOk, IfErr, OnOk, IsErrOf};
+ghost use Rattle.facet_codec.specs.Faults.{told_as};
+ghost use Rattle.facet_disk.specs.Images.{Told};
+ghost use Rattle.facet_disk.specs.Calls.{Rose};
+ghost use Rattle.commit_calls.specs.Held.{file, newest_file};
+ghost use Rattle.commit_file.specs.Commits.{AreInOrder, taxonomy_listing};
+ghost use Rattle.commit_file.specs.Reading.{taxonomy_commit};
+ghost use Rattle.store_opening.specs.declared.fault.OpenFault.TheVariants.{Disk, NoMemory as Memory};
+ghost use Rattle.store_opening.specs.Files.{segments_in, of_file, labels_behind, labels_of, taxonomy_in};
+ghost use Rattle.store_opening.specs.Newest.{AreListed, IsNewestTaxonomy};
+ghost use Rattle.store_opening.specs.Quiet.{IsQuiet};
+
+use crate::fault::{OpenFault, of_file, of_labels};
+use crate::reading::{CommitBytes, read_newest, read_segment};
+use commit_file::{LabelPart, TaxonomyCommit, read_taxonomy_commit};
+use facet_disk::{Dir, Disk, FileName, Kind};
+use label_file::read_labels;
+use std::alloc::Global;
+use taxo_list::Taxonomy;
+
+/// A taxonomy that was read, and the commit that names its segments.
+#[derive(Drop)]
+pub(crate) struct TaxonomyRead {
+    pub(crate) number: Option<u64>,
+    pub(crate) parts: Vec<LabelPart>,
+    pub(crate) labels: Taxonomy,
+}
+
+// Reads the labels of a segment behind these.
+#[tactic(auto, unfolding(crate::specs::Files::labels_behind))]
+fn read_label_part<D: Disk>(
+    alloc: Global,
+    disk: &mut D,
+    listed: &[FileName],
+    part: LabelPart,
+    labels: &mut Taxonomy,
+) -> Result<(), OpenFault>
+    requires first { length labels.old ≡ part.first }
+    requires few { part.first + part.count ≤ 1000000 }
+    ensures ok { OnOk result ((s : Told) → D.told disk.old ≡ Some s → AreListed s.files listed.now → labels_behind (segments_in Dir.Taxonomy s.files) labels.old part ≡ Ok labels.new) }
+    ensures count { OnOk result (length labels.new ≡ length labels.old + part.count) }
+    ensures err { IfErr result (λ e. e ≢ Memory → e ≢ Disk → (s : Told) → D.told disk.old ≡ Some s → AreListed s.files listed.now → labels_behind (segments_in Dir.Taxonomy s.files) labels.old part ≡ Err e) }
+    ensures disk { IsErrOf result Disk → Rose (D.faults disk.old) (D.faults disk.new) }
+    ensures quiet { IsQuiet D.told D.may_leave D.moment D.left_since D.faults disk.old disk.new }
+{
+    let name = FileName {
+        dir: Dir::Taxonomy,
+        kind: Kind::Segment,
+        number: part.number,
+    };
+    let bytes = read_segment(alloc, disk, listed, name, part.digest)?;
+    if let Err(fault) = read_labels(labels, alloc, part.first, part.count, &bytes) {
+        return Err(of_labels(name, fault));
+    }
+    Ok(())
+}
+
+// Reads so many labels: those of these segments behind the root.
+fn read_label_parts<D: Disk>(
+    alloc: Global,
+    disk: &mut D,
+    listed: &[FileName],
+    total: u32,
+    parts: &[LabelPart],
+) -> Result<Taxonomy, OpenFault>
+    requires order { AreInOrder total 1 parts.now }
+    requires few { total ≤ 1000000 }
+    ensures ok { IfOk result (λ labels. (s : Told) → D.told disk.old ≡ Some s → AreListed s.files listed.now → labels_of (segments_in Dir.Taxonomy s.files) ([] ∷ []) parts.now ≡ Ok labels) }
+    ensures count { IfOk result (λ labels. length labels ≡ total) }
+    ensures err { IfErr result (λ e. e ≢ Memory → e ≢ Disk → (s : Told) → D.told disk.old ≡ Some s → AreListed s.files listed.now → labels_of (segments_in Dir.Taxonomy s.files) ([] ∷ []) parts.now ≡ Err e) }
+    ensures disk { IsErrOf result Disk → Rose (D.faults disk.old) (D.faults disk.new) }
+    ensures quiet { IsQuiet D.told D.may_leave D.moment D.left_since D.faults disk.old disk.new }
+{
+    let mut labels = Taxonomy::new(alloc)?;
+    for part in parts {
+        read_label_part(alloc, disk, listed, *part, &mut labels)?;
+    }
+    Ok(labels)
+}
+
+// The commit of the taxonomy that a file is.
+fn commit_of(alloc: Global, found: &CommitBytes) -> Result<TaxonomyCommit, OpenFault>
+    ensures ok { IfOk result (λ c. taxonomy_commit found.now.number found.now.bytes.items ≡ Ok (taxonomy_listing c)) }
+    ensures order { IfOk result (λ c. AreInOrder c.labels 1 c.parts.items) }
+    ensures few { IfOk result (λ c. c.labels ≤ 1000000) }
+    ensures err { IfErr result (λ e. e ≢ Memory → told_as (of_file (file Dir.Taxonomy Kind.Commit found.now.number)) (taxonomy_commit found.now.number found.now.bytes.items) ≡ Err e) }
+{
+    let name = FileName {
+        dir: Dir::Taxonomy,
+        kind: Kind::Commit,
+        number: found.number,
+    };
+    match read_taxonomy_commit(alloc, found.number, &found.bytes) {
+        Ok(commit) => Ok(commit),
+        Err(fault) => Err(of_file(name, fault)),
+    }
+}
+
+/// The taxonomy: the labels of its newest commit, or the root alone. It reads the commit file and each of its segments once.
+pub(crate) fn read_taxonomy<D: Disk>(
+    alloc: Global,
+    disk: &mut D,
+    listed: &[FileName],
+) -> Result<TaxonomyRead, OpenFault>
+    ensures ok { IfOk result (λ r. (s : Told) → D.told disk.old ≡ Some s → AreListed s.files listed.now → taxonomy_in (newest_file Dir.Taxonomy s.files) (segments_in Dir.Taxonomy s.files) ≡ Ok r.labels) }
+    ensures newest { IfOk result (λ r. (s : Told) → D.told disk.old ≡ Some s → AreListed s.files listed.now → IsNewestTaxonomy (newest_file Dir.Taxonomy s.files) r.number r.parts.items r.labels) }
+    ensures err { IfErr result (λ e. e ≢ Memory → e ≢ Disk → (s : Told) → D.told disk.old ≡ Some s → AreListed s.files listed.now → taxonomy_in (newest_file Dir.Taxonomy s.files) (segments_in Dir.Taxonomy s.files) ≡ Err e) }
+    ensures order { IfOk result (λ r. AreInOrder (length r.labels) 1 r.parts.items) }
+    ensures disk { IsErrOf result Disk → Rose (D.faults disk.old) (D.faults disk.new) }
+    ensures quiet { IsQuiet D.told D.may_leave D.moment D.left_since D.faults disk.old disk.new }
+{
+    let Some(found) = read_newest(alloc, disk, listed, Dir::Taxonomy)? else {
+        return Ok(TaxonomyRead {
+            number: None,
+            parts: Vec::new(alloc),
+            labels: Taxonomy::new(alloc)?,
+        });
+    };
+    let commit = commit_of(alloc, &found)?;
+    let labels = read_label_parts(alloc, disk, listed, commit.labels, &commit.parts)?;
+    Ok(TaxonomyRead {
+        number: Some(found.number),
+        parts: commit.parts,
+        labels,
+    })
+}
