@@ -1,0 +1,14 @@
+pub mod SameBytes
+pub mod Rising
+pub mod Held
+pub mod Keeping
+pub mod Ordering
+pub mod Counting
+pub mod Numbers
+pub mod LeadingLabels
+pub mod LeadingIndex
+pub mod Standing
+pub mod Promises
+pub mod Named
+pub mod FromDisk
+pub mod Leading

@@ -1,0 +1,84 @@
+use Rattle.std.proofs.Common.{rules, ◌≡◌, refl, sym, subst, ℕ, map, false}
+use Rattle.std.specs.Arc.{arc_value}
+use Rattle.std.specs.Prelude.{is_err}
+use Rattle.commit_calls.specs.Outcomes.{carried_told}
+use Rattle.commit_calls.specs.Moments.{IsAt, IsOneOfThree}
+use Rattle.commit_store.specs.Committing.{HasOneOfThree}
+use Rattle.commit_store.proofs.Promises.{on_ok, leaves_weaker, leaves_same, here_now, led, one_of_three}
+use Rattle.commit_store.proofs.committer.Committer.commit.Goals as goal
+
+pub returns-in_err-planned-clause-now : goal.returns-in_err-planned-clause-now
+returns-in_err-planned-clause-now g c = λ s labels segs unclosed is at on.
+    here_now c.of_files.ensures.stands g.D.Disk.may_leave c.args.self.now.config c.args.self.now.state c.args.self.now.disk labels c.args.view.now segs (map arc_value c.args.segments.now) at
+
+pub returns-in_err-planned-clause-any_moment : goal.returns-in_err-planned-clause-any_moment
+returns-in_err-planned-clause-any_moment g c = λ s labels segs unclosed is at on.
+    let laws = g.met.D.Disk g.world.𝓛 g.world.𝓜 g.world.𝓡 ((λ s x. x), (λ x. x), (λ x. x), λ x. x) in
+    leaves_same g.D.Disk.moment g.D.Disk.left_since g.D.Disk.may_leave laws.only_now c.args.self.now.disk (HasOneOfThree c.args.self.now.config labels segs c.args.view.now (map arc_value c.args.segments.now))
+    (returns-in_err-planned-clause-now g c s labels segs unclosed is at on)
+
+pub returns-then-is_err-clause-refused : goal.returns-then-is_err-clause-refused
+returns-then-is_err-clause-refused g c = λ other. absurd (other c.fault_count-count.result refl)
+
+pub returns-then-is_err-clause-any_moment : goal.returns-then-is_err-clause-any_moment
+returns-then-is_err-clause-any_moment g c = λ s labels segs unclosed is at on.
+    let laws = g.met.D.Disk g.world.𝓛 g.world.𝓜 g.world.𝓡 ((λ s x. x), (λ x. x), (λ x. x), λ x. x) in
+    let config = c.args.self.now.config in let old = c.args.self.now.state in let disk = c.args.self.now.disk in let view = c.args.view.now in let ss = map arc_value c.args.segments.now in
+    let plan = c.in_ok-planned.planned.plan in let new = c.in_ok-planned.planned.after in
+    let all = led c.of_files.ensures.stands g.D.Disk.may_leave config old disk labels view segs ss at plan new g.D.Disk.told laws.own s is c.in_ok-planned.ensures.leads on in
+    let from : IsAt g.D.Disk.may_leave plan.from at.taxonomy at.index disk = subst (λ (n : ℕ). IsAt g.D.Disk.may_leave n at.taxonomy at.index disk) (sym c.in_ok-planned.ensures.plan.from) at.stands in
+    leaves_weaker g.D.Disk.moment g.D.Disk.left_since disk c.carry_out.new.disk (IsOneOfThree plan.to at.taxonomy at.index all.taxonomy_after all.index_after) (HasOneOfThree config labels segs view ss)
+    (one_of_three c.of_files.ensures.stands g.D.Disk.may_leave config old disk labels view segs ss at plan new g.D.Disk.told laws.own s is c.in_ok-planned.ensures.leads on)
+    (c.carry_out.ensures.any_moment s at.taxonomy at.index all.taxonomy_after all.index_after is all.leads from)
+
+pub returns-then-is_err-clause-now : goal.returns-then-is_err-clause-now
+returns-then-is_err-clause-now g c = λ s labels segs unclosed is at on image left.
+    let laws = g.met.D.Disk g.world.𝓛 g.world.𝓜 g.world.𝓡 ((λ s x. x), (λ x. x), (λ x. x), λ x. x) in
+    let config = c.args.self.now.config in let old = c.args.self.now.state in let disk = c.args.self.now.disk in let view = c.args.view.now in let ss = map arc_value c.args.segments.now in
+    let plan = c.in_ok-planned.planned.plan in let new = c.in_ok-planned.planned.after in
+    let all = led c.of_files.ensures.stands g.D.Disk.may_leave config old disk labels view segs ss at plan new g.D.Disk.told laws.own s is c.in_ok-planned.ensures.leads on in
+    let from : IsAt g.D.Disk.may_leave plan.from at.taxonomy at.index disk = subst (λ (n : ℕ). IsAt g.D.Disk.may_leave n at.taxonomy at.index disk) (sym c.in_ok-planned.ensures.plan.from) at.stands in
+    one_of_three c.of_files.ensures.stands g.D.Disk.may_leave config old disk labels view segs ss at plan new g.D.Disk.told laws.own s is c.in_ok-planned.ensures.leads on image
+    (c.carry_out.ensures.now s at.taxonomy at.index all.taxonomy_after all.index_after is all.leads from image left)
+
+pub returns-clause-any_moment : goal.returns-clause-any_moment
+returns-clause-any_moment g c = λ s labels segs unclosed is at on.
+    let laws = g.met.D.Disk g.world.𝓛 g.world.𝓜 g.world.𝓡 ((λ s x. x), (λ x. x), (λ x. x), λ x. x) in
+    let config = c.args.self.now.config in let old = c.args.self.now.state in let disk = c.args.self.now.disk in let view = c.args.view.now in let ss = map arc_value c.args.segments.now in
+    let plan = c.in_ok-planned.planned.plan in let new = c.in_ok-planned.planned.after in
+    let all = led c.of_files.ensures.stands g.D.Disk.may_leave config old disk labels view segs ss at plan new g.D.Disk.told laws.own s is c.in_ok-planned.ensures.leads on in
+    let from : IsAt g.D.Disk.may_leave plan.from at.taxonomy at.index disk = subst (λ (n : ℕ). IsAt g.D.Disk.may_leave n at.taxonomy at.index disk) (sym c.in_ok-planned.ensures.plan.from) at.stands in
+    leaves_weaker g.D.Disk.moment g.D.Disk.left_since disk c.carry_out.new.disk (IsOneOfThree plan.to at.taxonomy at.index all.taxonomy_after all.index_after) (HasOneOfThree config labels segs view ss)
+    (one_of_three c.of_files.ensures.stands g.D.Disk.may_leave config old disk labels view segs ss at plan new g.D.Disk.told laws.own s is c.in_ok-planned.ensures.leads on)
+    (c.carry_out.ensures.any_moment s at.taxonomy at.index all.taxonomy_after all.index_after is all.leads from)
+
+pub returns-clause-now : goal.returns-clause-now
+returns-clause-now g c = λ s labels segs unclosed is at on image left.
+    let laws = g.met.D.Disk g.world.𝓛 g.world.𝓜 g.world.𝓡 ((λ s x. x), (λ x. x), (λ x. x), λ x. x) in
+    let config = c.args.self.now.config in let old = c.args.self.now.state in let disk = c.args.self.now.disk in let view = c.args.view.now in let ss = map arc_value c.args.segments.now in
+    let plan = c.in_ok-planned.planned.plan in let new = c.in_ok-planned.planned.after in
+    let all = led c.of_files.ensures.stands g.D.Disk.may_leave config old disk labels view segs ss at plan new g.D.Disk.told laws.own s is c.in_ok-planned.ensures.leads on in
+    let from : IsAt g.D.Disk.may_leave plan.from at.taxonomy at.index disk = subst (λ (n : ℕ). IsAt g.D.Disk.may_leave n at.taxonomy at.index disk) (sym c.in_ok-planned.ensures.plan.from) at.stands in
+    one_of_three c.of_files.ensures.stands g.D.Disk.may_leave config old disk labels view segs ss at plan new g.D.Disk.told laws.own s is c.in_ok-planned.ensures.leads on image
+    (c.carry_out.ensures.now s at.taxonomy at.index all.taxonomy_after all.index_after is all.leads from image left)
+
+pub returns-clause-acknowledged : goal.returns-clause-acknowledged
+returns-clause-acknowledged g c = λ s labels segs is at on empty.
+    let laws = g.met.D.Disk g.world.𝓛 g.world.𝓜 g.world.𝓡 ((λ s x. x), (λ x. x), (λ x. x), λ x. x) in
+    let config = c.args.self.now.config in let old = c.args.self.now.state in let disk = c.args.self.now.disk in let view = c.args.view.now in let ss = map arc_value c.args.segments.now in
+    let plan = c.in_ok-planned.planned.plan in let new = c.in_ok-planned.planned.after in
+    let all = led c.of_files.ensures.stands g.D.Disk.may_leave config old disk labels view segs ss at plan new g.D.Disk.told laws.own s is c.in_ok-planned.ensures.leads on in
+    let from : IsAt g.D.Disk.may_leave plan.from at.taxonomy at.index disk = subst (λ (n : ℕ). IsAt g.D.Disk.may_leave n at.taxonomy at.index disk) (sym c.in_ok-planned.ensures.plan.from) at.stands in
+    let fine : is_err c.carry_out.result ≡ false = search rules in
+    let done = on_ok c.carry_out.result _ c.carry_out.ensures.done fine in
+    record {
+      taxonomy = all.taxonomy_after;
+      index = all.index_after;
+      stands = subst (λ (n : ℕ). IsAt g.D.Disk.may_leave n all.taxonomy_after all.index_after c.carry_out.new.disk) c.in_ok-planned.ensures.plan.to (done s at.taxonomy at.index all.taxonomy_after all.index_after is all.leads from);
+      known = all.known empty;
+    }
+
+pub returns-clause-tells : goal.returns-clause-tells
+returns-clause-tells g c = λ s is.
+    let fine : is_err c.carry_out.result ≡ false = search rules in
+    (carried_told c.in_ok-planned.planned.plan s, on_ok c.carry_out.result _ c.carry_out.ensures.told fine s is)

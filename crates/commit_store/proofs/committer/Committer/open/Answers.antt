@@ -1,0 +1,22 @@
+use Rattle.std.proofs.Common.{rules, ◌≡◌, map, sym, subst}
+use Rattle.std.specs.Arc.{arc_value}
+use Rattle.facet_disk.specs.declared.name.Dir.TheVariants.{Taxonomy, Index}
+use Rattle.commit_calls.specs.Held.{Below}
+use Rattle.store_opening.specs.Settled.{held_in}
+use Rattle.commit_store.specs.Committed.{Committed}
+use Rattle.commit_store.specs.Openings.{committed_read}
+use Rattle.commit_store.specs.Plannings.{IsCommittedAt}
+use Rattle.commit_store.proofs.FromDisk.{read_known, at_unchanged}
+use Rattle.commit_store.proofs.committer.Committer.open.Goals as goal
+
+pub returns-clause-committed : goal.returns-clause-committed
+returns-clause-committed g c = λ s is settled.
+    let config = c.args.config in let labels = c.in-Ok.read.labels in let ss = map arc_value c.in-Ok.read.segments.items in let n = c.in-Ok.read.newest in
+    let files_are = c.in-Ok.ensures.ok s is in
+    let known = read_known config labels c.of_files.ensures.held s.files n ss files_are (c.in-Ok.ensures.taxonomy s is) (c.in-Ok.ensures.index s is) c.in-Ok.ensures.named in
+    let state : c.in-Ok-state_of.state ≡ committed_read n labels ss = search rules in
+    let below : Below n.next s.files = λ name some. c.in-Ok.ensures.below name ((c.in-Ok.ensures.listed s is).all name some) in
+    let at = c.of_settled.ensures config s (record { labels = labels; segments = ss }) n.next settled files_are below in
+    let after = at_unchanged g.D.Disk.may_leave g.D.Disk.moment g.D.Disk.left_since n.next (held_in Taxonomy s.files) (held_in Index s.files) c.args.disk c.read_store.new.disk c.in-Ok.ensures.quiet.passes at in
+    subst (λ (st : Committed). IsCommittedAt g.D.Disk.may_leave config st c.read_store.new.disk labels ss) (sym state)
+    (record { taxonomy = held_in Taxonomy s.files; index = held_in Index s.files; stands = after; known = known })

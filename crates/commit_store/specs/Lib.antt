@@ -1,0 +1,5 @@
+pub mod Committed
+pub mod Drafts
+pub mod Plannings
+pub mod Committing
+pub mod Openings

@@ -1,0 +1,117 @@
+ghost use Rattle.std.specs.Prelude.{◌≡◌, ◌≤◌, [], length, map, IfOk};
+ghost use Rattle.std.specs.Arc.{arc_value};
+ghost use Rattle.facet_model.specs.Stored.{Decodes};
+ghost use Rattle.seg_decoding.specs.Decoding.{docs_in, records_in};
+
+use crate::{CommitFault, Committer, Opened};
+use commit_file::{DocumentPart, LabelPart, digest_of, write_index_commit, write_taxonomy_commit};
+use facet_config::FacetsConfig;
+use facet_disk::{Dir, Disk, FileName, Kind, MemoryDisk};
+use seg_file::Segment;
+use std::alloc::Global;
+use std::sync::Arc;
+use std::test::Fail;
+use taxo_list::TaxoView;
+
+// Author and Author/Bob, from ordinal 1.
+const LABELS: &[u8] = b"FTAX\x00\x00\x00\x01\x00\x00\x00\x01\x00\x00\x00\x02\
+\x00\x00\x00\x00\x06Author\x00\x00\x00\x01\x03Bob";
+
+// One document with the id `b1`, the text `Rust` and the label Author/Bob.
+const DOCUMENTS: &[u8] = b"FSEG\x00\x00\x00\x01\x00\x00\x00\x01\
+\x02b1\x04Rust\x01\x00\x00\x00\x02\x01\x00\x00\x00\x02\
+\x00\x00\x00\x03\x07fAuthor\x00\x00\x00\x01\x00\x00\x00\x00\
+\x0bfAuthor\x1fBob\x00\x00\x00\x01\x00\x00\x00\x00\x05wrust\x00\x00\x00\x01\x00\x00\x00\x00";
+
+// What is committed.
+#[derive(Drop)]
+struct Batch {
+    view: TaxoView,
+    segments: Vec<Arc<Segment>>,
+}
+
+fn name(dir: Dir, kind: Kind, number: u64) -> FileName {
+    FileName { dir, kind, number }
+}
+
+// A disk where the files of one document were put by hand.
+fn stored(alloc: Global) -> Result<MemoryDisk, Fail> {
+    let mut disk = MemoryDisk::new(alloc, Vec::new(alloc));
+    let labels = [LabelPart {
+        number: 1,
+        first: 1,
+        count: 2,
+        digest: digest_of(LABELS),
+    }];
+    let documents = [DocumentPart {
+        number: 3,
+        documents: 1,
+        digest: digest_of(DOCUMENTS),
+    }];
+    let taxonomy = write_taxonomy_commit(alloc, 2, 3, &labels)?;
+    let index = write_index_commit(alloc, 4, 3, &FacetsConfig::new(alloc), &documents)?;
+    disk.put(name(Dir::Taxonomy, Kind::Segment, 1), LABELS)?;
+    disk.put(name(Dir::Taxonomy, Kind::Commit, 2), &taxonomy)?;
+    disk.put(name(Dir::Index, Kind::Segment, 3), DOCUMENTS)?;
+    disk.put(name(Dir::Index, Kind::Commit, 4), &index)?;
+    Ok(disk)
+}
+
+// Opens a disk with no declared dimension.
+fn opened(alloc: Global, disk: MemoryDisk) -> Result<Opened<MemoryDisk>, Fail>
+    ensures config { IfOk result (λ o. o.committer.config ≡ []) }
+    ensures decodes { IfOk result (λ o. Decodes o.labels [] (map arc_value o.segments.items) (docs_in o.labels (map arc_value o.segments.items))) }
+    ensures few { IfOk result (λ o. length (docs_in o.labels (map arc_value o.segments.items)) ≤ 1000000) }
+{
+    match Committer::open(alloc, disk, FacetsConfig::new(alloc)) {
+        Ok(opened) => Ok(opened),
+        Err(_) => Err("a disk that is opened".into()),
+    }
+}
+
+// The labels and the segment of that disk.
+fn one_document(alloc: Global) -> Result<Batch, Fail>
+    ensures decodes { IfOk result (λ b. Decodes b.view [] (map arc_value b.segments.items) (docs_in b.view (map arc_value b.segments.items))) }
+    ensures few { IfOk result (λ b. length (records_in (map arc_value b.segments.items)) ≤ 1000000) }
+{
+    let disk = stored(alloc)?;
+    let Opened {
+        committer,
+        labels,
+        segments,
+    } = opened(alloc, disk)?;
+    drop(committer);
+    let view = labels.view()?;
+    Ok(Batch { view, segments })
+}
+
+#[test]
+fn commits_and_opens_again(rt: HostRuntime) -> Result<(), Fail> {
+    let alloc = rt.alloc();
+    let batch = one_document(alloc)?;
+    let disk = MemoryDisk::new(alloc, Vec::new(alloc));
+    let Opened { mut committer, .. } = opened(alloc, disk)?;
+    assert!(rt; committer.commit(&batch.view, &batch.segments) == Ok(()));
+    let disk = committer.into_disk();
+    // Two calls listed the directories.
+    assert_eq!(rt; disk.call_count(), 14);
+    let again = opened(alloc, disk)?;
+    assert!(rt; again.labels.size() == 3 && again.segments.len() == 1);
+    assert!(rt; again.committer.state.next == 5 && again.committer.state.listed.len() == 4);
+    Ok(())
+}
+
+#[test]
+fn is_closed_after_a_fault(rt: HostRuntime) -> Result<(), Fail> {
+    let alloc = rt.alloc();
+    let batch = one_document(alloc)?;
+    let disk = MemoryDisk::new(alloc, vec![in alloc; 7]?);
+    let Opened { mut committer, .. } = opened(alloc, disk)?;
+    let first = committer.commit(&batch.view, &batch.segments);
+    assert!(rt; first == Err(CommitFault::Disk { count: 1 }));
+    let second = committer.commit(&batch.view, &batch.segments);
+    assert!(rt; second == Err(CommitFault::Closed { count: 1 }));
+    let again = opened(alloc, committer.into_disk())?;
+    assert!(rt; again.labels.size() == 1 && again.segments.is_empty());
+    Ok(())
+}
