@@ -1,5 +1,6 @@
 pub mod Bounds
 pub mod Carrying
+pub mod Early
 pub mod Images
 pub mod Lists
 pub mod Names

@@ -1,4 +1,4 @@
-ghost use Rattle.std.specs.Prelude.{◌≡◌, ◌≢◌, ◌≤◌, ℕ, Some, IfSome, IfErr, OnOk, false};
+ghost use Rattle.std.specs.Prelude.{◌≡◌, ◌≢◌, ◌≤◌, ℕ, Some, IfSome, IfErr, OnOk, OnErr, take, false};
 ghost use Rattle.facet_disk.specs.declared.fault.DiskFault.TheVariants.{NoMemory};
 ghost use Rattle.facet_disk.specs.declared.name.Kind.TheVariants.{Pending, Commit};
 ghost use Rattle.facet_disk.specs.Images.{Image, Told};
@@ -8,7 +8,7 @@ ghost use Rattle.commit_calls.specs.Held.{Held, Below, file};
 ghost use Rattle.commit_calls.specs.Moments.{Passes, LeavesOnly, IsAt, IsOneOfThree};
 ghost use Rattle.commit_calls.specs.Plans.{Rises, IsPlan, Leads};
 ghost use Rattle.commit_calls.specs.Stages.{Beside, AreWritten, IsPublished, Without};
-ghost use Rattle.commit_calls.specs.Outcomes.{file_told, files_told, published_told, cleared_told, carried_told};
+ghost use Rattle.commit_calls.specs.Outcomes.{file_told, files_told, published_told, cleared_told, carried_told, IsToldBelow, IsCutShort};
 
 use crate::plan::{Plan, Write};
 use facet_disk::{Dir, Disk, DiskFault, FileName, Kind};
@@ -18,6 +18,7 @@ fn write_file<D: Disk>(disk: &mut D, name: FileName, bytes: &[u8]) -> Result<(),
     ensures passes { Passes D.may_leave D.moment D.left_since (PutOf name) disk.old disk.new }
     ensures durable { OnOk result ((s : Told) → D.told disk.old ≡ Some s → (c : Image) → D.may_leave disk.new c → c name ≡ Some bytes.now) }
     ensures told { OnOk result ((s : Told) → D.told disk.old ≡ Some s → D.told disk.new ≡ Some (file_told s name bytes.now)) }
+    ensures below { (s : Told) (next : ℕ) → next ≤ name.number → D.told disk.old ≡ Some s → IsToldBelow next s (D.told disk.new) }
     ensures cause { HasCause (D.faults disk.old) (D.faults disk.new) result }
     ensures memory { IfErr result (λ e. e ≢ NoMemory) }
 {
@@ -31,6 +32,7 @@ fn write_files<D: Disk>(disk: &mut D, files: &[Write]) -> Result<(), DiskFault>
     ensures passes { (from to : ℕ) → Rises from to files.now → Passes D.may_leave D.moment D.left_since (Beside from to) disk.old disk.new }
     ensures durable { OnOk result ((s : Told) (from to : ℕ) → Rises from to files.now → D.told disk.old ≡ Some s → (c : Image) → D.may_leave disk.new c → AreWritten files.now c) }
     ensures told { OnOk result ((s : Told) → D.told disk.old ≡ Some s → D.told disk.new ≡ Some (files_told files.now s)) }
+    ensures below { (s : Told) (from to : ℕ) → Rises from to files.now → D.told disk.old ≡ Some s → IsToldBelow from s (D.told disk.new) }
     ensures cause { HasCause (D.faults disk.old) (D.faults disk.new) result }
     ensures memory { IfErr result (λ e. e ≢ NoMemory) }
 {
@@ -51,6 +53,7 @@ fn publish<D: Disk>(disk: &mut D, dir: Dir, part: Option<u64>) -> Result<(), Dis
         → (c : Image) → D.may_leave disk.new c
         → (d : Image) × D.may_leave disk.old d × IsPublished dir part d c × IfSome part (λ n. c (file dir Commit n) ≡ s.files (file dir Pending n))) }
     ensures told { OnOk result ((s : Told) → D.told disk.old ≡ Some s → D.told disk.new ≡ Some (published_told dir part s)) }
+    ensures below { (s : Told) (next : ℕ) → IfSome part (λ n. next ≤ n) → D.told disk.old ≡ Some s → IsToldBelow next s (D.told disk.new) }
     ensures cause { HasCause (D.faults disk.old) (D.faults disk.new) result }
     ensures memory { IfErr result (λ e. e ≢ NoMemory) }
 {
@@ -76,6 +79,7 @@ fn publish<D: Disk>(disk: &mut D, dir: Dir, part: Option<u64>) -> Result<(), Dis
 fn clear<D: Disk>(disk: &mut D, names: &[FileName]) -> Result<(), DiskFault>
     ensures passes { Passes D.may_leave D.moment D.left_since (Without names.now) disk.old disk.new }
     ensures told { OnOk result ((s : Told) → D.told disk.old ≡ Some s → D.told disk.new ≡ Some (cleared_told names.now s)) }
+    ensures partly { (s : Told) → D.told disk.old ≡ Some s → (k : ℕ) × (D.told disk.new ≡ Some (cleared_told (take k names.now) s)) }
     ensures cause { HasCause (D.faults disk.old) (D.faults disk.new) result }
     ensures memory { IfErr result (λ e. e ≢ NoMemory) }
 {
@@ -117,6 +121,9 @@ pub fn carry_out<D: Disk>(disk: &mut D, plan: &Plan) -> Result<(), DiskFault>
     // After Ok a read gives what the plan makes of the files, and their numbers stay below its end.
     ensures told { OnOk result ((s : Told) → D.told disk.old ≡ Some s → D.told disk.new ≡ Some (carried_told plan.now s)) }
     ensures names { OnOk result ((s u : Told) → D.told disk.old ≡ Some s → D.told disk.new ≡ Some u → Below plan.now.from s.files → Below plan.now.to u.files) }
+
+    // Wherever it ends, it has removed strays in their order, and none before all else is done.
+    ensures cut_short { OnErr result ((s : Told) → D.told disk.old ≡ Some s → IsCutShort plan.now s (D.told disk.new)) }
 
     ensures cause { HasCause (D.faults disk.old) (D.faults disk.new) result }
     ensures memory { IfErr result (λ e. e ≢ NoMemory) }

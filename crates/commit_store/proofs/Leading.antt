@@ -23,6 +23,9 @@ use Rattle.seg_decoding.specs.Laws.{OpensLater, OpensAlike}
 use Rattle.store_opening.specs.Files.{held_segments, taxonomy_in, index_in, files_of}
 use Rattle.commit_store.specs.Committed.{Committed, Kept, IsCommitted, IsOwn, segments_in}
 use Rattle.commit_store.specs.Drafts.{drafted, labels_first, nothing_drafted, kept_after, is_longer, is_index_left_out, are_same, commit_names, placed, committed_after, with_labels, with_index}
+use Rattle.commit_store.specs.Strays.{in_order}
+use Rattle.commit_store.proofs.InOrder.{in_order_has}
+use Rattle.commit_store.proofs.Cleaning.{named_after, no_stray}
 use Rattle.commit_store.specs.Plannings.{IsKnown, IsPlanOf, IsReadAgain, AreLed, AreFirst}
 use Rattle.commit_store.proofs.Keeping.{AreReadOnce, pairs}
 use Rattle.commit_store.proofs.LeadingIndex.{IndexLed, index_led, index_files, same_segments}
@@ -100,8 +103,8 @@ module _ (config : Config) (old : Committed) (view : Labels) (ss : List Records)
     led_i : (i' : Held) × IndexLed p.writes.items config old view ss (labels_first old view) (is_index_left_out old ss) i i'
     led_i = index_led p.writes.items config old view ss (labels_first old view) i again later alike list committed.kept own pieces are (labels_numbers old view).0 below_i one known.index known.kept read.documents all_made
 
-    apart : (name : FileName) → Contains p.strays.items name → Contains (committed_after config old view ss).listed name → ⊥
-    apart name has also = is.strays name has (subst (λ (s : Committed). Contains s.listed name) (sym is.after) also)
+    apart : (name : FileName) → Contains p.strays.items name → Contains (named_after config old view ss) name → ⊥
+    apart name has also = no_stray old.listed (in_order (named_after config old view ss)) name (subst (λ (names : List FileName). Contains names name) is.strays has) (in_order_has (named_after config old view ss) name also)
 
     middle_files : files_of config led_t.0 i ≡ Ok (record { labels = view; segments = segs })
     middle_files = files_found config led_t.0 i view segs led_t.1.reads (index_longer config labels view (longer labels) list_before list on (held_segments i) i.commit segs before.1)

@@ -11,4 +11,7 @@ pub mod Standing
 pub mod Promises
 pub mod Named
 pub mod FromDisk
+pub mod InOrder
+pub mod Cleaning
+pub mod Listed
 pub mod Leading

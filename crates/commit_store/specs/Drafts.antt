@@ -21,6 +21,7 @@ use Rattle.label_file.specs.LabelBytes.{labels_bytes}
 use Rattle.label_file.specs.LabelReading.{stored_labels}
 use Rattle.seg_grammar.specs.Spelling.{seg_bytes}
 use Rattle.commit_store.specs.Committed.{Kept, Committed, parts_in}
+use Rattle.commit_store.specs.Strays.{in_order, strays}
 
 -- files to be made, each by its name and its bytes, the first number and the next one
 pub record Drafted : Type 0 where
@@ -181,7 +182,7 @@ named_files taxonomy label_parts index kept = commit_names Taxonomy taxonomy ++ 
 abbrev pub committed_by : Option ℕ → List LabelPart → ℕ → Option ℕ → List Kept → ℕ → Committed
 committed_by taxonomy label_parts labels index kept next = record {
   next = next;
-  listed = named_files taxonomy label_parts index kept;
+  listed = in_order (named_files taxonomy label_parts index kept);
   taxonomy = taxonomy;
   label_parts = label_parts;
   labels = labels;
@@ -193,6 +194,10 @@ abbrev pub committed_after : Config → Committed → List (List (List ℕ)) →
 committed_after config old view segments = committed_by
     (option_or (labels_number old view) old.taxonomy) (label_parts_after old view) (labels_after old view)
     (option_or (index_number old view segments) old.index) (kept_after old view segments) (drafted config old view segments).next
+
+-- The files that a commit removes: those listed before it that are neither a newest commit file after it nor named by one. Of the files that it puts itself none is left over: each is named after it, or renamed.
+abbrev pub strays_after : Config → Committed → List (List (List ℕ)) → List Records → List FileName
+strays_after config old view segments = strays old.listed (committed_after config old view segments).listed
 
 -- ---- what is written is read again
 

@@ -1,5 +1,7 @@
 pub mod Committed
+pub mod Strays
 pub mod Drafts
 pub mod Plannings
 pub mod Committing
 pub mod Openings
+pub mod Results

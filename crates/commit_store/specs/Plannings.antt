@@ -1,8 +1,7 @@
 -- What is known of the files that two directories hold, and the plan of a commit.
-use Rattle.std.specs.Prelude.{◌≡◌, ◌⊎◌, ◌≤◌, ◌^◌, ℕ, List, [], ◌∷◌, length, map, not, IsTrue, Contains, Ok, Some}
+use Rattle.std.specs.Prelude.{◌≡◌, ◌⊎◌, ◌≤◌, ◌^◌, ℕ, List, [], ◌∷◌, length, map, not, IsTrue, Ok, Some}
 use Rattle.std.specs.Option.{option_map}
 use Rattle.std.specs.List.{AllByRecursion}
-use Rattle.facet_disk.specs.declared.name.FileName.{FileName}
 use Rattle.facet_disk.specs.Images.{Image}
 use Rattle.facet_model.specs.Flags.{Config}
 use Rattle.facet_model.specs.Stored.{Records}
@@ -14,7 +13,7 @@ use Rattle.commit_calls.specs.Plans.{Rises, Leads}
 use Rattle.seg_grammar.specs.Spelling.{seg_bytes}
 use Rattle.store_opening.specs.Files.{labels_of, held_segments, files_of}
 use Rattle.commit_store.specs.Committed.{Committed, segments_in}
-use Rattle.commit_store.specs.Drafts.{file_view, drafted, committed_after, labels_number, index_number, is_longer, is_index_left_out, segments_next, AreLabelsAgain, IsIndexAgain}
+use Rattle.commit_store.specs.Drafts.{file_view, drafted, committed_after, strays_after, labels_number, index_number, is_longer, is_index_left_out, segments_next, AreLabelsAgain, IsIndexAgain}
 
 -- Two directories hold the files of these labels and segments, and what is known of the newest commits is what they say.
 pub record IsKnown (config : Config) (s : Committed) (t i : Held) (labels : List (List (List ℕ))) (segments : List Records) : Type 0 where
@@ -34,7 +33,7 @@ pub record IsCommittedAt {D : Type 0} (may_leave : D → Image → Type 0) (conf
   pub stands : IsAt may_leave s.next taxonomy index disk
   pub known : IsKnown config s taxonomy index labels segments
 
--- a plan makes the files of a commit of these labels and segments, and removes none that is known after it
+-- a plan makes the files of a commit of these labels and segments, and removes its strays
 pub record IsPlanOf (config : Config) (old : Committed) (view : List (List (List ℕ))) (segments : List Records) (p : Plan) (new : Committed) : Type 0 where
   pub from : p.from ≡ old.next
   pub to : p.to ≡ new.next
@@ -44,7 +43,7 @@ pub record IsPlanOf (config : Config) (old : Committed) (view : List (List (List
   pub taxonomy : p.taxonomy ≡ labels_number old view
   pub index : p.index ≡ index_number old view segments
   pub after : new ≡ committed_after config old view segments
-  pub strays : (n : FileName) → Contains p.strays.items n → Contains new.listed n → ⊥
+  pub strays : p.strays.items ≡ strays_after config old view segments
 
 -- what is written is read again
 pub record IsReadAgain (config : Config) (old : Committed) (view : List (List (List ℕ))) (segments : List Records) : Type 0 where

@@ -1,5 +1,6 @@
-ghost use Rattle.std.specs.Prelude.{◌≡◌, ◌≢◌, ◌<◌, ◌≤◌, ◌+◌, ◌^◌, ◌↔◌, [], ℕ, List, Some, None, Err, length, map, OnOk, IfOk, IfErr};
+ghost use Rattle.std.specs.Prelude.{◌≡◌, ◌≢◌, ◌<◌, ◌≤◌, ◌+◌, ◌^◌, ◌↔◌, [], ℕ, List, Some, None, Err, length, map, OnOk, IfOk, IfErr, Contains};
 ghost use Rattle.std.specs.Arc.{arc_value};
+ghost use Rattle.facet_disk.specs.declared.name.FileName.{FileName as Name};
 ghost use Rattle.facet_disk.specs.Images.{Image, Told};
 ghost use Rattle.facet_disk.specs.Calls.{Rose};
 ghost use Rattle.facet_model.specs.Stored.{Records, Decodes};
@@ -13,8 +14,9 @@ ghost use Rattle.store_opening.specs.Newest.{AreListed, next_after};
 ghost use Rattle.store_opening.specs.Quiet.{IsQuiet};
 ghost use Rattle.store_opening.specs.Settled.{IsSettled};
 ghost use Rattle.commit_store.specs.Committing.{HasFiles, HasOneOfThree};
-ghost use Rattle.commit_store.specs.Drafts.{last_number};
+ghost use Rattle.commit_store.specs.Drafts.{last_number, committed_after};
 ghost use Rattle.commit_store.specs.Plannings.{IsCommittedAt};
+ghost use Rattle.commit_store.specs.Results.{committed_told, IsCutShort};
 
 use crate::fault::CommitFault;
 use crate::opening::{NotOpened, Opened, state_of};
@@ -97,8 +99,9 @@ impl<D: Disk> Committer<D> {
     /// Commits labels and segments.
     ///
     /// It puts and syncs a file for the labels that are new and one for each segment that is new, and for each of the two directories a commit file. Then
-    /// it renames the taxonomy's and after that the index's, and removes the files that no newest commit names. A directory of which nothing is new is
-    /// left out; so is the index where no segments are given. It takes all memory before its first call of the disk.
+    /// it renames the taxonomy's and after that the index's. Last it removes each file that is neither a newest commit nor named by one: the taxonomy's first,
+    /// segments before pending files before commit files, by rising number. A directory of which nothing is new is left out; so is the index where no
+    /// segments are given; strays are removed all the same. It takes all memory before its first call of the disk.
     pub fn commit(&mut self, view: &TaxoView, segments: &[Arc<Segment>]) -> Result<(), CommitFault>
         requires few { length (records_in (map arc_value segments.now)) ≤ 1000000 }
         requires decodes { Decodes view.now self.old.config (map arc_value segments.now) (docs_in view.now (map arc_value segments.now)) }
@@ -118,6 +121,22 @@ impl<D: Disk> Committer<D> {
             → IsCommittedAt D.may_leave self.old.config self.old.state self.old.disk labels old_segments → GoesOn labels view.now
             → (map arc_value segments.now ≡ [] → old_segments ≡ [])
             → IsCommittedAt D.may_leave self.new.config self.new.state self.new.disk view.now (map arc_value segments.now)) }
+
+        // After Ok the disk tells what it told, with the files of the commit made, its pending files renamed and its strays removed.
+        ensures told { OnOk result ((s : Told) → D.told self.old.disk ≡ Some s → D.told self.new.disk ≡ Some (committed_told self.old.config self.old.state view.now (map arc_value segments.now) s)) }
+        ensures state { OnOk result (self.new.state ≡ committed_after self.old.config self.old.state view.now (map arc_value segments.now)) }
+
+        // What is left are the newest commit files and the segments that they name, where the files before were those listed; and each of these is there.
+        ensures cleaned { OnOk result ((s u : Told) → D.told self.old.disk ≡ Some s → D.told self.new.disk ≡ Some u → ((n : Name) → s.files n ≢ None → Contains self.old.state.listed n)
+            → (n : Name) → u.files n ≢ None → Contains self.new.state.listed n) }
+        ensures listed { OnOk result ((s u : Told) (labels : List (List (List ℕ))) (old_segments : List Records) → D.told self.old.disk ≡ Some s → D.told self.new.disk ≡ Some u
+            → IsCommittedAt D.may_leave self.old.config self.old.state self.old.disk labels old_segments → GoesOn labels view.now
+            → (map arc_value segments.now ≡ [] → old_segments ≡ [])
+            → AreListed s.files self.old.state.listed → AreListed u.files self.new.state.listed) }
+
+        // Where a fault ends it, it has removed strays in their order alone, and none before all else was done.
+        ensures cut_short { IfErr result (λ e. (count : ℕ) → e ≡ OfDisk count → (s : Told) → D.told self.old.disk ≡ Some s
+            → IsCutShort self.old.config self.old.state view.now (map arc_value segments.now) s (D.told self.new.disk)) }
 
         ensures refused { IfErr result (λ e. ((count : ℕ) → e ≢ OfDisk count) → self.new ≡ self.old) }
         ensures disk { IfErr result (λ e. (count : ℕ) → e ≡ OfDisk count → Rose (D.faults self.old.disk) (D.faults self.new.disk) × (count ≡ D.faults self.new.disk) × (self.new.closed ≡ Some count)) }

@@ -1,16 +1,17 @@
-ghost use Rattle.std.specs.Prelude.{◌≡◌, ◌⊎◌, ◌++◌, ℕ, List, map, IfOk, OnOk, Contains, false};
-ghost use Rattle.facet_disk.specs.declared.name.FileName.{FileName as Name};
+ghost use Rattle.std.specs.Prelude.{◌≡◌, ◌++◌, ℕ, List, map, IfOk, OnOk};
 ghost use Rattle.commit_calls.specs.Held.{file};
 ghost use Rattle.facet_disk.specs.declared.name.Dir.TheVariants.{Taxonomy, Index};
 ghost use Rattle.facet_disk.specs.declared.name.Kind.TheVariants.{Segment};
 ghost use Rattle.commit_store.specs.Committed.{kept_view};
 ghost use Rattle.commit_store.specs.Drafts.{commit_names, named_files};
+ghost use Rattle.commit_store.specs.Strays.{in_order, strays};
 
 use crate::state::StoredSegment;
 use commit_file::LabelPart;
 use facet_disk::{Dir, FileName, Kind};
 use facet_names::NoMemory;
 use std::alloc::Global;
+use std::collections::BTreeSet;
 
 // The name of a commit file, if there is one.
 fn push_commit(names: &mut Vec<FileName>, dir: Dir, commit: Option<u64>) -> Result<(), NoMemory>
@@ -72,40 +73,34 @@ pub(crate) fn named_files(
     Ok(names)
 }
 
-// Whether a name is among others.
-fn is_among(names: &[FileName], name: FileName) -> bool
-    ensures { result ≡ false → Contains names.now name → ⊥ }
+/// Names in order, each once.
+pub(crate) fn in_order(alloc: Global, names: &[FileName]) -> Result<BTreeSet<FileName>, NoMemory>
+    ensures { IfOk result (λ ordered. ordered.keys ≡ in_order names.now) }
 {
-    names.contains(&name)
-}
-
-// A name that is not among the named ones.
-fn push_stray(
-    strays: &mut Vec<FileName>,
-    named: &[FileName],
-    name: FileName,
-) -> Result<(), NoMemory>
-    ensures { OnOk result ((n : Name) → Contains strays.new.items n → Contains strays.old.items n ⊎ (Contains named.now n → ⊥)) }
-{
-    if is_among(named, name) {
-        return Ok(());
+    let mut ordered = BTreeSet::new(alloc);
+    for name in names {
+        ordered.insert(*name)?;
     }
-    strays.push(name)?;
-    Ok(())
+    Ok(ordered)
 }
 
-/// The listed files that are not among the named ones, in the order of their names. It compares each with each.
+/// The names of a set.
+pub(crate) fn names_of(alloc: Global, set: &BTreeSet<FileName>) -> Result<Vec<FileName>, NoMemory>
+    ensures { IfOk result (λ names. names.items ≡ set.now.keys) }
+{
+    let names = set.iter().copied().collect(alloc)?;
+    Ok(names)
+}
+
+/// The listed files that are not among the named ones, in order, each once.
 pub(crate) fn strays(
     alloc: Global,
     listed: &[FileName],
-    named: &[FileName],
+    named: &BTreeSet<FileName>,
 ) -> Result<Vec<FileName>, NoMemory>
-    ensures { IfOk result (λ names. (n : Name) → Contains names.items n → Contains named.now n → ⊥) }
+    ensures { IfOk result (λ names. names.items ≡ strays listed.now named.now.keys) }
 {
-    let mut strays = Vec::new(alloc);
-    for name in listed {
-        push_stray(&mut strays, named, *name)?;
-    }
-    strays.sort()?;
-    Ok(strays)
+    let listed = in_order(alloc, listed)?;
+    let names = listed.difference(named).copied().collect(alloc)?;
+    Ok(names)
 }

@@ -1,15 +1,15 @@
-ghost use Rattle.std.specs.Prelude.{◌≡◌, ◌⊎◌, ◌<◌, ◌≤◌, ◌+◌, ◌^◌, ℕ, length, map, IfOk, IfErr, Contains};
+ghost use Rattle.std.specs.Prelude.{◌≡◌, ◌⊎◌, ◌<◌, ◌≤◌, ◌+◌, ◌^◌, ℕ, length, map, IfOk, IfErr};
 ghost use Rattle.std.specs.Arc.{arc_value};
 ghost use Rattle.std.specs.List.{AllByRecursion};
 ghost use Rattle.std.specs.Option.{option_or};
 ghost use Rattle.commit_calls.specs.Plans.{IsPlan, Rises};
 ghost use Rattle.facet_model.specs.Stored.{Decodes};
 ghost use Rattle.commit_file.specs.Commits.{AreInOrder};
-ghost use Rattle.facet_disk.specs.declared.name.FileName.{FileName as Name};
 ghost use Rattle.seg_decoding.specs.Decoding.{records_in, docs_in};
 ghost use Rattle.commit_store.specs.declared.fault.CommitFault.TheVariants.{NumbersSpent, NoMemory as Memory};
 ghost use Rattle.commit_store.specs.Committed.{IsKept, kept_view};
 ghost use Rattle.commit_store.specs.Drafts.{file_view, last_number, committed_by};
+ghost use Rattle.commit_store.specs.Strays.{strays};
 ghost use Rattle.commit_store.specs.Plannings.{IsPlanOf, IsReadAgain, LeadsOn};
 
 use crate::documents::{IndexDraft, draft_index};
@@ -17,7 +17,7 @@ use crate::draft::Draft;
 use crate::fault::CommitFault;
 use crate::labels::{LabelsDraft, draft_labels};
 use crate::laws::of_laws;
-use crate::names::{named_files, strays};
+use crate::names::{in_order, named_files, names_of, strays};
 use crate::placing::look_at;
 use crate::state::CommitState;
 use commit_calls::Plan;
@@ -53,13 +53,15 @@ fn join_parts(
     ensures files { IfOk result (λ p. map file_view p.plan.writes.items ≡ index.draft.files) }
     ensures rises { IfOk result (λ p. (p.plan.from ≤ p.plan.to) × Rises p.plan.from p.plan.to p.plan.writes.items) }
     ensures parts { IfOk result (λ p. (p.plan.taxonomy ≡ labels.commit) × (p.plan.index ≡ index.commit)) }
-    ensures strays { IfOk result (λ p. (n : Name) → Contains p.plan.strays.items n → Contains p.after.listed n → ⊥) }
+    ensures strays { IfOk result (λ p. p.plan.strays.items ≡ strays state.now.listed p.after.listed) }
     ensures after { IfOk result (λ p. p.after ≡ committed_by (option_or labels.commit state.now.taxonomy) labels.parts.items labels.labels (option_or index.commit state.now.index) (map kept_view index.kept.items) index.draft.next) }
 {
     let taxonomy = labels.commit.or(state.taxonomy);
     let newest = index.commit.or(state.index);
-    let listed = named_files(alloc, taxonomy, &labels.parts, newest, &index.kept)?;
-    let strays = strays(alloc, &state.listed, &listed)?;
+    let named = named_files(alloc, taxonomy, &labels.parts, newest, &index.kept)?;
+    let named = in_order(alloc, &named)?;
+    let strays = strays(alloc, &state.listed, &named)?;
+    let listed = names_of(alloc, &named)?;
     let next = index.draft.next();
     let plan = index.draft.into_plan(labels.commit, index.commit, strays);
     let after = CommitState {

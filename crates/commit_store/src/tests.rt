@@ -6,7 +6,7 @@ ghost use Rattle.seg_decoding.specs.Decoding.{docs_in, records_in};
 use crate::{CommitFault, Committer, Opened};
 use commit_file::{DocumentPart, LabelPart, digest_of, write_index_commit, write_taxonomy_commit};
 use facet_config::FacetsConfig;
-use facet_disk::{Dir, Disk, FileName, Kind, MemoryDisk};
+use facet_disk::{Dir, Disk, FileName, Kind, MemoryDisk, Pick, Unsynced};
 use seg_file::Segment;
 use std::alloc::Global;
 use std::sync::Arc;
@@ -113,5 +113,59 @@ fn is_closed_after_a_fault(rt: HostRuntime) -> Result<(), Fail> {
     assert!(rt; second == Err(CommitFault::Closed { count: 1 }));
     let again = opened(alloc, committer.into_disk())?;
     assert!(rt; again.labels.size() == 1 && again.segments.is_empty());
+    Ok(())
+}
+
+// Files that no commit names: of commits that ended early, and of older ones. They stand in the order in which they are to be removed.
+fn strays() -> [FileName; 7] {
+    [
+        name(Dir::Taxonomy, Kind::Segment, 9),
+        name(Dir::Taxonomy, Kind::Segment, 10),
+        name(Dir::Taxonomy, Kind::Pending, 7),
+        name(Dir::Taxonomy, Kind::Commit, 1),
+        name(Dir::Index, Kind::Segment, 5),
+        name(Dir::Index, Kind::Pending, 6),
+        name(Dir::Index, Kind::Commit, 2),
+    ]
+}
+
+// How many of the strays a disk holds after so many calls, where those that it lacks come first.
+fn strays_left(alloc: Global, disk: &MemoryDisk, calls: u64) -> Result<usize, Fail> {
+    let pick = Pick {
+        files: Unsynced::Whole,
+        names_done: true,
+    };
+    let mut left = disk.stopped(alloc, calls, pick)?;
+    let mut count = 0usize;
+    for stray in strays() {
+        if left.read(alloc, stray).is_ok() {
+            count = count.saturating_add(1);
+        } else if count > 0 {
+            return Err("a stray that is removed before an earlier one".into());
+        }
+    }
+    Ok(count)
+}
+
+#[test]
+fn removes_strays_in_order(rt: HostRuntime) -> Result<(), Fail> {
+    let alloc = rt.alloc();
+    let batch = one_document(alloc)?;
+    let mut disk = stored(alloc)?;
+    for stray in strays().iter().rev() {
+        disk.put(*stray, b"stray")?;
+    }
+    let Opened { mut committer, .. } = opened(alloc, disk)?;
+    let opening = committer.disk.call_count();
+    assert!(rt; committer.commit(&batch.view, &batch.segments) == Ok(()));
+    let disk = committer.into_disk();
+    for removed in 0..8usize {
+        let calls = opening.saturating_add(removed as u64);
+        assert_eq!(rt; strays_left(alloc, &disk, calls)?, 7 - removed);
+    }
+    assert_eq!(rt; disk.call_count(), opening.saturating_add(7));
+    let again = opened(alloc, disk)?;
+    assert!(rt; again.labels.size() == 3 && again.segments.len() == 1);
+    assert!(rt; again.committer.state.next == 5 && again.committer.state.listed.len() == 4);
     Ok(())
 }

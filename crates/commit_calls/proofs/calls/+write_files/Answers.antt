@@ -4,6 +4,7 @@ use Rattle.commit_calls.specs.declared.plan.Write.{Write}
 use Rattle.commit_calls.specs.Outcomes.{file_told}
 use Rattle.commit_calls.specs.Plans.{Rises}
 use Rattle.commit_calls.specs.Stages.{AreWritten}
+use Rattle.commit_calls.proofs.Early.{below_on, below_weaker}
 use Rattle.commit_calls.proofs.Lists.{split_first}
 use Rattle.commit_calls.proofs.calls.+write_files.Goals as goal
 
@@ -19,3 +20,21 @@ returns-in_ok-write_files-in-len1-up-clause-durable g t c = λ s from to rises i
     let here = c.in_ok-write_file-in-len1-up.ensures.durable s is before.0 before.1 in
     subst (λ (ws : List Write). AreWritten ws image) (sym split)
     (All-cons (λ w. image w.name ≡ Some w.bytes.items) first rest (before.2 first.name (inr (inl (omega arith))) ∙ here ∙ ap Some c.deref.ensures.value) later)
+
+pub returns-in_err-write_files-in-len1-up-clause-below : goal.returns-in_err-write_files-in-len1-up-clause-below
+returns-in_err-write_files-in-len1-up-clause-below g t c = λ s from to rises is.
+    let first = c.first-item.result in
+    let rest : List Write = take (length c.args.files.now - 1) (drop 1 c.args.files.now) in
+    let rise : Rises from to (first ∷ rest) = subst (Rises from to) (split_first c.args.files.now first c.in-len1-up.len_at_least c.first-item.is) rises in
+    let one = c.write_file.ensures.below s from rise.0 is in
+    let others = c.write_files.ensures.below one.told (first.name.number + 1) to rise.3 one.is in
+    below_on from s _ _ one (below_weaker from (first.name.number + 1) one.told _ (omega (arith, rise.0)) others)
+
+pub returns-in_ok-write_files-in-len1-up-clause-below : goal.returns-in_ok-write_files-in-len1-up-clause-below
+returns-in_ok-write_files-in-len1-up-clause-below g t c = λ s from to rises is.
+    let first = c.first-item.result in
+    let rest : List Write = take (length c.args.files.now - 1) (drop 1 c.args.files.now) in
+    let rise : Rises from to (first ∷ rest) = subst (Rises from to) (split_first c.args.files.now first c.in-len1-up.len_at_least c.first-item.is) rises in
+    let one = c.write_file.ensures.below s from rise.0 is in
+    let others = c.write_files.ensures.below one.told (first.name.number + 1) to rise.3 one.is in
+    below_on from s _ _ one (below_weaker from (first.name.number + 1) one.told _ (omega (arith, rise.0)) others)

@@ -1,4 +1,4 @@
-use Rattle.std.proofs.Common.{◌≡◌, ◌∙◌, sym, subst, List, Some}
+use Rattle.std.proofs.Common.{◌≡◌, ◌∙◌, inl, sym, subst, List, Some}
 use Rattle.facet_disk.specs.declared.name.Dir.TheVariants.{Taxonomy, Index}
 use Rattle.facet_disk.specs.declared.name.FileName.{FileName}
 use Rattle.facet_disk.specs.Images.{Image, Told}
@@ -6,6 +6,8 @@ use Rattle.commit_calls.specs.declared.plan.Write.{Write}
 use Rattle.commit_calls.specs.Held.{Below, CommitsBelow}
 use Rattle.commit_calls.specs.Moments.{IsOneOfThree}
 use Rattle.commit_calls.specs.Outcomes.{files_told, published_told, cleared_told, carried_told}
+use Rattle.commit_calls.specs.Plans.{Rises}
+use Rattle.commit_calls.proofs.Early.{below_on, part_high, on_err}
 use Rattle.commit_calls.proofs.Images.{leaves_three, is_after}
 use Rattle.commit_calls.proofs.Reaching.{while_writing, after_writing, while_half, after_half, while_whole, after_whole, while_clearing, after_clearing}
 use Rattle.commit_calls.proofs.Runs.{leaves_now}
@@ -105,3 +107,16 @@ returns-clause-names g c = λ s u is after below.
   where
     one_told : {a b : Told} → Some a ≡ Some b → a ≡ b
     one_told e = cc e
+
+pub returns-in_err-publish-clause-cut_short : goal.returns-in_err-publish-clause-cut_short
+returns-in_err-publish-clause-cut_short g c = on_err c.from_residual-in_err-publish.result (λ s is.
+    let p = c.args.plan.now in let rises = c.requires.plan.rises in
+    let made = c.write_files.ensures.below s p.from p.to (subst (Rises p.from p.to) (sym c.deref.ensures.value) rises) is in
+    inl (below_on p.from s _ _ made (c.publish.ensures.below made.told p.from (part_high p.from p.to p.writes.items rises Taxonomy p.taxonomy c.requires.plan.taxonomy_pending) made.is)))
+
+pub returns-in_err-publish-2-clause-cut_short : goal.returns-in_err-publish-2-clause-cut_short
+returns-in_err-publish-2-clause-cut_short g c = on_err c.from_residual-in_err-publish-2.result (λ s is.
+    let p = c.args.plan.now in let rises = c.requires.plan.rises in
+    let made = c.write_files.ensures.below s p.from p.to (subst (Rises p.from p.to) (sym c.deref.ensures.value) rises) is in
+    let half = below_on p.from s _ _ made (c.publish.ensures.below made.told p.from (part_high p.from p.to p.writes.items rises Taxonomy p.taxonomy c.requires.plan.taxonomy_pending) made.is) in
+    inl (below_on p.from s _ _ half (c.publish-2.ensures.below half.told p.from (part_high p.from p.to p.writes.items rises Index p.index c.requires.plan.index_pending) half.is)))

@@ -1,9 +1,12 @@
-use Rattle.std.proofs.Common.{⊎_elim}
-use Rattle.std.proofs.lemmas.List.Sorted.{IsPermutation-sym, Contains-permutation}
+use Rattle.std.proofs.Common.{rules, ◌≡◌, ◌∙◌, not, ap}
+use Rattle.std.specs.BTreeSet.{difference}
+use Rattle.std.specs.List.{filter}
+use Rattle.facet_disk.specs.contracts.name.FileNameOrd.TheImpl as name_ord
+use Rattle.commit_store.specs.Strays.{is_among}
+use Rattle.commit_store.proofs.InOrder.{differ_same}
 use Rattle.commit_store.proofs.names.strays.Goals as goal
 
-pub loop-name-preserved : goal.loop-name-preserved
-loop-name-preserved c = λ n has named. ⊎_elim (λ before. c.loop-name.invariant n before named) (λ apart. apart named) (c.in_ok-push_stray.ensures n has)
-
 pub returns : goal.returns
-returns c = λ n has. c.loop-name.invariant n (Contains-permutation c.sort.new.self.items c.loop-name.strays.items n (IsPermutation-sym c.loop-name.strays.items c.sort.new.self.items c.sort.ensures.permutation) has)
+returns c =
+    let is : c.in_ok-names.names.items ≡ difference (name_ord.ghosts).cmp c.in_ok-listed.listed c.args.named.now = search rules in
+    is ∙ differ_same c.args.named.now.keys c.in_ok-listed.listed.keys ∙ ap (filter (λ name. not (is_among c.args.named.now.keys name))) c.in_ok-listed.ensures

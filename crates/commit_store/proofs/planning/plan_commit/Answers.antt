@@ -5,6 +5,7 @@ use Rattle.commit_file.specs.Commits.{kept_of}
 use Rattle.commit_store.specs.Committed.{Committed, IsCommitted}
 use Rattle.commit_store.specs.Drafts.{Drafted, nothing_drafted, labels_drafted, labels_first, index_drafted, drafted, labels_number_from, label_parts_from, index_number_from, kept_from, committed_by}
 use Rattle.commit_store.specs.Plannings.{IsReadAgain}
+use Rattle.commit_store.specs.Strays.{strays}
 use Rattle.commit_store.proofs.Counting.{few_segments}
 use Rattle.commit_store.proofs.Leading.{all_led, plan_is, no_different}
 use Rattle.commit_store.proofs.Numbers.{first_number, all_numbers}
@@ -23,6 +24,7 @@ returns-clause-plan c =
     let kept = c.in_ok-index.ensures.kept ∙ ap (λ d. kept_from d old ss) first in
     let is = c.in_ok-planned.ensures.after in
     let to = c.in_ok-planned.ensures.numbers.1 in
+    let after = is ∙ (λ i. committed_by (option_or (commit i) old.taxonomy) (parts i) (c.in_ok-labels.ensures.count i) (option_or (newest i) old.index) (kept i) (all i).next) in
     record {
       from = c.in_ok-planned.ensures.numbers.0 ∙ ap (λ (d : Drafted). d.from) all ∙ first_number config old view ss;
       to = to ∙ sym (ap (λ (s : Committed). s.next) is);
@@ -31,8 +33,8 @@ returns-clause-plan c =
       files = c.in_ok-planned.ensures.files ∙ ap (λ (d : Drafted). d.files) all;
       taxonomy = c.in_ok-planned.ensures.parts.0 ∙ commit;
       index = c.in_ok-planned.ensures.parts.1 ∙ newest;
-      after = is ∙ (λ i. committed_by (option_or (commit i) old.taxonomy) (parts i) (c.in_ok-labels.ensures.count i) (option_or (newest i) old.index) (kept i) (all i).next);
-      strays = c.in_ok-planned.ensures.strays;
+      after = after;
+      strays = c.in_ok-planned.ensures.strays ∙ ap (λ (s : Committed). strays old.listed s.listed) after;
     }
 
 pub returns-clause-is_plan : goal.returns-clause-is_plan

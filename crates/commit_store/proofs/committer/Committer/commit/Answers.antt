@@ -1,10 +1,15 @@
-use Rattle.std.proofs.Common.{rules, ◌≡◌, refl, sym, subst, ℕ, map, false}
+use Rattle.std.proofs.Common.{rules, ◌≡◌, ◌∙◌, refl, sym, ap, subst, ℕ, map, Some, true, false, Contains}
 use Rattle.std.specs.Arc.{arc_value}
 use Rattle.std.specs.Prelude.{is_err}
+use Rattle.facet_disk.specs.Images.{Told}
 use Rattle.commit_calls.specs.Outcomes.{carried_told}
 use Rattle.commit_calls.specs.Moments.{IsAt, IsOneOfThree}
+use Rattle.commit_store.specs.Committed.{Committed}
 use Rattle.commit_store.specs.Committing.{HasOneOfThree}
-use Rattle.commit_store.proofs.Promises.{on_ok, leaves_weaker, leaves_same, here_now, led, one_of_three}
+use Rattle.commit_store.specs.Results.{committed_told}
+use Rattle.commit_store.proofs.Cleaning.{carried_is, cut_short_is, left_named}
+use Rattle.commit_store.proofs.Listed.{are_listed}
+use Rattle.commit_store.proofs.Promises.{on_ok, on_fault, leaves_weaker, leaves_same, here_now, led, one_of_three}
 use Rattle.commit_store.proofs.committer.Committer.commit.Goals as goal
 
 pub returns-in_err-planned-clause-now : goal.returns-in_err-planned-clause-now
@@ -82,3 +87,33 @@ pub returns-clause-tells : goal.returns-clause-tells
 returns-clause-tells g c = λ s is.
     let fine : is_err c.carry_out.result ≡ false = search rules in
     (carried_told c.in_ok-planned.planned.plan s, on_ok c.carry_out.result _ c.carry_out.ensures.told fine s is)
+
+one_told : {a b : Told} → Some a ≡ Some b → a ≡ b
+one_told e = cc e
+
+pub returns-clause-told : goal.returns-clause-told
+returns-clause-told g c = λ s is.
+    let fine : is_err c.carry_out.result ≡ false = search rules in
+    let plan = c.in_ok-planned.planned.plan in let new = c.in_ok-planned.planned.after in
+    on_ok c.carry_out.result _ c.carry_out.ensures.told fine s is
+    ∙ ap Some (carried_is c.args.self.now.config c.args.self.now.state c.args.view.now (map arc_value c.args.segments.now) plan new c.in_ok-planned.ensures.plan s)
+
+pub returns-clause-cleaned : goal.returns-clause-cleaned
+returns-clause-cleaned g c = λ s u is now listed n some.
+    let config = c.args.self.now.config in let old = c.args.self.now.state in let view = c.args.view.now in let ss = map arc_value c.args.segments.now in
+    let same : u ≡ committed_told config old view ss s = one_told (sym now ∙ returns-clause-told g c s is) in
+    subst (λ (st : Committed). Contains st.listed n) (sym c.in_ok-planned.ensures.plan.after) (left_named config old view ss s listed n (λ none. some (ap (λ (t : Told). t.files n) same ∙ none)))
+
+pub returns-clause-listed : goal.returns-clause-listed
+returns-clause-listed g c = λ s u labels segs is now at on empty listed.
+    let laws = g.met.D.Disk g.world.𝓛 g.world.𝓜 g.world.𝓡 ((λ s x. x), (λ x. x), (λ x. x), λ x. x) in
+    let config = c.args.self.now.config in let old = c.args.self.now.state in let view = c.args.view.now in let ss = map arc_value c.args.segments.now in
+    let same : u ≡ committed_told config old view ss s = one_told (sym now ∙ returns-clause-told g c s is) in
+    are_listed g.D.Disk.may_leave g.D.Disk.told laws.own config old view ss s listed c.carry_out.new.disk u now same c.in_ok-planned.planned.after c.in_ok-planned.ensures.plan.after
+    (returns-clause-acknowledged g c s labels segs is at on empty)
+
+pub returns-then-is_err-clause-cut_short : goal.returns-then-is_err-clause-cut_short
+returns-then-is_err-clause-cut_short g c = λ count e s is.
+    let fault : is_err c.carry_out.result ≡ true = search rules in
+    cut_short_is c.args.self.now.config c.args.self.now.state c.args.view.now (map arc_value c.args.segments.now) c.in_ok-planned.planned.plan c.in_ok-planned.planned.after c.in_ok-planned.ensures.plan s _
+    (on_fault c.carry_out.result _ c.carry_out.ensures.cut_short fault s is)
