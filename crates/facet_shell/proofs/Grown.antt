@@ -2,24 +2,21 @@
 use Rattle.std.proofs.Common.{◌≡◌, ℕ, zero, suc, ◌+◌, ◌-◌, ◌<◌, ◌≤◌, ◌==◌, Bool, true, false, List, [], ◌∷◌, ◌++◌, length, take, drop, get_or, refl, sym, ap, subst, ◌∙◌, arith, add-one, ◌⊎◌, inl, inr}
 use Rattle.std.specs.Prelude.{fold, flat_map, ◌||◌, nat_lt, not, if◌then◌else◌}
 use Rattle.std.proofs.Math.Seq.{drop-cons}
-use Rattle.std.proofs.lemmas.List.{take_all, take_at, take-take, take_more, length-append}
+use Rattle.std.proofs.lemmas.List.{take_at, take-take, take_more, length-append}
 use Rattle.std.proofs.lemmas.List.Sums.{fold-append}
 use Rattle.std.proofs.lemmas.Bool.{true≢false, cases_lt, and_parts, eqb-true}
 use Rattle.std.proofs.lemmas.List.{length-take-le, nil_from_length, append-nil}
 use Rattle.std.proofs.lemmas.List.Concat.{flat_map-cons}
 use Rattle.std.proofs.lemmas.Grind.{flat_map-append}
-use Rattle.std.proofs.lemmas.List.FromFn.{get_or-map-range_with_len, length-map-range_with_len}
 use Rattle.std.proofs.lemmas.List.Folds.{list_any-append}
 use Rattle.facet_names.specs.Paths.{path_eq, path_eq_equiv}
 use Rattle.std.specs.List.{list_all, enumerate_from}
 use Rattle.facet_names.specs.Labels.{IsLabelList, is_in_place, above, prefixes, stands, with_label, GoesOn}
 use Rattle.facet_shell.specs.Growing.{IsBetween}
+use Rattle.seg_decoding.proofs.Prefixes.{stays}
 
 abbrev Labels : Type 0
 Labels = List (List (List ℕ))
-
-pub stays : (xs : Labels) → GoesOn xs xs
-stays xs = (omega arith, take_all (length xs) xs (omega arith))
 
 pub and_on : (xs ys zs : Labels) → GoesOn xs ys → GoesOn ys zs → GoesOn xs zs
 and_on xs ys zs a b = (omega (arith, a.0, b.0), sym (take-take (length xs) (length ys) zs a.0) ∙ ap (take (length xs)) b.1 ∙ a.1)
@@ -99,16 +96,10 @@ root_stands (x ∷ xs) list =
     ap (λ p. path_eq [] p || stands xs []) none
 
 module _ (path : List (List ℕ)) (n : ℕ) (lt : n < length path) where
-  pub prefix_at : get_or (prefixes path) n (take (n + 1) path) ≡ take (n + 1) path
-  prefix_at = get_or-map-range_with_len (λ k. take k path) 1 (length path) n (n + 1) (take (n + 1) path) lt (omega arith)
-
   pub above_prefix : above (take (n + 1) path) ≡ take n path
   above_prefix =
       let size : length (take (n + 1) path) - 1 ≡ n = omega (arith, length-take-le (n + 1) path (omega (arith, lt))) in
       ap (λ k. take k (take (n + 1) path)) size ∙ take-take n (n + 1) path (omega arith)
-
-pub as_many_prefixes : (path : List (List ℕ)) → length (prefixes path) ≡ length path
-as_many_prefixes path = length-map-range_with_len (λ k. take k path) 1 (length path)
 
 -- ---- label by label
 

@@ -1,7 +1,13 @@
 pub mod Grown
 pub mod Entered
 pub mod Found
-pub mod Replies
 pub mod Searched
 pub mod Stored
-pub mod Flushed
+pub mod Keeping
+pub mod Growth
+pub mod Storied
+pub mod Going
+pub mod Served
+pub mod Started
+pub mod Ending
+pub mod Firsts

@@ -1,5 +1,5 @@
 -- What is shown of a stored record.
-use Rattle.std.proofs.Common.{◌≡◌, ℕ, List, [], ◌++◌, length, take, slice_get, Option, Some, None, option_map, refl, sym, ap, subst, ◌∙◌}
+use Rattle.std.proofs.Common.{◌≡◌, ℕ, List, ◌++◌, length, take, slice_get, Option, Some, None, option_map, refl, sym, ap, subst, ◌∙◌}
 use Rattle.std.proofs.lemmas.List.{take_at}
 use Rattle.std.proofs.lemmas.Option.{get_or_from_slice_get, slice_get_within}
 use Rattle.facet_names.specs.Labels.{GoesOn, IsLabelList}

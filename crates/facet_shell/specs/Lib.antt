@@ -2,6 +2,10 @@ pub mod Entries
 pub mod Kept
 pub mod Growing
 pub mod Sessions
+pub mod Recovering
+pub mod Stories
+pub mod Answering
 pub mod Statuses
-pub mod Runs
 pub mod Searching
+pub mod Runs
+pub mod Serving

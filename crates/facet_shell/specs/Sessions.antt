@@ -1,17 +1,22 @@
 -- The plain data of a session.
-use Rattle.std.specs.Prelude.{◌≡◌, ℕ, List, map}
-use Rattle.facet_words.specs.Answers.{Shelf, RightReplies, empty_shelf}
-use Rattle.facet_words.specs.CommandViews.{order_view}
+use Rattle.std.specs.Prelude.{ℕ, List, Option}
+use Rattle.facet_model.specs.Documents.{Doc}
+use Rattle.facet_words.specs.Answers.{Shelf, Store}
 use Rattle.facet_words.specs.Commands.{Settings}
-use Rattle.facet_replies.specs.Replies.{Reply}
-use Rattle.facet_words.specs.Answers.{reply_lines}
-use Rattle.facet_words.specs.declared.command.Order.{Order}
 
--- the settings of a session, and what its orders work on
+-- the settings of a session, its labels and documents, how many documents and labels the last refresh took, and how many documents wait to become a segment
 pub record State : Type 0 where
   pub settings : Settings
-  pub shelf : Shelf
+  pub labels : List (List (List ℕ))
+  pub docs : List Doc
+  pub taken : ℕ
+  pub taken_labels : ℕ
+  pub waiting : ℕ
 
--- the bytes are the lines of right replies to these orders, from the start on
-abbrev pub AreReplies : Settings → List Order → List ℕ → Type 0
-AreReplies settings orders bytes = (replies : List Reply) × RightReplies settings empty_shelf (map order_view orders) replies × (bytes ≡ reply_lines (map order_view orders) replies)
+-- what the session works on, beside its store
+abbrev pub shelf_of : State → Store → Shelf
+shelf_of s store = record { labels = s.labels; docs = s.docs; taken = s.taken; taken_labels = s.taken_labels; store = store }
+
+-- How a store stands: the count at which a commit failed, the number that the next file takes, and how many faults the disk has counted.
+abbrev pub store_of : Option ℕ → ℕ → ℕ → Store
+store_of closed next faults = record { closed = closed; faults = faults; next = next }

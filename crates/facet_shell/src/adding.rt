@@ -5,7 +5,7 @@ ghost use Rattle.facet_model.specs.CountedPaths.{AreResolved};
 ghost use Rattle.facet_model.specs.Documents.{Doc};
 ghost use Rattle.facet_config.specs.Expanding.{AreAsLong};
 ghost use Rattle.facet_config.specs.Faults.{fault_view};
-ghost use Rattle.facet_words.specs.Answers.{RightReply};
+ghost use Rattle.facet_words.specs.Answers.{RightReply, Store};
 ghost use Rattle.facet_words.specs.CommandViews.{settings_view};
 ghost use Rattle.facet_words.specs.Commands.{add as add_command};
 ghost use Rattle.facet_replies.specs.Replies.{broken, placed, refused, no_memory};
@@ -97,7 +97,7 @@ fn place(
     requires short { All IsShort doc.labels }
     requires few { stored + length entries.old.items ≤ 1000000 }
     ensures placed { (docs : List Doc) → length docs ≡ stored → IsPlaced settings.now.max_docs (docs ++ docs_of entries.old.items) doc (docs ++ docs_of entries.new.items) (reply_view result) }
-    ensures few { stored + length entries.old.items ≤ settings.now.max_docs → stored + length entries.new.items ≤ settings.now.max_docs }
+    ensures few { stored + length entries.new.items ≤ 1000000 }
     ensures entries { (labels : List (List (List ℕ))) → IsLabelList labels → AreResolved labels doc.labels resolved.now → Accepts settings.now.config doc → AreEntries settings.now.config labels entries.old.items → AreEntries settings.now.config labels entries.new.items }
 {
     let count = stored + entries.len();
@@ -122,22 +122,22 @@ pub fn add(
     entries: &mut Vec<Entry>,
     doc: Document,
 ) -> Reply
-    requires room { length labels.old ≤ settings.now.max_labels }
-    requires few { stored + length entries.old.items ≤ settings.now.max_docs }
+    requires few { stored + length entries.old.items ≤ 1000000 }
     requires entries { AreEntries settings.now.config labels.old entries.old.items }
-    ensures right { (docs : List Doc) → length docs ≡ stored → RightReply (settings_view settings.now) (record { labels = labels.old; docs = docs ++ docs_of entries.old.items; taken = stored }) (add_command doc) (reply_view result) (record { labels = labels.new; docs = docs ++ docs_of entries.new.items; taken = stored }) }
-    ensures room { length labels.new ≤ settings.now.max_labels }
+    ensures right { (docs : List Doc) (taken taken_labels : ℕ) (store : Store) → length docs ≡ stored
+        → RightReply (settings_view settings.now) (record { labels = labels.old; docs = docs ++ docs_of entries.old.items; taken = taken; taken_labels = taken_labels; store = store })
+        (add_command doc) (reply_view result) (record { labels = labels.new; docs = docs ++ docs_of entries.new.items; taken = taken; taken_labels = taken_labels; store = store }) }
     ensures goes_on { GoesOn labels.old labels.new }
     ensures entries { AreEntries settings.now.config labels.new entries.new.items }
-    ensures few { stored + length entries.new.items ≤ settings.now.max_docs }
+    ensures few { stored + length entries.new.items ≤ 1000000 }
 {
     match settings.config.check(&doc) {
         Ok(()) => {}
         Err(fault) => return Reply::Refused(refusal_of(fault)),
     }
-    // Its clause says that these are a label list.
-    let _ = labels.size();
-    let added = add_labels(alloc, labels, doc.facets(), settings.max_labels);
+    // An opened list may be longer than the limit of these settings.
+    let limit = settings.max_labels.max(labels.size());
+    let added = add_labels(alloc, labels, doc.facets(), limit);
     let _ = labels.size();
     match added {
         Ok(resolved) => place(alloc, settings, stored, entries, doc, &resolved),

@@ -1,19 +1,31 @@
-//! The program as a function: a script is read from a source to its end, and its replies are written to a sink.
+//! The program as a function: a script is read from a source to its end, carried out on the store of a disk, and its replies are written to a sink.
 #![tactic(auto)]
 
 mod adding;
+mod answering;
+mod committing;
 mod flushing;
 mod labels;
 mod program;
 mod searching;
+mod serving;
 mod session;
 mod showing;
 mod status;
+mod telling;
 
-pub use program::run;
+pub use program::{place, run};
 pub use status::{Ended, Status};
 
 #[cfg(test)]
+mod folder_tests;
+#[cfg(test)]
+mod opening_tests;
+#[cfg(test)]
 mod rows;
+#[cfg(test)]
+mod store_tests;
+#[cfg(test)]
+mod test_runs;
 #[cfg(test)]
 mod tests;

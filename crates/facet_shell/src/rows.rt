@@ -262,6 +262,25 @@ pub const ROWS: &[Row] = &[
 "#,
     },
     Row {
+        name: "a commit of nothing, and what is counted before and after a refresh",
+        script: r#"{"cmd":"config"}
+{"s":1,"cmd":"stats"}
+{"s":1,"cmd":"commit"}
+{"s":1,"cmd":"add","id":"b1","facets":[["Author","Bob"]]}
+{"s":1,"cmd":"stats"}
+{"s":1,"cmd":"refresh"}
+{"s":1,"cmd":"stats"}
+"#,
+        status: Status::Done,
+        output: r#"{"documents":0,"labels":1,"line":2,"n":0,"s":1}
+{"line":3,"n":0,"s":1}
+{"at":0,"line":4,"s":1}
+{"documents":0,"labels":1,"line":5,"n":0,"s":1}
+{"line":6,"n":1,"s":1}
+{"documents":1,"labels":3,"line":7,"n":1,"s":1}
+"#,
+    },
+    Row {
         name: "the config line alone, without its line feed",
         script: r#"{"cmd":"config"}"#,
         status: Status::Done,

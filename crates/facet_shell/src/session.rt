@@ -1,18 +1,21 @@
-ghost use Rattle.std.specs.Prelude.{◌≡◌, ◌≤◌, ℕ, List, IfOk, IfErr, OnOk, length, map};
-ghost use Rattle.facet_words.specs.Answers.{RightReply, empty_shelf};
-ghost use Rattle.facet_words.specs.CommandViews.{command_view, settings_view};
-ghost use Rattle.facet_words.specs.Commands.{add as add_command, refresh as refresh_command, search as search_command, document as document_command};
+ghost use Rattle.std.specs.Prelude.{◌≡◌, ◌≤◌, [], IfOk, OnOk, OnErr, length, map};
+ghost use Rattle.std.specs.Arc.{arc_value};
+ghost use Rattle.facet_model.specs.Stored.{Decodes};
+ghost use Rattle.facet_words.specs.Answers.{RightReply, Store};
+ghost use Rattle.facet_words.specs.CommandViews.{settings_view};
+ghost use Rattle.facet_words.specs.Commands.{add as add_command, refresh as refresh_command, search as search_command, document as document_command, stats as stats_command};
 ghost use Rattle.facet_replies.specs.ReplyViews.{reply_view};
 ghost use Rattle.facet_shell.specs.Searching.{search_view};
-ghost use Rattle.facet_shell.specs.Sessions.{AreReplies};
+ghost use Rattle.seg_decoding.specs.Decoding.{docs_in};
+ghost use Rattle.facet_shell.specs.Sessions.{shelf_of};
 
 use crate::adding::add;
 use crate::flushing::flush;
 use crate::searching::search;
-use crate::showing::show;
+use crate::showing::{count, front, show};
 use facet_model::Document;
 use facet_names::NoMemory;
-use facet_words::{Command, Order, Refusal, Reply, Settings, write_reply};
+use facet_words::{Refusal, Reply, Settings};
 use seg_file::{Entry, Segment};
 use sideways::SearchAsk;
 use std::alloc::Global;
@@ -20,22 +23,25 @@ use std::marker::Model;
 use std::sync::Arc;
 use taxo_list::{TaxoView, Taxonomy};
 
-/// What the orders of one session work on: the settings and the labels, the segments of the documents that the last refresh took with the labels as
-/// they stood then, and the documents that were added since.
+/// What the orders of one session work on, beside its store: the settings and the labels; the segments of all documents but the last ones, which wait in a
+/// buffer; and which of them the last refresh took, with the labels as they stood then.
 #[derive(Drop)]
 pub struct Session {
     alloc: Global,
     settings: Settings,
     labels: Taxonomy,
-    view: TaxoView,
     segments: Vec<Arc<Segment>>,
     // how many documents the segments have
-    taken: usize,
+    stored: usize,
     buffer: Vec<Entry>,
+    // the labels, and how many segments and documents there were at the last refresh
+    view: TaxoView,
+    published: usize,
+    taken: usize,
 }
 
 impl Model for Session {
-    ghost use Rattle.std.specs.Prelude.{◌++◌, map};
+    ghost use Rattle.std.specs.Prelude.{◌++◌, length, map};
     ghost use Rattle.std.specs.Arc.{arc_value};
     ghost use Rattle.facet_words.specs.CommandViews.{settings_view};
     ghost use Rattle.seg_decoding.specs.Decoding.{docs_in};
@@ -45,45 +51,64 @@ impl Model for Session {
 
     ghost Value = { State };
 
-    ghost view = { λ s. record { settings = settings_view s.settings; shelf = record { labels = s.labels; docs = docs_in s.view (map arc_value s.segments.items) ++ docs_of s.buffer.items; taken = s.taken } } };
+    ghost view = { λ s. record { settings = settings_view s.settings; labels = s.labels; docs = docs_in s.labels (map arc_value s.segments.items) ++ docs_of s.buffer.items; taken = s.taken; taken_labels = length s.view; waiting = length s.buffer.items } };
 
-    ghost invariant = { λ s. IsKept s.settings.config s.settings.max_docs s.settings.max_labels s.labels s.view (map arc_value s.segments.items) s.buffer.items s.taken };
+    ghost invariant = { λ s. IsKept s.settings.config s.labels s.view (map arc_value s.segments.items) s.published s.buffer.items s.taken s.stored };
 }
 
 impl Session {
-    /// Nothing was added yet.
-    pub fn new(alloc: Global, settings: Settings) -> Result<Session, NoMemory>
-        ensures { IfOk result (λ s. s ≡ record { settings = settings_view settings; shelf = empty_shelf }) }
+    /// A session over labels and segments that were opened, all of which searches see.
+    pub fn open(
+        alloc: Global,
+        settings: Settings,
+        labels: Taxonomy,
+        segments: Vec<Arc<Segment>>,
+    ) -> Result<Session, NoMemory>
+        requires decodes { Decodes labels settings.config (map arc_value segments.items) (docs_in labels (map arc_value segments.items)) }
+        requires few { length (docs_in labels (map arc_value segments.items)) ≤ 1000000 }
+        ensures { IfOk result (λ s. s ≡ record { settings = settings_view settings; labels = labels; docs = docs_in labels (map arc_value segments.items); taken = length (docs_in labels (map arc_value segments.items)); taken_labels = length labels; waiting = 0 }) }
     {
-        let labels = Taxonomy::new(alloc)?;
+        // Its clause says that these are a label list.
+        let _ = labels.size();
         let view = labels.view()?;
+        let stored = count(&segments);
+        let published = segments.len();
         Ok(Session {
             alloc,
             settings,
             labels,
-            view,
-            segments: Vec::new(alloc),
-            taken: 0,
+            segments,
+            stored,
             buffer: Vec::new(alloc),
+            view,
+            published,
+            taken: stored,
         })
     }
 
-    fn add(&mut self, doc: Document) -> Reply
-        ensures right { RightReply self.old.settings self.old.shelf (add_command doc) (reply_view result) self.new.shelf }
+    /// Adds a document, and answers it.
+    pub fn add(&mut self, doc: Document) -> Reply
+        ensures right { (store : Store) → RightReply self.old.settings (shelf_of self.old store) (add_command doc) (reply_view result) (shelf_of self.new store) }
         ensures same { self.new.settings ≡ self.old.settings }
     {
-        add(
+        // Their clauses say that these are label lists.
+        let _ = self.view.size();
+        let _ = self.labels.size();
+        let reply = add(
             self.alloc,
             &self.settings,
             &mut self.labels,
-            self.taken,
+            self.stored,
             &mut self.buffer,
             doc,
-        )
+        );
+        let _ = self.labels.size();
+        reply
     }
 
-    fn refresh(&mut self) -> Reply
-        ensures right { RightReply self.old.settings self.old.shelf refresh_command (reply_view result) self.new.shelf }
+    /// Lets searches see all documents, and answers it.
+    pub fn refresh(&mut self) -> Reply
+        ensures right { (store : Store) → RightReply self.old.settings (shelf_of self.old store) refresh_command (reply_view result) (shelf_of self.new store) }
         ensures same { self.new.settings ≡ self.old.settings }
     {
         // Their clauses say that these are label lists.
@@ -95,8 +120,10 @@ impl Session {
         let added = self.buffer.len();
         match flush(self.alloc, &mut self.segments, &mut self.buffer) {
             Ok(()) => {
+                self.stored += added;
                 self.view = view;
-                self.taken += added;
+                self.published = self.segments.len();
+                self.taken = self.stored;
                 Reply::Number {
                     n: self.taken as u64,
                 }
@@ -105,14 +132,16 @@ impl Session {
         }
     }
 
-    fn search(&self, ask: &SearchAsk) -> Reply
-        ensures right { RightReply self.now.settings self.now.shelf (search_command (search_view ask.now)) (reply_view result) self.now.shelf }
+    /// The reply to a search.
+    pub fn search(&self, ask: &SearchAsk) -> Reply
+        ensures right { (store : Store) → RightReply self.now.settings (shelf_of self.now store) (search_command (search_view ask.now)) (reply_view result) (shelf_of self.now store) }
     {
+        let segments = front(&self.segments, self.published);
         match search(
             self.alloc,
             &self.settings.config,
             &self.view,
-            &self.segments,
+            segments,
             self.taken as u64,
             ask,
         ) {
@@ -121,76 +150,69 @@ impl Session {
         }
     }
 
-    fn document(&self, at: u32) -> Reply
-        ensures right { RightReply self.now.settings self.now.shelf (document_command at) (reply_view result) self.now.shelf }
+    /// The reply that shows a document.
+    pub fn document(&self, at: u32) -> Reply
+        ensures right { (store : Store) → RightReply self.now.settings (shelf_of self.now store) (document_command at) (reply_view result) (shelf_of self.now store) }
     {
         // Their clauses say that these are label lists.
         let _ = self.view.size();
         let _ = self.labels.size();
-        match show(
-            self.alloc,
-            &self.view,
-            &self.segments,
-            self.taken as u64,
-            at,
-        ) {
+        let segments = front(&self.segments, self.published);
+        match show(self.alloc, &self.view, segments, self.taken as u64, at) {
             Ok(reply) => reply,
             Err(NoMemory) => Reply::Refused(Refusal::NoMemory),
         }
     }
 
-    /// Carries out a command, and answers it.
-    pub fn step(&mut self, command: Command) -> Reply
-        ensures right { RightReply self.old.settings self.old.shelf (command_view command) (reply_view result) self.new.shelf }
-        ensures same { self.new.settings ≡ self.old.settings }
+    /// The reply that tells what the last refresh took.
+    pub fn stats(&self) -> Reply
+        ensures right { (store : Store) → RightReply self.now.settings (shelf_of self.now store) stats_command (reply_view result) (shelf_of self.now store) }
     {
-        match command {
-            Command::Add { doc } => self.add(doc),
-            Command::Refresh => self.refresh(),
-            Command::Search {
-                query,
-                drill,
-                sideways,
-                asks,
-                hits,
-            } => self.search(&SearchAsk {
-                query,
-                drill,
-                asks,
-                hits,
-                sideways,
-            }),
-            Command::Document { at } => self.document(at),
+        Reply::Stats {
+            n: self.taken as u64,
+            labels: self.view.size(),
+            documents: self.taken as u32,
         }
     }
-}
 
-#[tactic(auto, using(crate::proofs::Replies::replied, crate::proofs::Replies::replies_start, crate::proofs::Replies::replies_end))]
-fn reply_each(alloc: Global, session: &mut Session, orders: Vec<Order>) -> Result<Vec<u8>, NoMemory>
-    requires { session.old.shelf ≡ empty_shelf }
-    ensures { IfOk result (λ v. AreReplies session.old.settings orders.items v.items) }
-{
-    let mut out = Vec::new(alloc);
-    for order in orders {
-        let Order {
-            session: number,
-            line,
-            command,
-        } = order;
-        let reply = session.step(command);
-        write_reply(alloc, &mut out, number, line, &reply)?;
+    /// The number of documents.
+    pub fn documents(&self) -> u64
+        ensures { result ≡ length self.now.docs }
+    {
+        (self.stored + self.buffer.len()) as u64
     }
-    Ok(out)
-}
 
-/// The lines of the replies to these orders, from the start on.
-pub fn reply_to_all(
-    alloc: Global,
-    settings: Settings,
-    orders: Vec<Order>,
-) -> Result<Vec<u8>, NoMemory>
-    ensures { IfOk result (λ v. AreReplies (settings_view settings) orders.items v.items) }
-{
-    let mut session = Session::new(alloc, settings)?;
-    reply_each(alloc, &mut session, orders)
+    /// The documents that wait become a segment.
+    pub fn flush(&mut self) -> Result<(), NoMemory>
+        ensures flushed { OnOk result (self.new ≡ record self.old { waiting = 0 }) }
+        ensures same { OnErr result (self.new ≡ self.old) }
+    {
+        // Its clause says that these are a label list.
+        let _ = self.labels.size();
+        let added = self.buffer.len();
+        flush(self.alloc, &mut self.segments, &mut self.buffer)?;
+        self.stored += added;
+        Ok(())
+    }
+
+    /// The labels as they stand.
+    pub fn labels(&self) -> Result<TaxoView, NoMemory>
+        ensures { IfOk result (λ view. view ≡ self.now.labels) }
+    {
+        self.labels.view()
+    }
+
+    /// The segments of all documents but those that wait.
+    pub fn segments(&self) -> &[Arc<Segment>]
+        ensures docs { self.now.waiting ≡ 0 → docs_in self.now.labels (map arc_value result.now) ≡ self.now.docs }
+        ensures decodes { Decodes self.now.labels self.now.settings.config (map arc_value result.now) (docs_in self.now.labels (map arc_value result.now)) }
+        ensures few { length (docs_in self.now.labels (map arc_value result.now)) ≤ 1000000 }
+        ensures some { docs_in self.now.labels (map arc_value result.now) ≡ [] → map arc_value result.now ≡ [] }
+    {
+        // Its clause says that a segment has a document.
+        if let Some(first) = self.segments.first() {
+            let _ = first.docs();
+        }
+        &self.segments
+    }
 }

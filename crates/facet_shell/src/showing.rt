@@ -1,8 +1,8 @@
-ghost use Rattle.std.specs.Prelude.{◌≡◌, ◌<◌, ◌⊎◌, ℕ, List, Some, None, All, IfOk, MatchOption, length, map, slice_get};
+ghost use Rattle.std.specs.Prelude.{◌≡◌, ◌<◌, ◌≤◌, ◌⊎◌, [], ℕ, List, Some, None, All, IfOk, MatchOption, length, map, slice_get, take};
 ghost use Rattle.std.specs.Arc.{arc_value};
 ghost use Rattle.facet_replies.specs.ReplyViews.{reply_view};
 ghost use Rattle.seg_grammar.specs.Lookups.{record_of};
-ghost use Rattle.seg_decoding.specs.Decoding.{doc_in, records_in};
+ghost use Rattle.seg_decoding.specs.Decoding.{doc_in, docs_in, records_in};
 ghost use Rattle.facet_shell.specs.Searching.{IsShownFrom};
 
 use facet_model::Document;
@@ -11,7 +11,7 @@ use facet_words::{Refusal, Reply};
 use seg_file::{Ords, Segment};
 use std::alloc::Global;
 use std::sync::Arc;
-use taxo_list::TaxoView;
+use taxo_list::{TaxoView, Taxonomy};
 
 /// The segment that has the document at a place, with the document's place in it. It goes from segment to segment, and takes no memory.
 pub fn find(segments: &[Arc<Segment>], at: usize) -> Option<(&Segment, u32)>
@@ -26,6 +26,38 @@ pub fn find(segments: &[Arc<Segment>], at: usize) -> Option<(&Segment, u32)>
         at -= docs as usize;
     }
     None
+}
+
+/// The first of these segments.
+pub fn front(segments: &[Arc<Segment>], n: usize) -> &[Arc<Segment>]
+    requires { n ≤ length segments.now }
+    ensures { map arc_value result.now ≡ take n (map arc_value segments.now) }
+{
+    let (first, _) = segments.split_at(n);
+    first
+}
+
+/// Where there are segments, there are documents.
+pub fn have_documents(labels: &Taxonomy, segments: &[Arc<Segment>])
+    ensures { docs_in labels.now (map arc_value segments.now) ≡ [] → map arc_value segments.now ≡ [] }
+{
+    let _ = labels;
+    // Its clause says that a segment has a document.
+    if let Some(first) = segments.first() {
+        let _ = first.docs();
+    }
+}
+
+/// How many documents these segments have.
+pub fn count(segments: &[Arc<Segment>]) -> usize
+    requires { length (records_in (map arc_value segments.now)) ≤ 1000000 }
+    ensures { result ≡ length (records_in (map arc_value segments.now)) }
+{
+    let mut count = 0;
+    for segment in segments {
+        count += segment.docs() as usize;
+    }
+    count
 }
 
 fn ordinals_of(alloc: Global, mut leaves: Ords<'_>) -> Result<Vec<u32>, NoMemory>

@@ -1,19 +1,10 @@
-ghost use Rattle.std.specs.Prelude.{◌≤◌};
-
 use crate::rows::ROWS;
-use crate::{Ended, Status, run};
+use crate::test_runs::{BOB, CONFIG, LISA, REFRESH, empty_disk, joined, run_on, texts};
+use crate::{Status, place, run};
 use facet_codec::{Cursor, put_text, put_u32};
 use facet_io::{MemorySink, MemorySource};
 use std::alloc::Global;
 use std::test::Fail;
-
-const CONFIG: &[u8] = b"{\"cmd\":\"config\"}\n";
-
-const BOB: &[u8] = b"{\"s\":1,\"cmd\":\"add\",\"id\":\"b1\",\"facets\":[[\"Author\",\"Bob\"]]}\n";
-
-const LISA: &[u8] = b"{\"s\":1,\"cmd\":\"add\",\"id\":\"b2\",\"facets\":[[\"Author\",\"Lisa\"]]}\n";
-
-const REFRESH: &[u8] = b"{\"s\":1,\"cmd\":\"refresh\"}\n";
 
 const SEARCH: &[u8] =
     b"{\"s\":1,\"cmd\":\"search\",\"hits\":0,\"ask\":[{\"top\":[\"Author\"],\"n\":2}]}\n";
@@ -23,41 +14,13 @@ const BOOKS: &[&[u8]] = &[CONFIG, BOB, LISA, LISA, REFRESH, SEARCH];
 const REPLIES: &[u8] =
     b"{\"at\":0,\"line\":2,\"s\":1}\n{\"at\":1,\"line\":3,\"s\":1}\n{\"at\":2,\"line\":4,\"s\":1}\n{\"line\":5,\"n\":3,\"s\":1}\n{\"hit_count\":3,\"hits\":[],\"line\":6,\"n\":3,\"results\":[{\"child_count\":2,\"children\":[[\"Lisa\",2],[\"Bob\",1]],\"path\":[\"Author\"],\"value\":3}],\"s\":1}\n";
 
-// A script of these pieces, behind one another.
-fn joined(alloc: Global, pieces: &[&[u8]]) -> Result<Vec<u8>, Fail> {
-    let mut bytes = Vec::new(alloc);
-    for piece in pieces {
-        bytes.extend_from_slice(*piece)?;
-    }
-    Ok(bytes)
-}
-
-// A run without words; the reads and writes with these numbers fail.
-fn run_on(
-    rt: &HostRuntime,
-    script: &[u8],
-    piece: usize,
-    reads: &[u64],
-    writes: &[u64],
-) -> Result<(Ended, MemorySink), Fail>
-    requires { 1 ≤ piece }
-{
-    let alloc = rt.alloc();
-    let script = Vec::from_slice(alloc, script)?;
-    let mut source = MemorySource::new(script, piece, Vec::from_slice(alloc, reads)?);
-    let mut sink = MemorySink::new(alloc, Vec::from_slice(alloc, writes)?);
-    let words: Vec<String> = Vec::new(alloc);
-    let ended = run(rt, &words, &mut source, &mut sink);
-    Ok((ended, sink))
-}
-
 #[test]
 fn books(rt: HostRuntime) -> Result<(), Fail> {
     let alloc = rt.alloc();
     let script = joined(alloc, BOOKS)?;
     for piece in [1usize, 100, 4096] {
-        let (ended, sink) = run_on(&rt, &script, piece, &[], &[])?;
-        assert!(rt; ended.status == Status::Done && ended.status.code() == 0);
+        let (status, sink) = run_on(&rt, &script, piece, &[], &[])?;
+        assert!(rt; status == Status::Done && status.code() == 0);
         assert!(rt; sink.bytes() == REPLIES, "pieces of {piece}");
     }
     Ok(())
@@ -69,31 +32,67 @@ fn failing_reads_and_writes(rt: HostRuntime) -> Result<(), Fail> {
     let script = joined(alloc, BOOKS)?;
     // Under 300 bytes: three reads of 100 at most, and one that finds the end.
     for read in 1u64..5 {
-        let (ended, sink) = run_on(&rt, &script, 100, &[read], &[])?;
-        assert!(rt; ended.status == Status::ReadFault, "read {read}");
+        let (status, sink) = run_on(&rt, &script, 100, &[read], &[])?;
+        assert!(rt; status == Status::ReadFault, "read {read}");
         assert!(rt; sink.bytes() == b"{\"fault\":\"read_fault\"}\n".as_slice());
     }
-    let (ended, _) = run_on(&rt, &script, 100, &[5], &[])?;
-    assert!(rt; ended.status == Status::Done);
-    let (ended, sink) = run_on(&rt, &script, 100, &[], &[1])?;
-    assert!(rt; ended.status == Status::WriteFault && ended.status.code() == 4);
+    let (status, _) = run_on(&rt, &script, 100, &[5], &[])?;
+    assert!(rt; status == Status::Done);
+    let (status, sink) = run_on(&rt, &script, 100, &[], &[1])?;
+    assert!(rt; status == Status::WriteFault && status.code() == 4);
     assert!(rt; sink.bytes().is_empty());
     // A fault whose line cannot be written stays that fault.
-    let (ended, sink) = run_on(&rt, &script, 100, &[2], &[1])?;
-    assert!(rt; ended.status == Status::ReadFault && sink.bytes().is_empty());
+    let (status, sink) = run_on(&rt, &script, 100, &[2], &[1])?;
+    assert!(rt; status == Status::ReadFault && sink.bytes().is_empty());
     Ok(())
+}
+
+// The words of a command line, the directory that they name, and how a run with them ends.
+struct CommandLine {
+    words: &'static [&'static str],
+    dir: Option<&'static str>,
+    status: Status,
+}
+
+const COMMAND_LINES: &[CommandLine] = &[
+    CommandLine {
+        words: &[],
+        dir: None,
+        status: Status::BadWords,
+    },
+    CommandLine {
+        words: &["store"],
+        dir: Some("store"),
+        status: Status::Done,
+    },
+    CommandLine {
+        words: &["store", "shop"],
+        dir: None,
+        status: Status::BadWords,
+    },
+];
+
+// How a run with these words ends, and what it writes.
+fn run_with(rt: &HostRuntime, words: &[String]) -> Result<(Status, MemorySink), Fail> {
+    let alloc = rt.alloc();
+    let mut source = MemorySource::new(joined(alloc, BOOKS)?, 100, Vec::new(alloc));
+    let mut sink = MemorySink::new(alloc, Vec::new(alloc));
+    let ended = run(rt, words, &mut source, &mut sink, empty_disk(alloc));
+    Ok((ended.status, sink))
 }
 
 #[test]
 fn words(rt: HostRuntime) -> Result<(), Fail> {
     let alloc = rt.alloc();
-    let mut source = MemorySource::new(joined(alloc, BOOKS)?, 100, Vec::new(alloc));
-    let mut sink = MemorySink::new(alloc, Vec::new(alloc));
-    let mut words = Vec::new(alloc);
-    words.push(String::from_str(alloc, "x")?)?;
-    let ended = run(&rt, &words, &mut source, &mut sink);
-    assert!(rt; ended.status == Status::BadWords);
-    assert!(rt; sink.bytes() == b"{\"fault\":\"bad_words\"}\n".as_slice());
+    for row in COMMAND_LINES {
+        let words = texts(alloc, row.words)?;
+        let dir = place(alloc, &words)?;
+        assert!(rt; dir.as_deref() == row.dir);
+        let (status, sink) = run_with(&rt, &words)?;
+        assert!(rt; status == row.status);
+        let told = sink.bytes() == b"{\"fault\":\"bad_words\"}\n".as_slice();
+        assert!(rt; told == (status == Status::BadWords));
+    }
     Ok(())
 }
 
@@ -127,11 +126,8 @@ fn sizes(rt: HostRuntime) -> Result<(), Fail> {
     for (id, component, want) in cases {
         let document = document(alloc, id, component)?;
         let script = joined(alloc, &[CONFIG, document.as_slice(), REFRESH, SEARCH])?;
-        let (ended, _) = run_on(&rt, &script, 4096, &[], &[])?;
-        assert!(rt;
-            ended.status == want,
-            "an id of {id}, a component of {component}"
-        );
+        let (status, _) = run_on(&rt, &script, 4096, &[], &[])?;
+        assert!(rt; status == want, "an id of {id}, a component of {component}");
     }
     Ok(())
 }
@@ -155,8 +151,8 @@ fn many_facets(rt: HostRuntime) -> Result<(), Fail> {
     for (facets, want) in [(256usize, Status::Done), (257, Status::BadScript)] {
         let document = faceted(alloc, facets)?;
         let script = joined(alloc, &[TAGS, document.as_slice()])?;
-        let (ended, _) = run_on(&rt, &script, 4096, &[], &[])?;
-        assert!(rt; ended.status == want, "{facets} facets");
+        let (status, _) = run_on(&rt, &script, 4096, &[], &[])?;
+        assert!(rt; status == want, "{facets} facets");
     }
     Ok(())
 }
@@ -177,8 +173,8 @@ fn many_drill_paths(rt: HostRuntime) -> Result<(), Fail> {
     let alloc = rt.alloc();
     let search = drilled(alloc, 256)?;
     let script = joined(alloc, &[CONFIG, BOB, LISA, REFRESH, search.as_slice()])?;
-    let (ended, sink) = run_on(&rt, &script, 4096, &[], &[])?;
-    assert!(rt; ended.status == Status::Done);
+    let (status, sink) = run_on(&rt, &script, 4096, &[], &[])?;
+    assert!(rt; status == Status::Done);
     let reply =
         b"{\"hit_count\":1,\"hits\":[{\"at\":0,\"id\":\"b1\"}],\"line\":5,\"n\":2,\"results\":[],\"s\":1}\n";
     assert!(rt; sink.bytes().ends_with(reply));
@@ -216,8 +212,8 @@ fn stored_labels(rt: HostRuntime) -> Result<(), Fail> {
 #[test]
 fn rows(rt: HostRuntime) -> Result<(), Fail> {
     for row in ROWS {
-        let (ended, sink) = run_on(&rt, row.script.as_bytes(), 4096, &[], &[])?;
-        assert!(rt; ended.status == row.status, "{}", row.name);
+        let (status, sink) = run_on(&rt, row.script.as_bytes(), 4096, &[], &[])?;
+        assert!(rt; status == row.status, "{}", row.name);
         assert!(rt; sink.bytes() == row.output.as_bytes(), "{}", row.name);
     }
     Ok(())

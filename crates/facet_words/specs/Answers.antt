@@ -1,5 +1,5 @@
 -- Which replies of one session are right, and which bytes are a script's output.
-use Rattle.std.specs.Prelude.{◌≡◌, ◌≤◌, ◌⊎◌, ℕ, max, nat_le, nat_lt, if◌then◌else◌, List, [], ◌∷◌, ◌++◌, length, take, map, filter, filter_map, flat_map, fold, slice_get, Option, Some, None, Ok, option_map}
+use Rattle.std.specs.Prelude.{◌≡◌, ◌≤◌, ◌<◌, ◌⊎◌, ◌+◌, ◌-◌, ◌^◌, ℕ, max, nat_le, nat_lt, if◌then◌else◌, List, [], ◌∷◌, ◌++◌, length, take, map, filter, filter_map, flat_map, fold, slice_get, Option, Some, None, Ok, option_map}
 use Rattle.std.specs.List.{AllZip, enumerate_from}
 use Rattle.facet_names.specs.Labels.{with_label, prefixes, place}
 use Rattle.facet_model.specs.Flags.{Config}
@@ -8,20 +8,27 @@ use Rattle.facet_model.specs.Accepts.{Broken, first_broken}
 use Rattle.facet_model.specs.Asks.{Asked, AskFault, top_of_none, value_not_kept, ask_fault}
 use Rattle.facet_model.specs.Results.{Answer, IsAnswer}
 use Rattle.facet_model.specs.Hits.{is_hit, hits, lifted}
-use Rattle.facet_words.specs.Commands.{Settings, Search, Command, add, refresh, search, document, Order, Script}
-use Rattle.facet_words.specs.Scripts.{script}
-use Rattle.facet_replies.specs.Replies.{Refusal, broken, labels_full, docs_full, top_zero, dim_value_not_kept, no_such_document, no_memory, Reply, placed, numbered, found, shown, refused}
+use Rattle.facet_words.specs.Commands.{Settings, Search, Command, add, refresh, search, document, stats, commit, Order, Script}
+use Rattle.facet_replies.specs.Replies.{Refusal, broken, labels_full, docs_full, top_zero, dim_value_not_kept, no_such_document, disk_failed, closed, numbers_spent, no_memory, Reply, placed, numbered, found, shown, stats as numbers, refused}
 use Rattle.facet_replies.specs.ReplyLines.{reply_line}
 
--- what a session works on: the labels with the root, the documents, and how many of them the last refresh took
+-- how a store stands: the disk's count of faults at which a commit failed, after which none is made; the count as it is now; and the number that the next file takes
+pub record Store : Type 0 where
+  pub closed : Option ℕ
+  pub faults : ℕ
+  pub next : ℕ
+
+-- what a session works on: the labels with the root, the documents, how many documents and labels the last refresh took, and the store
 pub record Shelf : Type 0 where
   pub labels : List (List (List ℕ))
   pub docs : List Doc
   pub taken : ℕ
+  pub taken_labels : ℕ
+  pub store : Store
 
--- the root alone, and no document
-abbrev pub empty_shelf : Shelf
-empty_shelf = record { labels = [] ∷ []; docs = []; taken = 0 }
+-- what was opened, all of which searches see
+abbrev pub opened_shelf : List (List (List ℕ)) → List Doc → Store → Shelf
+opened_shelf labels docs store = record { labels = labels; docs = docs; taken = length docs; taken_labels = length labels; store = store }
 
 -- the documents that a search sees
 abbrev pub snapshot : Shelf → List Doc
@@ -88,14 +95,53 @@ IsShown shelf at None reply = reply ≡ refused (no_such_document (length (snaps
 IsShown shelf at (Some doc) reply = (ordinals : List ℕ) × (map (place shelf.labels) doc.labels ≡ map Some ordinals)
     × (reply ≡ shown (record { operations = shelf.taken; at = at; doc = doc; ordinals = ordinals }))
 
+-- ---- stats
+
+-- what the last refresh took
+abbrev pub numbers_of : Shelf → Reply
+numbers_of shelf = numbers (record { operations = shelf.taken; labels = shelf.taken_labels; documents = length (snapshot shelf) })
+
+-- ---- commit
+
+-- a count of faults rose, or stands where it stays
+abbrev pub Rises : ℕ → ℕ → Type 0
+Rises before now = (before < now) ⊎ (2 ^ 64 - 1 ≤ now)
+
+-- how many files a commit puts at most: a segment of labels, a segment for each document, and two commit files
+abbrev pub most_files : ℕ
+most_files = 1000003
+
+-- the files of a commit took the next numbers
+abbrev pub TakesFiles : Store → Store → Type 0
+TakesFiles before now = (before.next ≤ now.next) × (now.next ≤ before.next + most_files)
+
+-- all documents are durable
+abbrev pub IsDurable : Shelf → Reply → Shelf → Type 0
+IsDurable shelf reply next = (store : Store) × (reply ≡ numbered (length shelf.docs)) × (next ≡ record shelf { store = store }) × (store.closed ≡ None) × (shelf.store.faults ≤ store.faults) × TakesFiles shelf.store store
+
+-- the last file number would be 2^63 or more
+abbrev pub IsSpent : Shelf → Reply → Shelf → Type 0
+IsSpent shelf reply next = (number : ℕ) × (reply ≡ refused (numbers_spent number)) × (2 ^ 63 ≤ number) × (number < shelf.store.next + most_files) × (next ≡ shelf)
+
+-- the disk failed
+abbrev pub IsFailed : Shelf → Reply → Shelf → Type 0
+IsFailed shelf reply next = (store : Store) × (count : ℕ) × (reply ≡ refused (disk_failed count)) × Rises shelf.store.faults count × (next ≡ record shelf { store = store }) × (store.closed ≡ Some count) × (store.faults ≡ count) × TakesFiles shelf.store store
+
+-- The reply to a commit, given the count at which an earlier one failed.
+abbrev pub IsCommitted : Shelf → Option ℕ → Reply → Shelf → Type 0
+IsCommitted shelf (Some count) reply next = (reply ≡ refused (closed count)) × (next ≡ shelf)
+IsCommitted shelf None reply next = IsDurable shelf reply next ⊎ IsSpent shelf reply next ⊎ IsFailed shelf reply next
+
 -- ---- each command
 
 -- the reply is right, and leaves the next shelf
 abbrev pub IsRight : Settings → Shelf → Command → Reply → Shelf → Type 0
 IsRight settings shelf (add doc) reply next = let r = added settings shelf doc (first_broken settings.config doc) in (reply ≡ r.0) × (next ≡ r.1)
-IsRight settings shelf refresh reply next = (reply ≡ numbered (length shelf.docs)) × (next ≡ record shelf { taken = length shelf.docs })
+IsRight settings shelf refresh reply next = (reply ≡ numbered (length shelf.docs)) × (next ≡ record shelf { taken = length shelf.docs; taken_labels = length shelf.labels })
 IsRight settings shelf (search s) reply next = IsFound settings.config shelf.taken (snapshot shelf) s (first_refused settings.config s.asks) reply × (next ≡ shelf)
 IsRight settings shelf (document at) reply next = IsShown shelf at (slice_get (snapshot shelf) at) reply × (next ≡ shelf)
+IsRight settings shelf stats reply next = (reply ≡ numbers_of shelf) × (next ≡ shelf)
+IsRight settings shelf commit reply next = IsCommitted shelf shelf.store.closed reply next
 
 -- what a command leaves that found no memory
 abbrev pub IsLeft : Settings → Shelf → Command → Shelf → Type 0
@@ -103,6 +149,8 @@ IsLeft settings shelf (add doc) next = LeavesSome settings shelf doc (first_brok
 IsLeft settings shelf refresh next = next ≡ shelf
 IsLeft settings shelf (search s) next = next ≡ shelf
 IsLeft settings shelf (document at) next = next ≡ shelf
+IsLeft settings shelf stats next = ⊥
+IsLeft settings shelf commit next = next ≡ shelf
 
 -- it is right, or there was no memory
 abbrev pub RightReply : Settings → Shelf → Command → Reply → Shelf → Type 0
@@ -110,12 +158,12 @@ RightReply settings shelf command reply next = IsRight settings shelf command re
 
 -- ---- a run
 
--- one reply for each order, each right where the ones before have left the shelf
-abbrev pub RightReplies : Settings → Shelf → List Order → List Reply → Type 0
-RightReplies settings shelf [] [] = Unit {0}
-RightReplies settings shelf [] (r ∷ rs) = ⊥
-RightReplies settings shelf (o ∷ os) [] = ⊥
-RightReplies settings shelf (o ∷ os) (r ∷ rs) = (next : Shelf) × RightReply settings shelf o.command r next × RightReplies settings next os rs
+-- one reply for each order, each right where the ones before have left the shelf; what the last one leaves
+abbrev pub RightReplies : Settings → Shelf → List Order → List Reply → Shelf → Type 0
+RightReplies settings shelf [] [] last = last ≡ shelf
+RightReplies settings shelf [] (r ∷ rs) last = ⊥
+RightReplies settings shelf (o ∷ os) [] last = ⊥
+RightReplies settings shelf (o ∷ os) (r ∷ rs) last = (next : Shelf) × RightReply settings shelf o.command r next × RightReplies settings next os rs last
 
 -- the lines of the replies to these orders, in their order
 abbrev pub reply_lines : List Order → List Reply → List ℕ
@@ -123,10 +171,13 @@ reply_lines [] rs = []
 reply_lines (o ∷ os) [] = []
 reply_lines (o ∷ os) (r ∷ rs) = reply_line o.session o.line r ++ reply_lines os rs
 
--- the bytes are the lines of right replies
-abbrev pub RightOutput : Script → List ℕ → Type 0
-RightOutput s bytes = (replies : List Reply) × RightReplies s.settings empty_shelf s.orders replies × (bytes ≡ reply_lines s.orders replies)
+-- how many documents a commit that was answered so has made durable
+abbrev pub durable_by : Command → Reply → ℕ
+durable_by commit (numbered n) = n
+durable_by _ _ = 0
 
--- the bytes are the output of an input that is a script
-abbrev pub Outputs : List ℕ → List ℕ → Type 0
-Outputs input bytes = (s : Script) × (script input ≡ Ok s) × RightOutput s bytes
+-- how many documents the commits that were acknowledged have made durable
+abbrev pub durable : List Order → List Reply → ℕ
+durable [] rs = 0
+durable (o ∷ os) [] = 0
+durable (o ∷ os) (r ∷ rs) = max (durable_by o.command r) (durable os rs)

@@ -14,6 +14,8 @@ command_view (commands.Add doc) = plain.add doc
 command_view commands.Refresh = plain.refresh
 command_view (commands.Search query drill sideways asks hits) = plain.search (record { query = query_view query; drill = drill; sideways = sideways; asks = map ask_view asks.items; hits = hits })
 command_view (commands.Document at) = plain.document at
+command_view commands.Stats = plain.stats
+command_view commands.Commit = plain.commit
 
 abbrev pub order_view : Order → plain.Order
 order_view o = record { session = o.session; line = o.line; command = command_view o.command }

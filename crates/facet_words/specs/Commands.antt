@@ -26,6 +26,8 @@ pub data Command : Type 0 where
   refresh : Command
   search : Search → Command
   document : ℕ → Command
+  stats : Command
+  commit : Command
 
 -- a command with its session and its line
 pub record Order : Type 0 where

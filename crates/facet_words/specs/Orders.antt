@@ -9,7 +9,7 @@ use Rattle.facet_model.specs.declared.flags.DimFlags.{DimFlags}
 use Rattle.facet_model.specs.Flags.{Config}
 use Rattle.facet_model.specs.Asks.{Asked, top, one_value, all_dims}
 use Rattle.facet_model.specs.Queries.{all}
-use Rattle.facet_words.specs.Commands.{Settings, Command, add, refresh, search, document}
+use Rattle.facet_words.specs.Commands.{Settings, Command, add, refresh, search, document, stats, commit}
 use Rattle.facet_words.specs.Queries.{query_of}
 use Rattle.facet_words.specs.Shapes.{◌>>=◌, when, whole, text_within, whole_within, list_of, list_within, path, key, key_or, keys_among}
 
@@ -72,8 +72,9 @@ add_of d = do
   facets ← key_or (codes "facets") [] (list_within 0 256 path) d
   when (keys_among (codes "cmd" ∷ codes "s" ∷ codes "id" ∷ codes "text" ∷ codes "facets" ∷ []) d) (add (record { id = id; text = text; labels = facets }))
 
-unfoldable pub refresh_of : Data → Option Command
-refresh_of d = when (keys_among (codes "cmd" ∷ codes "s" ∷ []) d) refresh
+-- a command without further keys
+unfoldable pub plain_of : Command → Data → Option Command
+plain_of command d = when (keys_among (codes "cmd" ∷ codes "s" ∷ []) d) command
 
 unfoldable pub search_of : Data → Option Command
 search_of d = do
@@ -92,10 +93,12 @@ document_of d = do
 unfoldable pub command_named : List ℕ → Data → Option Command
 command_named name d =
     if bytes_eq name (codes "add") then add_of d
-    else (if bytes_eq name (codes "refresh") then refresh_of d
+    else (if bytes_eq name (codes "refresh") then plain_of refresh d
     else (if bytes_eq name (codes "search") then search_of d
     else (if bytes_eq name (codes "document") then document_of d
-    else None)))
+    else (if bytes_eq name (codes "stats") then plain_of stats d
+    else (if bytes_eq name (codes "commit") then plain_of commit d
+    else None)))))
 
 -- the session's number, and the command
 unfoldable pub command_of : Data → Option (ℕ × Command)

@@ -25,6 +25,10 @@ pub enum Command {
     Document {
         at: u32,
     },
+    /// Tells how many documents and labels the last refresh took.
+    Stats,
+    /// Makes all that was added so far durable.
+    Commit,
 }
 
 /// A command with the number of its session and of its line, each from 1.

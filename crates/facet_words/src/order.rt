@@ -3,7 +3,7 @@ ghost use Rattle.serde_json.specs.View.{view};
 ghost use Rattle.facet_model.specs.Queries.{all};
 ghost use Rattle.facet_model.specs.QueryViews.{query_view};
 ghost use Rattle.facet_words.specs.CommandViews.{command_view, order_view};
-ghost use Rattle.facet_words.specs.Orders.{add_of, refresh_of, search_of, document_of, command_named, command_of};
+ghost use Rattle.facet_words.specs.Orders.{add_of, plain_of, search_of, document_of, command_named, command_of};
 ghost use Rattle.facet_words.specs.Queries.{query_of};
 ghost use Rattle.facet_words.specs.Scripts.{order_of, order_at};
 ghost use Rattle.facet_words.specs.Shapes.{key_or, is_within};
@@ -59,12 +59,13 @@ fn add_in(alloc: Global, value: &Value) -> Result<Option<Command>, NoMemory>
     }
 }
 
-#[tactic(auto, unfolding(crate::specs::Orders::refresh_of))]
-fn refresh_in(value: &Value) -> Option<Command>
-    ensures { option_map command_view result ≡ refresh_of (view value.now) }
+// A command without further keys.
+#[tactic(auto, unfolding(crate::specs::Orders::plain_of))]
+fn plain_in(value: &Value, command: Command) -> Option<Command>
+    ensures { option_map command_view result ≡ plain_of (command_view command) (view value.now) }
 {
     if keys_among(value, &["cmd", "s"]) {
-        Some(Command::Refresh)
+        Some(command)
     } else {
         None
     }
@@ -132,9 +133,11 @@ fn command_in(alloc: Global, name: &str, value: &Value) -> Result<Option<Command
 {
     match name {
         "add" => add_in(alloc, value),
-        "refresh" => Ok(refresh_in(value)),
+        "refresh" => Ok(plain_in(value, Command::Refresh)),
         "search" => search_in(alloc, value),
         "document" => Ok(document_in(value)),
+        "stats" => Ok(plain_in(value, Command::Stats)),
+        "commit" => Ok(plain_in(value, Command::Commit)),
         _ => Ok(None),
     }
 }

@@ -115,8 +115,8 @@ null
 {"s":1,"cmd":"phase"}
 {"s":1,"cmd":"hold","name":"a"}
 {"s":1,"cmd":"release","name":"a"}
-{"s":1,"cmd":"stats"}
-{"s":1,"cmd":"commit"}
+{"s":1,"cmd":"stats","on":"a"}
+{"s":1,"cmd":"commit","n":1}
 {"s":1,"cmd":"merge"}
 {"s":1,"cmd":"config"}
 {"cmd":"config"}
@@ -272,6 +272,8 @@ const BAD_SESSION: &str = r#"{"s":0,"cmd":"refresh"}
 {"s":2,"cmd":"document","at":0}"#;
 
 const GOOD: &str = r#"{"s":1,"cmd":"refresh"}
+{"s":1,"cmd":"stats"}
+{"s":1,"cmd":"commit"}
 {"cmd":"refresh","s":2,"s":1}
 {"\u0073":1,"cmd":"refresh"}
 {"s":1,"cmd":"add","id":"a"}
@@ -422,7 +424,7 @@ fn bytes_that_are_no_text(rt: HostRuntime) -> Result<(), Fail> {
 
 // What is read of a script that sets all that may be set.
 const SHOP: &[u8] =
-    b"{\"cmd\":\"config\",\"max_docs\":7,\"max_labels\":8,\"stripes\":9,\"cache\":10,\"dims\":[{\"dim\":\"Tag\",\"multi_valued\":true}]}\n{\"s\":1,\"cmd\":\"search\",\"query\":{\"bool\":{\"must_not\":[{\"term\":\"a\"}]}},\"drill\":[[\"Tag\"]],\"sideways\":true,\"ask\":[{\"all\":3},{\"specific\":[\"Tag\",\"x\"]}]}\n{\"s\":1,\"cmd\":\"search\"}\n{\"s\":1,\"cmd\":\"document\",\"at\":7}";
+    b"{\"cmd\":\"config\",\"max_docs\":7,\"max_labels\":8,\"stripes\":9,\"cache\":10,\"dims\":[{\"dim\":\"Tag\",\"multi_valued\":true}]}\n{\"s\":1,\"cmd\":\"search\",\"query\":{\"bool\":{\"must_not\":[{\"term\":\"a\"}]}},\"drill\":[[\"Tag\"]],\"sideways\":true,\"ask\":[{\"all\":3},{\"specific\":[\"Tag\",\"x\"]}]}\n{\"s\":1,\"cmd\":\"search\"}\n{\"s\":1,\"cmd\":\"document\",\"at\":7}\n{\"s\":1,\"cmd\":\"stats\"}\n{\"s\":1,\"cmd\":\"commit\"}";
 
 // How many queries each list of a boolean query has.
 fn lists(query: &Query) -> Option<(usize, usize, usize)> {
@@ -453,6 +455,8 @@ fn summary(command: &Command) -> (Option<(usize, usize, usize)>, usize, bool, us
             *hits,
         ),
         Command::Document { at } => (None, 0, false, 0, *at),
+        Command::Stats => (None, 1, false, 0, 0),
+        Command::Commit => (None, 2, false, 0, 0),
         _ => (None, 0, false, 0, 0),
     }
 }
@@ -461,12 +465,14 @@ fn summary(command: &Command) -> (Option<(usize, usize, usize)>, usize, bool, us
 fn searches_and_documents(rt: HostRuntime) -> Result<(), Fail> {
     let alloc = rt.alloc();
     let script = read_script(alloc, SHOP)?;
-    assert!(rt; script.orders.len() == 3);
+    assert!(rt; script.orders.len() == 5);
     let order = &script.orders[0];
     assert!(rt; (order.session, order.line) == (1, 2));
     assert!(rt; summary(&order.command) == (Some((0, 0, 1)), 1, true, 2, 10));
     assert!(rt; summary(&script.orders[1].command) == (None, 0, false, 0, 10));
     assert!(rt; summary(&script.orders[2].command) == (None, 0, false, 0, 7));
+    assert!(rt; summary(&script.orders[3].command) == (None, 1, false, 0, 0));
+    assert!(rt; summary(&script.orders[4].command) == (None, 2, false, 0, 0));
     Ok(())
 }
 

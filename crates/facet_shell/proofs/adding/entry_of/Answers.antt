@@ -1,5 +1,6 @@
 use Rattle.std.proofs.Common.{◌∙◌, ◌≤◌, List, ℕ, length, ap, subst}
-use Rattle.facet_shell.proofs.Entered.{as_many, counted_few, entry_made}
+use Rattle.seg_decoding.proofs.Few.{counted_few}
+use Rattle.facet_shell.proofs.Entered.{as_many, entry_made}
 use Rattle.facet_shell.proofs.adding.entry_of.Goals as goal
 
 pub invariant_of-result-clause-as_many : goal.invariant_of-result-clause-as_many

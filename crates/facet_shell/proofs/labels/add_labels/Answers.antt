@@ -2,7 +2,8 @@ use Rattle.std.proofs.Common.{arith, ℕ, List, ◌≡◌, ◌+◌, ◌∙◌, a
 use Rattle.std.specs.Prelude.{fold, flat_map}
 use Rattle.facet_names.specs.Labels.{prefixes, with_label}
 use Rattle.facet_shell.specs.Growing.{IsBetween}
-use Rattle.facet_shell.proofs.Grown.{between_more, first_paths_go_on, all_go_on, one_path_more, stays}
+use Rattle.facet_shell.proofs.Grown.{between_more, first_paths_go_on, all_go_on, one_path_more}
+use Rattle.seg_decoding.proofs.Prefixes.{stays}
 use Rattle.facet_shell.specs.Entries.{IsShort}
 use Rattle.seg_decoding.proofs.Ordinals.{one_path_resolved}
 use Rattle.std.proofs.lemmas.List.Elements.{All-more}

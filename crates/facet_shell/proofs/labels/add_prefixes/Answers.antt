@@ -3,11 +3,12 @@ use Rattle.std.specs.Prelude.{fold}
 use Rattle.std.proofs.lemmas.List.{take_all}
 use Rattle.facet_names.specs.Labels.{above, prefixes, stands, with_label}
 use Rattle.taxo_list.specs.declared.fault.TaxoFault.TheVariants.{LabelsFull}
-use Rattle.facet_shell.proofs.Grown.{root_stands, prefix_at, above_prefix, as_many_prefixes, one_more, is_longer, room_for, with_label_stands, between_now}
+use Rattle.facet_shell.proofs.Grown.{root_stands, above_prefix, one_more, is_longer, room_for, with_label_stands, between_now}
 use Rattle.facet_names.specs.Labels.{place}
 use Rattle.facet_names.proofs.LabelLists.{label_at}
 use Rattle.seg_decoding.proofs.Ordinals.{all_stay, one_ordinal_more}
-use Rattle.facet_shell.proofs.Grown.{all_go_on, stays}
+use Rattle.facet_shell.proofs.Grown.{all_go_on}
+use Rattle.seg_decoding.proofs.Prefixes.{stays, prefix_at, as_many_prefixes}
 use Rattle.facet_shell.proofs.labels.add_prefixes.Goals as goal
 
 pub loop-n-init : goal.loop-n-init

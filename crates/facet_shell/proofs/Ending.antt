@@ -1,0 +1,221 @@
+-- The ends of a run whose words and script were read.
+use Rattle.std.proofs.Common.{◌≡◌, ◌∙◌, ℕ, List, ◌++◌, length, take, Option, None, Some, Ok, Err, refl, sym, ap, subst, arith, append-nil, if◌then◌else◌, inl, inr, ◌⊎◌, ⊎_elim}
+use Rattle.std.proofs.lemmas.Bool.{le-ltb}
+use Rattle.std.specs.Prelude.{◌≢◌}
+use Rattle.std.proofs.lemmas.List.{take_all}
+use Rattle.std.specs.Io.KnownBytes.{Appends, Consumes, IsAtEnd}
+use Rattle.facet_io.specs.Faults.{Rose}
+use Rattle.facet_disk.specs.Images.{Image, Told}
+use Rattle.facet_disk.specs.Calls as disk
+use Rattle.facet_replies.specs.Replies.{Reply}
+use Rattle.facet_words.specs.Answers.{reply_lines, RightReplies, durable}
+use Rattle.facet_words.specs.Commands.{Order, Script}
+use Rattle.facet_words.specs.Scripts.{script}
+use Rattle.store_opening.specs.Files.{files}
+use Rattle.store_opening.specs.Quiet.{IsQuiet}
+use Rattle.store_opening.specs.declared.fault.OpenFault.{OpenFault}
+use Rattle.store_opening.specs.declared.fault.OpenFault.TheVariants as faults
+use Rattle.facet_shell.specs.Recovering.{Keeps}
+use Rattle.facet_shell.specs.Runs.{ReadsWhole, ReadsScript, WritesLine, Ran, Finishes, FinishesPartly, StopsShort, TellsOfStore, script_limit, opened_status, script_status, expected}
+use Rattle.facet_shell.specs.Serving.{Writes, Serves, StaysShut}
+use Rattle.facet_shell.specs.Statuses.{fault_status, open_line, status_line}
+use Rattle.facet_shell.specs.declared.status.Status.{Status}
+use Rattle.facet_shell.specs.declared.status.Status.TheVariants.{Done, WriteFault, BadScript, DiskFault, BadStore, NoMemory, TooLong, OtherConfig}
+
+-- the files have this fault
+abbrev IsOfFiles : OpenFault → Type 0
+IsOfFiles fault = (fault ≢ faults.Disk) × (fault ≢ faults.NoMemory) × ((fault_status fault ≡ BadStore) ⊎ (fault_status fault ≡ OtherConfig))
+
+-- a fault is the disk's, want of memory, or one of the files
+kind_of : (fault : OpenFault) → (fault ≡ faults.Disk) ⊎ (fault ≡ faults.NoMemory) ⊎ IsOfFiles fault
+kind_of faults.Disk = inl refl
+kind_of faults.NoMemory = inr (inl refl)
+kind_of (faults.Missing name) = inr (inr ((λ e. cc e), (λ e. cc e), inl refl))
+kind_of (faults.Damaged name kept digest) = inr (inr ((λ e. cc e), (λ e. cc e), inl refl))
+kind_of (faults.Malformed name at) = inr (inr ((λ e. cc e), (λ e. cc e), inl refl))
+kind_of (faults.Uncovered needs has) = inr (inr ((λ e. cc e), (λ e. cc e), inl refl))
+kind_of (faults.NumbersSpent greatest) = inr (inr ((λ e. cc e), (λ e. cc e), inl refl))
+kind_of (faults.OtherConfig dim) = inr (inr ((λ e. cc e), (λ e. cc e), inr refl))
+
+-- a status that comes after the script was read
+pub data IsLater : Status → Type 0 where
+  at_done : IsLater Done
+  at_write : IsLater WriteFault
+  at_disk : IsLater DiskFault
+  at_store : IsLater BadStore
+  at_memory : IsLater NoMemory
+  at_config : IsLater OtherConfig
+
+later_of : (fault : OpenFault) → (fault ≡ faults.Disk) ⊎ (fault ≡ faults.NoMemory) ⊎ IsOfFiles fault → IsLater (fault_status fault)
+later_of fault (inl is) = subst (λ (f : OpenFault). IsLater (fault_status f)) (sym is) at_disk
+later_of fault (inr (inl is)) = subst (λ (f : OpenFault). IsLater (fault_status f)) (sym is) at_memory
+later_of fault (inr (inr of_files)) = ⊎_elim (λ is. subst IsLater (sym is) at_store) (λ is. subst IsLater (sym is) at_config) of_files.2
+
+-- only the disk's fault ends so
+disk_of : (fault : OpenFault) → fault_status fault ≡ DiskFault → (fault ≡ faults.Disk) ⊎ (fault ≡ faults.NoMemory) ⊎ IsOfFiles fault → fault ≡ faults.Disk
+disk_of fault ends (inl is) = is
+disk_of fault ends (inr (inl is)) = absurd (let e : NoMemory ≡ DiskFault = sym (ap fault_status is) ∙ ends in cc e)
+disk_of fault ends (inr (inr of_files)) = absurd (⊎_elim (λ is. cc (sym is ∙ ends)) (λ is. cc (sym is ∙ ends)) of_files.2)
+
+-- only a fault of the files ends so
+files_of : (fault : OpenFault) (status : Status) → fault_status fault ≡ status → (status ≡ BadStore) ⊎ (status ≡ OtherConfig) → (fault ≡ faults.Disk) ⊎ (fault ≡ faults.NoMemory) ⊎ IsOfFiles fault → IsOfFiles fault
+files_of fault status ends which (inl is) = absurd (let e : DiskFault ≡ status = sym (ap fault_status is) ∙ ends in ⊎_elim (λ w. cc (e ∙ w)) (λ w. cc (e ∙ w)) which)
+files_of fault status ends which (inr (inl is)) = absurd (let e : NoMemory ≡ status = sym (ap fault_status is) ∙ ends in ⊎_elim (λ w. cc (e ∙ w)) (λ w. cc (e ∙ w)) which)
+files_of fault status ends which (inr (inr of_files)) = of_files
+
+shut_apart : (fault : OpenFault) → (fault ≡ faults.Disk) ⊎ (fault ≡ faults.NoMemory) ⊎ IsOfFiles fault → (status : Status) → (status ≡ Done) ⊎ (status ≡ WriteFault) → fault_status fault ≡ status → ⊥
+shut_apart fault (inl same) status which ends = let is : DiskFault ≡ status = sym (ap fault_status same) ∙ ends in ⊎_elim (λ w. cc (is ∙ w)) (λ w. cc (is ∙ w)) which
+shut_apart fault (inr (inl same)) status which ends = let is : NoMemory ≡ status = sym (ap fault_status same) ∙ ends in ⊎_elim (λ w. cc (is ∙ w)) (λ w. cc (is ∙ w)) which
+shut_apart fault (inr (inr of_files)) status which ends = ⊎_elim
+    (λ same. let is : BadStore ≡ status = sym same ∙ ends in ⊎_elim (λ w. cc (is ∙ w)) (λ w. cc (is ∙ w)) which)
+    (λ same. let is : OtherConfig ≡ status = sym same ∙ ends in ⊎_elim (λ w. cc (is ∙ w)) (λ w. cc (is ∙ w)) which) of_files.2
+
+abbrev IsShut : Status → Type 0
+IsShut status = (status ≡ DiskFault) ⊎ (status ≡ BadStore) ⊎ (status ≡ OtherConfig)
+
+done_apart : (status : Status) → status ≡ Done → IsShut status → ⊥
+done_apart status is which = let same : Done ≡ status = sym is in ⊎_elim (λ w. cc (same ∙ w)) (λ more. ⊎_elim (λ w. cc (same ∙ w)) (λ w. cc (same ∙ w)) more) which
+
+write_apart : (status : Status) → status ≡ WriteFault → IsShut status → ⊥
+write_apart status is which = let same : WriteFault ≡ status = sym is in ⊎_elim (λ w. cc (same ∙ w)) (λ more. ⊎_elim (λ w. cc (same ∙ w)) (λ w. cc (same ∙ w)) more) which
+
+memory_apart : (status : Status) → status ≡ NoMemory → IsShut status → ⊥
+memory_apart status is which = let same : NoMemory ≡ status = sym is in ⊎_elim (λ w. cc (same ∙ w)) (λ more. ⊎_elim (λ w. cc (same ∙ w)) (λ w. cc (same ∙ w)) more) which
+
+-- what was read before, all of which is left behind
+pub whole_is : (before now : Option (List ℕ)) (input other : List ℕ) → Consumes before now input → IsAtEnd now → before ≡ Some other → input ≡ other
+whole_is None now input other read end some = cc some
+whole_is (Some xs) None input other read end some = absurd read
+whole_is (Some xs) (Some ys) input other read end some = sym (append-nil input) ∙ ap (λ (zs : List ℕ). input ++ zs) (sym end) ∙ sym read ∙ cc some
+
+module _ {D : Type 0} (told : D → Option Told) (may_leave : D → Image → Type 0) (moment : D → ℕ) (left_since : D → ℕ → Image → Type 0) (faults_of : D → ℕ) (s : Script) (input : List ℕ) (left_before left_now : Option (List ℕ)) (old new : D)
+    (faults_before faults_now : ℕ) (before now : Option (List ℕ)) (status : Status) where
+  abbrev End : Type 0
+  End = Serves told may_leave moment left_since faults_of s old new faults_before faults_now before now status ⊎ StaysShut told may_leave moment left_since faults_of s old new faults_before faults_now before now status
+
+  abbrev RanAll : List Reply → Type 0
+  RanAll replies = Ran told may_leave moment left_since faults_of s (length s.orders) replies old new
+
+  all_orders : take (length s.orders) s.orders ≡ s.orders
+  all_orders = take_all (length s.orders) s.orders (omega arith)
+
+  ran_all : (many : ℕ) (replies : List Reply) → take many s.orders ≡ s.orders → Ran told may_leave moment left_since faults_of s many replies old new → RanAll replies
+  ran_all many replies all ran =
+      let same : take many s.orders ≡ take (length s.orders) s.orders = all ∙ sym all_orders in
+      record {
+        opened = ran.opened;
+        last = ran.last;
+        opens = ran.opens;
+        right = subst (λ (os : List Order). RightReplies s.settings ran.opened os replies ran.last) same ran.right;
+        counted = ran.counted;
+        keeps = λ t tells settled. subst (λ (os : List Order). Keeps may_leave moment left_since s.settings.config ran.opened ran.last (durable os replies) old new) same (ran.keeps t tells settled);
+      }
+
+  -- ---- each end
+
+  later_writes : (many : ℕ) (replies : List Reply) → Writes s.orders many replies faults_before faults_now before now status → IsLater status
+  later_writes many replies (inl w) = subst IsLater (sym w.0) at_done
+  later_writes many replies (inr (inl w)) = subst IsLater (sym w.0) at_write
+  later_writes many replies (inr (inr w)) = subst IsLater (sym w.0) at_memory
+
+  -- no status comes that comes before the script was read
+  pub is_later : End → IsLater status
+  is_later (inl e) = later_writes e.many e.replies e.writes
+  is_later (inr e) = ⊎_elim (λ c. subst IsLater c.1 (later_of c.0 (kind_of c.0))) (λ c. subst IsLater (sym c.0) at_memory) e.cause
+
+  -- an order's replies were written: a store that stays shut ends otherwise
+  abbrev IsAnswered : Type 0
+  IsAnswered = (status ≡ Done) ⊎ (status ≡ WriteFault)
+
+  not_shut : StaysShut told may_leave moment left_since faults_of s old new faults_before faults_now before now status → IsAnswered → ⊥
+  not_shut e which = ⊎_elim (λ c. shut_apart c.0 (kind_of c.0) status which c.1) (λ c. ⊎_elim (λ w. let is : NoMemory ≡ Done = sym c.0 ∙ w in cc is) (λ w. let is : NoMemory ≡ WriteFault = sym c.0 ∙ w in cc is) which) e.cause
+
+  finished : (many : ℕ) (replies : List Reply) → Writes s.orders many replies faults_before faults_now before now status → status ≡ Done → (take many s.orders ≡ s.orders) × Appends before now (reply_lines s.orders replies)
+  finished many replies (inl w) ends = (w.1, w.2)
+  finished many replies (inr (inl w)) ends = absurd (let is : WriteFault ≡ Done = sym w.0 ∙ ends in cc is)
+  finished many replies (inr (inr w)) ends = absurd (let is : NoMemory ≡ Done = sym w.0 ∙ ends in cc is)
+
+  broke_off : (many : ℕ) (replies : List Reply) → Writes s.orders many replies faults_before faults_now before now status → status ≡ WriteFault
+      → (take many s.orders ≡ s.orders) × Rose faults_before faults_now × ((n : ℕ) × Appends before now (take n (reply_lines s.orders replies)))
+  broke_off many replies (inl w) ends = absurd (let is : Done ≡ WriteFault = sym w.0 ∙ ends in cc is)
+  broke_off many replies (inr (inl w)) ends = (w.1, w.2, w.3)
+  broke_off many replies (inr (inr w)) ends = absurd (let is : NoMemory ≡ WriteFault = sym w.0 ∙ ends in cc is)
+
+  not_files : (many : ℕ) (replies : List Reply) → Writes s.orders many replies faults_before faults_now before now status → (status ≡ DiskFault) ⊎ (status ≡ BadStore) ⊎ (status ≡ OtherConfig) → ⊥
+  not_files many replies (inl w) which = done_apart status w.0 which
+  not_files many replies (inr (inl w)) which = write_apart status w.0 which
+  not_files many replies (inr (inr w)) which = memory_apart status w.0 which
+
+  module _ (read : ReadsWhole left_before left_now input) (is : script input ≡ Ok s) where
+    pub done : End → status ≡ Done → Finishes told may_leave moment left_since faults_of left_before left_now before now old new
+    done (inl e) ends = let w = finished e.many e.replies e.writes ends in record { input = input; read = read; is = s; script_is = is; replies = e.replies; ran = ran_all e.many e.replies w.0 e.ran; written = w.1 }
+    done (inr e) ends = absurd (not_shut e (inl ends))
+
+    pub write_fault : End → status ≡ WriteFault → FinishesPartly told may_leave moment left_since faults_of left_before left_now before now old new
+    write_fault (inl e) ends = let w = broke_off e.many e.replies e.writes ends in record { input = input; read = read; is = s; script_is = is; replies = e.replies; ran = ran_all e.many e.replies w.0 e.ran; written = w.2 }
+    write_fault (inr e) ends = absurd (not_shut e (inr ends))
+
+    pub write_failed : End → status ≡ WriteFault → Rose faults_before faults_now
+    write_failed (inl e) ends = (broke_off e.many e.replies e.writes ends).1
+    write_failed (inr e) ends = absurd (not_shut e (inr ends))
+
+    pub no_memory : End → status ≡ NoMemory → StopsShort told may_leave moment left_since faults_of left_before left_now old new ⊎ IsQuiet told may_leave moment left_since faults_of old new
+    no_memory (inl e) ends = inl (record { input = input; read = read; is = s; script_is = is; many = e.many; replies = e.replies; ran = e.ran })
+    no_memory (inr e) ends = inr e.quiet
+
+    pub quiet : End → (status ≡ Done) ⊎ (status ≡ WriteFault) ⊎ (status ≡ NoMemory) ⊎ IsQuiet told may_leave moment left_since faults_of old new
+    quiet (inl e) = ⊎_elim (λ w. inl w.0) (λ more. ⊎_elim (λ w. inr (inl w.0)) (λ w. inr (inr (inl w.0))) more) e.writes
+    quiet (inr e) = inr (inr (inr e.quiet))
+
+    pub not_opened : End → (status ≡ BadStore) ⊎ (status ≡ OtherConfig) → TellsOfStore told left_before left_now faults_before faults_now before now old status
+    not_opened (inl e) which = absurd (not_files e.many e.replies e.writes (inr which))
+    not_opened (inr e) which = ⊎_elim
+        (λ c. let files = files_of c.0 status c.1 which (kind_of c.0) in record { input = input; read = read; is = s; script_is = is; fault = c.0; ends = c.1; stored = c.2.1 files.1 files.0; written = c.3 })
+        (λ c. absurd (memory_apart status c.0 (inr which))) e.cause
+
+    pub disk_failed : End → status ≡ DiskFault → ReadsScript left_before left_now × disk.Rose (faults_of old) (faults_of new)
+    disk_failed (inl e) ends = absurd (not_files e.many e.replies e.writes (inl ends))
+    disk_failed (inr e) ends = ⊎_elim (λ c. ((input, s, read, is), c.2.0 (disk_of c.0 (c.1 ∙ ends) (kind_of c.0)))) (λ c. absurd (memory_apart status c.0 (inl ends))) e.cause
+
+    abbrev Tells : Type 0
+    Tells = WritesLine faults_before faults_now before now (status_line status)
+
+    told_shut : (fault : OpenFault) → fault_status fault ≡ status → WritesLine faults_before faults_now before now (open_line fault) → (fault ≡ faults.Disk) ⊎ (fault ≡ faults.NoMemory) ⊎ IsOfFiles fault → (status ≡ BadStore) ⊎ (status ≡ OtherConfig) ⊎ Tells
+    told_shut fault ends line (inl same) = inr (inr (subst (WritesLine faults_before faults_now before now) (ap open_line same ∙ ap status_line (sym (ap fault_status same) ∙ ends)) line))
+    told_shut fault ends line (inr (inl same)) = inr (inr (subst (WritesLine faults_before faults_now before now) (ap open_line same ∙ ap status_line (sym (ap fault_status same) ∙ ends)) line))
+    told_shut fault ends line (inr (inr files)) = ⊎_elim (λ w. inl (sym ends ∙ w)) (λ w. inr (inl (sym ends ∙ w))) files.2
+
+    memory_told : status ≡ NoMemory → WritesLine faults_before faults_now before now (status_line NoMemory) → Tells
+    memory_told ends line = subst (λ (x : Status). WritesLine faults_before faults_now before now (status_line x)) (sym ends) line
+
+    pub told_of : End → (status ≡ Done) ⊎ (status ≡ WriteFault) ⊎ (status ≡ BadScript) ⊎ (status ≡ BadStore) ⊎ (status ≡ OtherConfig) ⊎ Tells
+    told_of (inl e) = ⊎_elim (λ w. inl w.0) (λ more. ⊎_elim (λ w. inr (inl w.0)) (λ w. inr (inr (inr (inr (inr (memory_told w.0 w.1)))))) more) e.writes
+    told_of (inr e) = ⊎_elim (λ c. inr (inr (inr (told_shut c.0 c.1 c.3 (kind_of c.0))))) (λ c. inr (inr (inr (inr (inr (memory_told c.0 c.1)))))) e.cause
+
+    -- how a run over these files ends
+    script_ends : (t : Told) → expected input t.files ≡ opened_status (files s.settings.config t.files)
+    script_ends t = ap (λ b. if b then TooLong else script_status (script input) t.files) (le-ltb script_limit (length input) read.fits) ∙ ap (λ r. script_status r t.files) is
+
+    as_opened : (t : Told) (ends : Status) → status ≡ ends → ends ≡ opened_status (files s.settings.config t.files) → status ≡ expected input t.files
+    as_opened t ends one two = one ∙ two ∙ sym (script_ends t)
+
+    abbrev Expected : Told → Type 0
+    Expected t = (status ≡ expected input t.files) ⊎ (status ≡ NoMemory)
+
+    ran_expected : (t : Told) (many : ℕ) (replies : List Reply) → told old ≡ Some t → Ran told may_leave moment left_since faults_of s many replies old new → ¬ Rose faults_before faults_now
+        → Writes s.orders many replies faults_before faults_now before now status → Expected t
+    ran_expected t many replies tells ran calm (inl w) = let f = ran.opens.stored t tells in inl (as_opened t Done w.0 (sym (ap opened_status f.1)))
+    ran_expected t many replies tells ran calm (inr (inl w)) = absurd (calm w.2)
+    ran_expected t many replies tells ran calm (inr (inr w)) = inr w.0
+
+    shut_expected : (t : Told) (fault : OpenFault) → fault_status fault ≡ status → (fault ≡ faults.Disk → ⊥) → (fault ≢ faults.NoMemory → fault ≢ faults.Disk → files s.settings.config t.files ≡ Err fault) → (fault ≡ faults.Disk) ⊎ (fault ≡ faults.NoMemory) ⊎ IsOfFiles fault → Expected t
+    shut_expected t fault ends calm has (inl same) = absurd (calm same)
+    shut_expected t fault ends calm has (inr (inl same)) = inr (sym ends ∙ ap fault_status same)
+    shut_expected t fault ends calm has (inr (inr of_files)) = inl (as_opened t (fault_status fault) (sym ends) (sym (ap opened_status (has of_files.1 of_files.0))))
+
+    all_expected : (t : Told) → told old ≡ Some t → End → ¬ Rose faults_before faults_now → ¬ disk.Rose (faults_of old) (faults_of new) → Expected t
+    all_expected t tells (inl e) calm fine = ran_expected t e.many e.replies tells e.ran calm e.writes
+    all_expected t tells (inr e) calm fine = ⊎_elim (λ c. shut_expected t c.0 c.1 (λ same. fine (c.2.0 same)) (λ one two. c.2.1 one two t tells) (kind_of c.0)) (λ c. inr c.0) e.cause
+
+    pub complete : End → (other : List ℕ) (t : Told) → left_before ≡ Some other → told old ≡ Some t → ¬ Rose faults_before faults_now → ¬ disk.Rose (faults_of old) (faults_of new) → (status ≡ expected other t.files) ⊎ (status ≡ NoMemory)
+    complete e other t tells_source tells calm fine = subst (λ (bytes : List ℕ). (status ≡ expected bytes t.files) ⊎ (status ≡ NoMemory)) (whole_is left_before left_now input other read.read read.end tells_source) (all_expected t tells e calm fine)

@@ -1,0 +1,128 @@
+-- What a session keeps true of its fields, where labels are added, the buffer becomes a segment, and all of it is published.
+use Rattle.std.proofs.Common.{◌≡◌, ℕ, ◌+◌, ◌≤◌, List, [], ◌∷◌, ◌++◌, length, take, refl, sym, ap, subst, ◌∙◌, arith, append_assoc, inl}
+use Rattle.std.proofs.lemmas.List.{append-nil, length-append, length-map, take_all, take_at, take-append-le}
+use Rattle.facet_names.specs.Labels.{IsLabelList, GoesOn}
+use Rattle.facet_model.specs.Documents.{Doc}
+use Rattle.facet_model.specs.Flags.{Config}
+use Rattle.facet_model.specs.Stored.{Records, Decodes}
+use Rattle.seg_terms.specs.declared.entry.Entry.{Entry}
+use Rattle.facet_words.specs.Answers.{RightReply, Store}
+use Rattle.facet_words.specs.Commands.{Settings, refresh}
+use Rattle.facet_replies.specs.Replies.{numbered}
+use Rattle.seg_decoding.specs.Decoding.{docs_in, flushed, segment_of}
+use Rattle.seg_decoding.specs.Entries.{AreEntries, docs_of}
+use Rattle.facet_shell.specs.Kept.{IsKept}
+use Rattle.seg_decoding.proofs.Decoded.{decoded, decodes_stay, flushed_decodes}
+use Rattle.seg_decoding.proofs.Prefixes.{stays}
+use Rattle.facet_shell.proofs.Grown.{and_on}
+
+abbrev Labels : Type 0
+Labels = List (List (List ℕ))
+
+module _ (config : Config) (labels view : Labels) (segments : List Records) (published : ℕ) (buffer : List Entry) (taken stored : ℕ) (list : IsLabelList labels) (kept : IsKept config labels view segments published buffer taken stored) where
+  -- ---- labels are added
+
+  pub grown_docs : (next : Labels) → IsLabelList next → GoesOn labels next → docs_in next segments ≡ docs_in labels segments
+  grown_docs next list_next on = decoded next config segments (docs_in labels segments) (decodes_stay config labels next list list_next on segments (docs_in labels segments) kept.decoded)
+
+  pub kept_grown : (next : Labels) (more : List Entry) → IsLabelList next → GoesOn labels next → AreEntries config next more → stored + length more ≤ 1000000 → IsKept config next view segments published more taken stored
+  kept_grown next more list_next on are few =
+      let same : docs_in next segments ≡ docs_in labels segments = grown_docs next list_next on in
+      record {
+        goes_on = and_on view labels next kept.goes_on on;
+        decoded = subst (Decodes next config segments) (sym same) (decodes_stay config labels next list list_next on segments (docs_in labels segments) kept.decoded);
+        seen = kept.seen;
+        first = (kept.first.0, same ∙ kept.first.1);
+        taken_size = kept.taken_size;
+        within = kept.within;
+        stored_size = kept.stored_size ∙ ap length (sym same);
+        few = few;
+        buffered = are;
+      }
+
+  -- ---- the buffer becomes a segment
+
+  decodes_all : Decodes labels config (flushed segments buffer) (docs_in labels segments ++ docs_of buffer)
+  decodes_all = flushed_decodes config labels segments (docs_in labels segments) buffer kept.decoded kept.buffered
+
+  pub flushed_docs : docs_in labels (flushed segments buffer) ≡ docs_in labels segments ++ docs_of buffer
+  flushed_docs = decoded labels config (flushed segments buffer) (docs_in labels segments ++ docs_of buffer) decodes_all
+
+  pub decodes_flushed : Decodes labels config (flushed segments buffer) (docs_in labels segments ++ docs_of buffer)
+  decodes_flushed = decodes_all
+
+  same_front : (entries : List Entry) → take published (flushed segments entries) ≡ take published segments
+  same_front [] = refl
+  same_front (e ∷ es) = take-append-le published segments (segment_of (e ∷ es) ∷ []) kept.within
+
+  longer : (entries : List Entry) → length segments ≤ length (flushed segments entries)
+  longer [] = omega arith
+  longer (e ∷ es) = omega (arith, length-append segments (segment_of (e ∷ es) ∷ []))
+
+  pub kept_flushed : (n : ℕ) → n ≡ length buffer → IsKept config labels view (flushed segments buffer) published [] taken (stored + n)
+  kept_flushed n added =
+      let front : take published (flushed segments buffer) ≡ take published segments = same_front buffer in
+      record {
+        goes_on = kept.goes_on;
+        decoded = subst (Decodes labels config (flushed segments buffer)) (sym flushed_docs) decodes_all;
+        seen = subst (λ (ss : List Records). Decodes view config ss (docs_in view ss)) (sym front) kept.seen;
+        first = (kept.first.0 ++ docs_of buffer, flushed_docs ∙ ap (λ (ds : List Doc). ds ++ docs_of buffer) kept.first.1 ∙ append_assoc (docs_in view (take published segments)) kept.first.0 (docs_of buffer) ∙ ap (λ (ss : List Records). docs_in view ss ++ (kept.first.0 ++ docs_of buffer)) (sym front));
+        taken_size = kept.taken_size ∙ ap (λ (ss : List Records). length (docs_in view ss)) (sym front);
+        within = omega (arith, kept.within, longer buffer);
+        stored_size = omega (arith, kept.stored_size, added, ap length flushed_docs, length-append (docs_in labels segments) (docs_of buffer), length-map buffer (λ (e : Entry). e.doc));
+        few = omega (arith, kept.few, added);
+        buffered = tt;
+      }
+
+  -- a refresh takes all documents and labels
+  pub refreshed : (n : ℕ) → n ≡ length buffer → (settings : Settings) (store : Store)
+      → RightReply settings (record { labels = labels; docs = docs_in labels segments ++ docs_of buffer; taken = taken; taken_labels = length view; store = store }) refresh (numbered (stored + n))
+      (record { labels = labels; docs = docs_in labels (flushed segments buffer) ++ []; taken = stored + n; taken_labels = length labels; store = store })
+  refreshed n added settings store =
+      let size : stored + n ≡ length (docs_in labels segments ++ docs_of buffer) = omega (arith, kept.stored_size, added, length-append (docs_in labels segments) (docs_of buffer), length-map buffer (λ (e : Entry). e.doc)) in
+      inl (ap numbered size, λ i. record { labels = labels; docs = (append-nil (docs_in labels (flushed segments buffer)) ∙ flushed_docs) i; taken = size i; taken_labels = length labels; store = store })
+
+-- all segments are published
+pub kept_published : (config : Config) (labels view : Labels) (segments : List Records) (published taken stored : ℕ) → IsKept config labels view segments published [] taken stored → IsKept config labels labels segments (length segments) [] stored stored
+kept_published config labels view segments published taken stored kept =
+    let all : take (length segments) segments ≡ segments = take_all (length segments) segments (omega arith) in
+    record {
+      goes_on = stays labels;
+      decoded = kept.decoded;
+      seen = subst (λ (ss : List Records). Decodes labels config ss (docs_in labels ss)) (sym all) kept.decoded;
+      first = ([], ap (docs_in labels) (sym all) ∙ sym (append-nil (docs_in labels (take (length segments) segments))));
+      taken_size = kept.stored_size ∙ ap (λ (ss : List Records). length (docs_in labels ss)) (sym all);
+      within = omega arith;
+      stored_size = kept.stored_size;
+      few = kept.few;
+      buffered = tt;
+    }
+
+-- segments that were opened
+pub kept_opened : (config : Config) (labels : Labels) (segments : List Records) (stored : ℕ) → Decodes labels config segments (docs_in labels segments) → length (docs_in labels segments) ≤ 1000000 → stored ≡ length (docs_in labels segments)
+    → IsKept config labels labels segments (length segments) [] stored stored
+kept_opened config labels segments stored decodes few size = kept_published config labels labels segments (length segments) stored stored (
+    let all : take (length segments) segments ≡ segments = take_all (length segments) segments (omega arith) in
+    record {
+      goes_on = stays labels;
+      decoded = decodes;
+      seen = subst (λ (ss : List Records). Decodes labels config ss (docs_in labels ss)) (sym all) decodes;
+      first = ([], ap (docs_in labels) (sym all) ∙ sym (append-nil (docs_in labels (take (length segments) segments))));
+      taken_size = size ∙ ap (λ (ss : List Records). length (docs_in labels ss)) (sym all);
+      within = omega arith;
+      stored_size = size;
+      few = omega (arith, few, size);
+      buffered = tt;
+    })
+
+-- what searches see is the front of the documents
+pub seen_front : (config : Config) (labels view : Labels) (segments : List Records) (published : ℕ) (buffer : List Entry) (taken stored : ℕ) → IsKept config labels view segments published buffer taken stored
+    → take taken (docs_in labels segments ++ docs_of buffer) ≡ docs_in view (take published segments)
+seen_front config labels view segments published buffer taken stored kept =
+    ap (λ (ds : List Doc). take taken (ds ++ docs_of buffer)) kept.first.1 ∙ ap (take taken) (append_assoc (docs_in view (take published segments)) kept.first.0 (docs_of buffer))
+    ∙ take_at (docs_in view (take published segments)) (kept.first.0 ++ docs_of buffer) taken (sym kept.taken_size)
+
+-- there are no more of them than documents
+pub seen_few : (config : Config) (labels view : Labels) (segments : List Records) (published : ℕ) (buffer : List Entry) (taken stored : ℕ) → IsKept config labels view segments published buffer taken stored → taken ≤ 1000000
+seen_few config labels view segments published buffer taken stored kept =
+    omega (arith, kept.few, kept.stored_size, kept.taken_size, ap length kept.first.1, length-append (docs_in view (take published segments)) kept.first.0)

@@ -1,0 +1,79 @@
+ghost use Rattle.std.specs.Prelude.{◌≡◌, ◌≤◌, ℕ, Some, max};
+ghost use Rattle.facet_disk.specs.Images.{Told};
+ghost use Rattle.facet_words.specs.Answers.{RightReply, Shelf, durable_by};
+ghost use Rattle.facet_words.specs.CommandViews.{command_view};
+ghost use Rattle.facet_words.specs.Commands.{commit as commit_command};
+ghost use Rattle.facet_replies.specs.ReplyViews.{reply_view};
+ghost use Rattle.facet_shell.specs.Sessions.{shelf_of, store_of};
+ghost use Rattle.facet_shell.specs.Stories.{IsStory};
+
+use crate::session::Session;
+use commit_store::{CommitFault, Committer};
+use facet_disk::Disk;
+use facet_words::{Command, Refusal, Reply};
+use sideways::SearchAsk;
+use store_opening::laws::of_files;
+
+/// Makes all documents and labels durable, and answers it.
+pub fn commit<D: Disk>(session: &mut Session, committer: &mut Committer<D>) -> Reply
+    requires config { committer.old.config ≡ session.old.settings.config }
+    ensures right { RightReply session.old.settings (shelf_of session.old (store_of committer.old.closed committer.old.state.next (D.faults committer.old.disk))) commit_command (reply_view result) (shelf_of session.new (store_of committer.new.closed committer.new.state.next (D.faults committer.new.disk))) }
+    ensures same { session.new.settings ≡ session.old.settings }
+    ensures config { committer.new.config ≡ committer.old.config }
+    ensures story { (opened : Shelf) (start : D) (durable : ℕ)
+        → IsStory D.told D.may_leave D.moment D.left_since opened start (shelf_of session.old (store_of committer.old.closed committer.old.state.next (D.faults committer.old.disk))) durable committer.old.config committer.old.state committer.old.disk
+        → IsStory D.told D.may_leave D.moment D.left_since opened start (shelf_of session.new (store_of committer.new.closed committer.new.state.next (D.faults committer.new.disk))) (max durable (durable_by commit_command (reply_view result))) committer.new.config committer.new.state committer.new.disk }
+{
+    let Ok(()) = session.flush() else {
+        return Reply::Refused(Refusal::NoMemory);
+    };
+    let Ok(view) = session.labels() else {
+        return Reply::Refused(Refusal::NoMemory);
+    };
+    // Their clauses say that these are a label list, and what files stand for.
+    let _ = view.size();
+    of_files();
+    match committer.commit(&view, session.segments()) {
+        Ok(()) => Reply::Number {
+            n: session.documents(),
+        },
+        Err(CommitFault::Disk { count }) => Reply::Refused(Refusal::Disk { count }),
+        Err(CommitFault::Closed { count }) => Reply::Refused(Refusal::Closed { count }),
+        Err(CommitFault::NumbersSpent { number }) => {
+            Reply::Refused(Refusal::NumbersSpent { number })
+        }
+        Err(CommitFault::NoMemory) => Reply::Refused(Refusal::NoMemory),
+    }
+}
+
+/// Carries out a command, and answers it.
+pub fn step<D: Disk>(session: &mut Session, committer: &mut Committer<D>, command: Command) -> Reply
+    requires config { committer.old.config ≡ session.old.settings.config }
+    ensures right { RightReply session.old.settings (shelf_of session.old (store_of committer.old.closed committer.old.state.next (D.faults committer.old.disk))) (command_view command) (reply_view result) (shelf_of session.new (store_of committer.new.closed committer.new.state.next (D.faults committer.new.disk))) }
+    ensures same { session.new.settings ≡ session.old.settings }
+    ensures config { committer.new.config ≡ committer.old.config }
+    ensures story { (opened : Shelf) (start : D) (durable : ℕ)
+        → IsStory D.told D.may_leave D.moment D.left_since opened start (shelf_of session.old (store_of committer.old.closed committer.old.state.next (D.faults committer.old.disk))) durable committer.old.config committer.old.state committer.old.disk
+        → IsStory D.told D.may_leave D.moment D.left_since opened start (shelf_of session.new (store_of committer.new.closed committer.new.state.next (D.faults committer.new.disk))) (max durable (durable_by (command_view command) (reply_view result))) committer.new.config committer.new.state committer.new.disk }
+{
+    match command {
+        Command::Add { doc } => session.add(doc),
+        Command::Refresh => session.refresh(),
+        Command::Search {
+            query,
+            drill,
+            sideways,
+            asks,
+            hits,
+        } => session.search(&SearchAsk {
+            query,
+            drill,
+            asks,
+            hits,
+            sideways,
+        }),
+        Command::Document { at } => session.document(at),
+        Command::Stats => session.stats(),
+        Command::Commit => commit(session, committer),
+    }
+}

@@ -1,0 +1,87 @@
+ghost use Rattle.std.specs.Prelude.{◌≡◌, ◌≤◌, ◌⊎◌, None, length, map};
+ghost use Rattle.std.specs.Arc.{arc_value};
+ghost use Rattle.facet_model.specs.Stored.{Decodes};
+ghost use Rattle.facet_words.specs.Answers.{opened_shelf};
+ghost use Rattle.facet_words.specs.CommandViews.{script_view};
+ghost use Rattle.seg_decoding.specs.Decoding.{docs_in};
+ghost use Rattle.facet_shell.specs.Serving.{IsWritten, Served, Serves, StaysShut};
+ghost use Rattle.facet_shell.specs.Sessions.{store_of};
+
+use crate::answering::answer_all;
+use crate::session::Session;
+use crate::showing::have_documents;
+use crate::status::{Ended, Status};
+use crate::telling::{tell, tell_of_store};
+use commit_store::{Committer, NotOpened, Opened};
+use facet_disk::Disk;
+use facet_io::{Sink, write_all};
+use facet_names::NoMemory;
+use facet_words::Script;
+use std::alloc::Global;
+
+// Carries out the orders of a script on a store that was opened.
+fn serve<K: Sink, D: Disk>(
+    alloc: Global,
+    sink: &mut K,
+    script: Script,
+    opened: Opened<D>,
+) -> Ended<D>
+    requires fresh { opened.committer.closed ≡ None }
+    requires config { opened.committer.config ≡ script.settings.config }
+    requires decodes { Decodes opened.labels script.settings.config (map arc_value opened.segments.items) (docs_in opened.labels (map arc_value opened.segments.items)) }
+    requires few { length (docs_in opened.labels (map arc_value opened.segments.items)) ≤ 1000000 }
+    ensures served { Served D.told D.may_leave D.moment D.left_since D.faults (script_view script) (opened_shelf opened.labels (docs_in opened.labels (map arc_value opened.segments.items)) (store_of None opened.committer.state.next (D.faults opened.committer.disk))) script.settings.config opened.committer.state opened.committer.disk result.disk (K.faults sink.old) (K.faults sink.new) (K.written sink.old) (K.written sink.new) result.status }
+{
+    let Opened {
+        mut committer,
+        labels,
+        segments,
+    } = opened;
+    let Ok(mut session) = Session::open(alloc, script.settings, labels, segments) else {
+        return tell(sink, Status::NoMemory, committer.into_disk());
+    };
+    match answer_all(alloc, &mut session, &mut committer, script.orders) {
+        Ok(lines) => {
+            let status = write(sink, &lines);
+            Ended {
+                status,
+                disk: committer.into_disk(),
+            }
+        }
+        Err(NoMemory) => tell(sink, Status::NoMemory, committer.into_disk()),
+    }
+}
+
+// Writes all lines.
+fn write<K: Sink>(sink: &mut K, lines: &[u8]) -> Status
+    ensures { IsWritten lines.now (K.faults sink.old) (K.faults sink.new) (K.written sink.old) (K.written sink.new) result }
+{
+    match write_all(sink, lines) {
+        Ok(()) => Status::Done,
+        Err(_) => Status::WriteFault,
+    }
+}
+
+/// Carries out a script on the store of a disk, and writes the replies when all orders are answered.
+pub fn run_script<K: Sink, D: Disk>(
+    alloc: Global,
+    sink: &mut K,
+    disk: D,
+    script: Script,
+) -> Ended<D>
+    ensures { Serves D.told D.may_leave D.moment D.left_since D.faults (script_view script) disk result.disk (K.faults sink.old) (K.faults sink.new) (K.written sink.old) (K.written sink.new) result.status
+        ⊎ StaysShut D.told D.may_leave D.moment D.left_since D.faults (script_view script) disk result.disk (K.faults sink.old) (K.faults sink.new) (K.written sink.old) (K.written sink.new) result.status }
+{
+    let Ok(config) = script.settings.config.dup() else {
+        return tell(sink, Status::NoMemory, disk);
+    };
+    match Committer::open(alloc, disk, config) {
+        Ok(opened) => {
+            // Their clauses say that these are a label list, and that segments have documents.
+            let _ = opened.labels.size();
+            have_documents(&opened.labels, &opened.segments);
+            serve(alloc, sink, script, opened)
+        }
+        Err(NotOpened { fault, disk }) => tell_of_store(alloc, sink, fault, disk),
+    }
+}

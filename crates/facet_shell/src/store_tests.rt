@@ -1,0 +1,258 @@
+use crate::Status;
+use crate::test_runs::{
+    BOB, COMMIT, CONFIG, LISA, REFRESH, STATS, disk_with, empty_disk, joined, listing, run_over,
+};
+use commit_store::{Committer, Opened};
+use facet_config::FacetsConfig;
+use facet_disk::{Dir, Disk, FileName, Kind, MemoryDisk, Pick, Unsynced};
+use std::alloc::Global;
+use std::test::Fail;
+
+// The calls before the second commit: two lists, and the 12 of the first one.
+const BEFORE: u64 = 14;
+
+const TWO_COMMITS: &[&[u8]] = &[CONFIG, BOB, COMMIT, LISA, COMMIT];
+
+const TWO_REPLIES: &[u8] =
+    b"{\"at\":0,\"line\":2,\"s\":1}\n{\"line\":3,\"n\":1,\"s\":1}\n{\"at\":1,\"line\":4,\"s\":1}\n{\"line\":5,\"n\":2,\"s\":1}\n";
+
+// The files after a number of calls of the second commit.
+const FILES: &[(u64, &str)] = &[
+    (
+        0,
+        "taxonomy/segment-1 taxonomy/commit-2 index/segment-3 index/commit-4 ",
+    ),
+    (
+        1,
+        "taxonomy/segment-1 taxonomy/segment-5 taxonomy/commit-2 index/segment-3 index/commit-4 ",
+    ),
+    (
+        3,
+        "taxonomy/segment-1 taxonomy/segment-5 taxonomy/pending-6 taxonomy/commit-2 index/segment-3 index/commit-4 ",
+    ),
+    (
+        5,
+        "taxonomy/segment-1 taxonomy/segment-5 taxonomy/pending-6 taxonomy/commit-2 index/segment-3 index/segment-7 index/commit-4 ",
+    ),
+    (
+        7,
+        "taxonomy/segment-1 taxonomy/segment-5 taxonomy/pending-6 taxonomy/commit-2 index/segment-3 index/segment-7 index/pending-8 index/commit-4 ",
+    ),
+    (
+        9,
+        "taxonomy/segment-1 taxonomy/segment-5 taxonomy/commit-2 taxonomy/commit-6 index/segment-3 index/segment-7 index/pending-8 index/commit-4 ",
+    ),
+    (
+        11,
+        "taxonomy/segment-1 taxonomy/segment-5 taxonomy/commit-2 taxonomy/commit-6 index/segment-3 index/segment-7 index/commit-4 index/commit-8 ",
+    ),
+    (
+        13,
+        "taxonomy/segment-1 taxonomy/segment-5 taxonomy/commit-6 index/segment-3 index/segment-7 index/commit-4 index/commit-8 ",
+    ),
+    (
+        14,
+        "taxonomy/segment-1 taxonomy/segment-5 taxonomy/commit-6 index/segment-3 index/segment-7 index/commit-8 ",
+    ),
+];
+
+// A disk as it may be left after so many calls of the second commit.
+fn stopped(
+    alloc: Global,
+    disk: &MemoryDisk,
+    calls: u64,
+    files: Unsynced,
+    names_done: bool,
+) -> Result<MemoryDisk, Fail> {
+    let pick = Pick { files, names_done };
+    let left = disk.stopped(alloc, BEFORE.saturating_add(calls), pick)?;
+    Ok(left)
+}
+
+#[test]
+fn two_commits(rt: HostRuntime) -> Result<(), Fail> {
+    let alloc = rt.alloc();
+    let script = joined(alloc, TWO_COMMITS)?;
+    let (ended, sink) = run_over(&rt, &script, &[], empty_disk(alloc))?;
+    assert!(rt; ended.status == Status::Done && sink.bytes() == TWO_REPLIES);
+    assert_eq!(rt; ended.disk.call_count(), 28);
+    for (calls, want) in FILES {
+        let mut left = stopped(alloc, &ended.disk, *calls, Unsynced::Whole, true)?;
+        let files = listing(alloc, &mut left)?;
+        assert!(rt; files.as_str() == *want, "{calls} {files}");
+    }
+    Ok(())
+}
+
+// A run on what is left after a number of calls of the second commit, and the files after it.
+struct ResumedRun {
+    calls: u64,
+    script: &'static str,
+    output: &'static str,
+    files: &'static str,
+}
+
+const RESUMED_RUNS: &[ResumedRun] = &[
+    ResumedRun {
+        calls: 10,
+        script: r#"{"cmd":"config"}
+{"s":1,"cmd":"document","at":0}
+{"s":1,"cmd":"document","at":1}
+{"s":1,"cmd":"stats"}
+"#,
+        output: r#"{"at":0,"id":"b1","labels":[["Author","Bob"]],"line":2,"n":1,"ordinals":[2],"s":1,"text":""}
+{"count":1,"line":3,"refused":"no_such_document","s":1}
+{"documents":1,"labels":4,"line":4,"n":1,"s":1}
+"#,
+        files: "taxonomy/segment-1 taxonomy/segment-5 taxonomy/commit-2 taxonomy/commit-6 index/segment-3 index/segment-7 index/pending-8 index/commit-4 ",
+    },
+    // The label of b2 is there, so its segment of documents is the first file that is put.
+    ResumedRun {
+        calls: 10,
+        script: r#"{"cmd":"config"}
+{"s":1,"cmd":"add","id":"b2","facets":[["Author","Lisa"]]}
+{"s":1,"cmd":"commit"}
+"#,
+        output: r#"{"at":1,"line":2,"s":1}
+{"line":3,"n":2,"s":1}
+"#,
+        files: "taxonomy/segment-1 taxonomy/segment-5 taxonomy/commit-6 index/segment-3 index/segment-9 index/commit-10 ",
+    },
+    ResumedRun {
+        calls: 12,
+        script: r#"{"cmd":"config"}
+{"s":1,"cmd":"document","at":0}
+{"s":1,"cmd":"document","at":1}
+{"s":1,"cmd":"stats"}
+"#,
+        output: r#"{"at":0,"id":"b1","labels":[["Author","Bob"]],"line":2,"n":2,"ordinals":[2],"s":1,"text":""}
+{"at":1,"id":"b2","labels":[["Author","Lisa"]],"line":3,"n":2,"ordinals":[3],"s":1,"text":""}
+{"documents":2,"labels":4,"line":4,"n":2,"s":1}
+"#,
+        files: "taxonomy/segment-1 taxonomy/segment-5 taxonomy/commit-2 taxonomy/commit-6 index/segment-3 index/segment-7 index/commit-4 index/commit-8 ",
+    },
+];
+
+#[test]
+fn goes_on_after_a_stop(rt: HostRuntime) -> Result<(), Fail> {
+    let alloc = rt.alloc();
+    let disk = disk_with(&rt, TWO_COMMITS)?;
+    for row in RESUMED_RUNS {
+        let left = stopped(alloc, &disk, row.calls, Unsynced::Gone, false)?;
+        let (ended, sink) = run_over(&rt, row.script.as_bytes(), &[], left)?;
+        let output = str::from_utf8(sink.bytes())?;
+        assert!(rt; output == row.output, "{output}");
+        let mut disk = ended.disk;
+        let files = listing(alloc, &mut disk)?;
+        assert!(rt; files.as_str() == row.files, "{files}");
+    }
+    Ok(())
+}
+
+// How many documents and labels there are.
+type Counts = (u32, u32);
+
+// What opening gives after each number of calls of the second commit: where renames and removals that were not synced are undone, and where
+// they are done. What becomes of unsynced files makes no difference.
+const STOPS: &[(u64, Counts, Counts)] = &[
+    (0, (1, 3), (1, 3)),
+    (1, (1, 3), (1, 3)),
+    (2, (1, 3), (1, 3)),
+    (3, (1, 3), (1, 3)),
+    (4, (1, 3), (1, 3)),
+    (5, (1, 3), (1, 3)),
+    (6, (1, 3), (1, 3)),
+    (7, (1, 3), (1, 3)),
+    (8, (1, 3), (1, 3)),
+    (9, (1, 3), (1, 4)),
+    (10, (1, 4), (1, 4)),
+    (11, (1, 4), (2, 4)),
+    (12, (2, 4), (2, 4)),
+    (13, (2, 4), (2, 4)),
+    (14, (2, 4), (2, 4)),
+];
+
+// The counts of a disk with no declared dimension.
+fn counts(alloc: Global, disk: MemoryDisk) -> Result<Counts, Fail> {
+    let Ok(opened) = Committer::open(alloc, disk, FacetsConfig::new(alloc)) else {
+        return Err("a disk that is opened".into());
+    };
+    let Opened {
+        labels,
+        segments,
+        ..
+    } = opened;
+    let mut documents = 0u32;
+    for segment in &segments {
+        documents = documents.saturating_add(segment.docs());
+    }
+    Ok((documents, labels.size()))
+}
+
+// The counts after so many calls of the second commit, with names undone and done.
+fn counts_after(
+    alloc: Global,
+    disk: &MemoryDisk,
+    calls: u64,
+    files: Unsynced,
+) -> Result<(Counts, Counts), Fail> {
+    let undone = stopped(alloc, disk, calls, files, false)?;
+    let done = stopped(alloc, disk, calls, files, true)?;
+    Ok((counts(alloc, undone)?, counts(alloc, done)?))
+}
+
+#[test]
+fn every_stop_of_the_second_commit(rt: HostRuntime) -> Result<(), Fail> {
+    let alloc = rt.alloc();
+    let disk = disk_with(&rt, TWO_COMMITS)?;
+    for (calls, undone, done) in STOPS {
+        for files in [Unsynced::Gone, Unsynced::Whole, Unsynced::Zeroed] {
+            let found = counts_after(alloc, &disk, *calls, files)?;
+            assert!(rt; found == (*undone, *done), "{calls} {files:?} {found:?}");
+        }
+    }
+    Ok(())
+}
+
+const FAILED: &[&[u8]] = &[CONFIG, BOB, COMMIT, LISA, COMMIT, COMMIT, REFRESH, STATS];
+
+const FAILED_OUTPUT: &[u8] =
+    b"{\"at\":0,\"line\":2,\"s\":1}\n{\"line\":3,\"n\":1,\"s\":1}\n{\"at\":1,\"line\":4,\"s\":1}\n\
+{\"count\":1,\"line\":5,\"refused\":\"disk\",\"s\":1}\n{\"count\":1,\"line\":6,\"refused\":\"closed\",\"s\":1}\n\
+{\"line\":7,\"n\":2,\"s\":1}\n{\"documents\":2,\"labels\":4,\"line\":8,\"n\":2,\"s\":1}\n";
+
+#[test]
+fn a_failed_commit(rt: HostRuntime) -> Result<(), Fail> {
+    let alloc = rt.alloc();
+    let script = joined(alloc, FAILED)?;
+    // The second commit's call 5.
+    let disk = MemoryDisk::new(alloc, vec![in alloc; 19]?);
+    let (ended, sink) = run_over(&rt, &script, &[], disk)?;
+    assert!(rt; ended.status == Status::Done && sink.bytes() == FAILED_OUTPUT);
+    assert_eq!(rt; ended.disk.call_count(), 19);
+    let counts = counts(alloc, ended.disk)?;
+    assert!(rt; counts == (1, 3), "{counts:?}");
+    Ok(())
+}
+
+const LAST_PENDING: FileName = FileName {
+    dir: Dir::Index,
+    kind: Kind::Pending,
+    number: 9_223_372_036_854_775_807,
+};
+
+const SPENT_OUTPUT: &[u8] =
+    b"{\"at\":0,\"line\":2,\"s\":1}\n{\"line\":3,\"number\":9223372036854775811,\"refused\":\"numbers_spent\",\"s\":1}\n";
+
+#[test]
+fn a_commit_without_numbers(rt: HostRuntime) -> Result<(), Fail> {
+    let alloc = rt.alloc();
+    let mut disk = empty_disk(alloc);
+    disk.put(LAST_PENDING, b"")?;
+    let script = joined(alloc, &[CONFIG, BOB, COMMIT])?;
+    let (ended, sink) = run_over(&rt, &script, &[], disk)?;
+    assert!(rt; ended.status == Status::Done && sink.bytes() == SPENT_OUTPUT);
+    // That one, and two that list.
+    assert_eq!(rt; ended.disk.call_count(), 3);
+    Ok(())
+}

@@ -1,0 +1,109 @@
+//! Runs over disks, for the tests.
+ghost use Rattle.std.specs.Prelude.{◌≤◌};
+
+use crate::{Ended, Status, run};
+use facet_disk::{Dir, Disk, MemoryDisk};
+use facet_io::{MemorySink, MemorySource};
+use std::alloc::Global;
+use std::test::Fail;
+
+pub const CONFIG: &[u8] = b"{\"cmd\":\"config\"}\n";
+
+pub const BOB: &[u8] =
+    b"{\"s\":1,\"cmd\":\"add\",\"id\":\"b1\",\"facets\":[[\"Author\",\"Bob\"]]}\n";
+
+pub const LISA: &[u8] =
+    b"{\"s\":1,\"cmd\":\"add\",\"id\":\"b2\",\"facets\":[[\"Author\",\"Lisa\"]]}\n";
+
+pub const COMMIT: &[u8] = b"{\"s\":1,\"cmd\":\"commit\"}\n";
+
+pub const REFRESH: &[u8] = b"{\"s\":1,\"cmd\":\"refresh\"}\n";
+
+pub const STATS: &[u8] = b"{\"s\":1,\"cmd\":\"stats\"}\n";
+
+/// A script of these pieces, behind one another.
+pub fn joined(alloc: Global, pieces: &[&[u8]]) -> Result<Vec<u8>, Fail> {
+    let mut bytes = Vec::new(alloc);
+    for piece in pieces {
+        bytes.extend_from_slice(*piece)?;
+    }
+    Ok(bytes)
+}
+
+pub fn texts(alloc: Global, words: &[&str]) -> Result<Vec<String>, Fail> {
+    let mut owned = Vec::new(alloc);
+    for word in words {
+        owned.push(String::from_str(alloc, word)?)?;
+    }
+    Ok(owned)
+}
+
+pub fn empty_disk(alloc: Global) -> MemoryDisk {
+    MemoryDisk::new(alloc, Vec::new(alloc))
+}
+
+// A run with one word.
+fn run_between<D: Disk>(
+    rt: &HostRuntime,
+    mut source: MemorySource,
+    mut sink: MemorySink,
+    disk: D,
+) -> Result<(Ended<D>, MemorySink), Fail> {
+    let words = texts(rt.alloc(), &["store"])?;
+    let ended = run(rt, &words, &mut source, &mut sink, disk);
+    Ok((ended, sink))
+}
+
+/// How a run over an empty disk ends, and what it writes; the reads and writes with these numbers fail.
+pub fn run_on(
+    rt: &HostRuntime,
+    script: &[u8],
+    piece: usize,
+    reads: &[u64],
+    writes: &[u64],
+) -> Result<(Status, MemorySink), Fail>
+    requires { 1 ≤ piece }
+{
+    let alloc = rt.alloc();
+    let script = Vec::from_slice(alloc, script)?;
+    let source = MemorySource::new(script, piece, Vec::from_slice(alloc, reads)?);
+    let sink = MemorySink::new(alloc, Vec::from_slice(alloc, writes)?);
+    let (ended, sink) = run_between(rt, source, sink, empty_disk(alloc))?;
+    Ok((ended.status, sink))
+}
+
+/// A run over a disk; the writes with these numbers fail.
+pub fn run_over<D: Disk>(
+    rt: &HostRuntime,
+    script: &[u8],
+    writes: &[u64],
+    disk: D,
+) -> Result<(Ended<D>, MemorySink), Fail> {
+    let alloc = rt.alloc();
+    let script = Vec::from_slice(alloc, script)?;
+    let source = MemorySource::new(script, 4096, Vec::new(alloc));
+    let sink = MemorySink::new(alloc, Vec::from_slice(alloc, writes)?);
+    run_between(rt, source, sink, disk)
+}
+
+/// What a run of these lines leaves of an empty disk.
+pub fn disk_with(rt: &HostRuntime, lines: &[&[u8]]) -> Result<MemoryDisk, Fail> {
+    let alloc = rt.alloc();
+    let script = joined(alloc, lines)?;
+    let (ended, _) = run_over(rt, &script, &[], empty_disk(alloc))?;
+    Ok(ended.disk)
+}
+
+/// The names of all files of a disk.
+pub fn listing(alloc: Global, disk: &mut MemoryDisk) -> Result<String, Fail> {
+    let mut text = String::new(alloc);
+    for dir in [Dir::Taxonomy, Dir::Index] {
+        let names = disk.list(alloc, dir)?;
+        let mut names = names.into_vec();
+        names.sort()?;
+        for name in &names {
+            write!(text, "{name} ")?;
+        }
+    }
+    Ok(text)
+}
