@@ -71,7 +71,3 @@ newest_same dir c d same = ap by_commits (λ i n. same n i)
   where
     by_commits : (ℕ → Option (List ℕ)) → Option (ℕ × List ℕ)
     by_commits f = option_and_then (λ n. option_map (λ bytes. (n, bytes)) (f n)) (greatest (λ n. is_some (f n)) (2 ^ 64))
-
--- the newest commit files of an image that stands for a taxonomy and an index
-pub holds_now : (next : ℕ) (t i : Held) (c : Image) → Stands next t i c → (newest_file Taxonomy c ≡ t.commit) × (newest_file Index c ≡ i.commit)
-holds_now next t i c stands = (stands.taxonomy_held.commit, stands.index_held.commit)

@@ -26,12 +26,6 @@ among_within from to ws rises name among =
 pub made_among : (name : FileName) (bytes : List ℕ) (ws : List Write) → Makes name bytes ws → IsAmong name ws
 made_among name bytes ws makes = (makes.0, makes.1, makes.2)
 
--- one file more
-pub rises_push : (from mid to : ℕ) (ws : List Write) (w : Write) → Rises from mid ws → from ≤ w.name.number → mid ≤ w.name.number → w.name.number < to → w.name.kind ≢ Commit → Rises from to (ws ++ w ∷ [])
-rises_push from mid to [] w rises up past low kind = (up, low, kind, tt)
-rises_push from mid to (v ∷ ws) w rises up past low kind =
-    (rises.0, omega (arith, rises.1, past, low), rises.2, rises_push (v.name.number + 1) mid to ws w rises.3 (omega (arith, rises.1, past)) past low kind)
-
 -- the number of a part's pending file
 pub part_low : (from to : ℕ) (ws : List Write) → Rises from to ws → (dir : Dir) (part : Option ℕ) → IfSome part (λ n. IsAmong (file dir Pending n) ws) → IfSome part (λ n. n < to)
 part_low from to ws rises dir None among = tt

@@ -19,15 +19,6 @@ module _ {D : Type 0} (may_leave : D → Image → Type 0) (moment : D → ℕ) 
     now = crash;
   }
 
-  -- one call that leaves nothing new
-  pub quiet : (step : Image → Image → Type 0) (old new : D) → Elapses (moment old) (moment new) (left_since old) (left_since new) (may_leave new)
-      → Within (may_leave old) (may_leave new) → ((c : Image) → step c c) → Passes may_leave moment left_since step old new
-  quiet step old new time crash same = called step old new time (λ c left. (c, crash c left, same c))
-
-  -- none
-  pub still : (step : Image → Image → Type 0) (old : D) → ((c : Image) → step c c) → Passes may_leave moment left_since step old old
-  still step old same = record { later = omega arith; since = λ t c le left. inl left; now = λ c left. (c, left, same c) }
-
   -- the same run by another step
   pub weaken : (first step : Image → Image → Type 0) (old new : D) → Passes may_leave moment left_since first old new → ((c d : Image) → first c d → step c d) → Passes may_leave moment left_since step old new
   weaken first step old new one here = record {
@@ -85,15 +76,6 @@ module _ {D : Type 0} (may_leave : D → Image → Type 0) (moment : D → ℕ) 
       before = λ t c le left. ⊎_elim (λ past. inl past) (λ s. inr (on s.0 c s.1 s.2)) (run.since t c le left);
     }
 
-    -- a call that changes nothing leaves what each image has before it
-    pub leaves_quiet : (P : Image → Type 0) (old new : D) → Elapses (moment old) (moment new) (left_since old) (left_since new) (may_leave new)
-        → AsBefore (may_leave old) (may_leave new) → ((c : Image) → may_leave old c → P c) → LeavesOnly moment left_since old new P
-    leaves_quiet P old new time same first = record {
-      later = time.later;
-      each = λ c left. ⊎_elim (λ past. first c (only_now old c past)) (λ here. first c (same.within c here)) (time.nothing_else (moment old) c (omega arith) left);
-      before = λ t c le left. ⊎_elim (λ past. inl past) (λ here. inr (first c (same.within c here))) (time.nothing_else t c le left);
-    }
-
   -- what is left at the end of a run
   pub leaves_now : (counts_now : (disk : D) (t : ℕ) (c : Image) → t ≤ moment disk → may_leave disk c → left_since disk t c) (P : Image → Type 0) (old new : D)
       → LeavesOnly moment left_since old new P → (c : Image) → may_leave new c → P c
@@ -115,7 +97,3 @@ module _ {D : Type 0} (moment : D → ℕ) (left_since : D → ℕ → Image →
     each = λ c left. more c (run.each c left);
     before = λ t c le left. ⊎_elim (λ past. inl past) (λ here. inr (more c here)) (run.before t c le left);
   }
-
-  -- no call
-  pub leaves_still : (P : Image → Type 0) (old : D) → ((c : Image) → left_since old (moment old) c → P c) → LeavesOnly moment left_since old old P
-  leaves_still P old first = record { later = omega arith; each = first; before = λ t c le left. inl left }

@@ -9,6 +9,7 @@ ghost use Rattle.commit_calls.specs.Moments.{LeavesOnly};
 ghost use Rattle.seg_decoding.specs.Decoding.{docs_in, records_in};
 ghost use Rattle.commit_store.specs.declared.fault.CommitFault.TheVariants.{Disk as OfDisk, Closed, NoMemory as Memory, NumbersSpent};
 ghost use Rattle.store_opening.specs.declared.fault.OpenFault.TheVariants.{Disk as FaultOfDisk, NoMemory as NoRoom};
+ghost use Rattle.store_opening.specs.Faults.{IsSound};
 ghost use Rattle.store_opening.specs.Files.{files, greatest_number};
 ghost use Rattle.store_opening.specs.Newest.{AreListed, next_after};
 ghost use Rattle.store_opening.specs.Quiet.{IsQuiet};
@@ -50,10 +51,13 @@ impl<D: Disk> Committer<D> {
         ensures ok { IfOk result (λ o. (s : Told) → D.told disk ≡ Some s → HasFiles config o.labels (map arc_value o.segments.items) s.files) }
         ensures err { IfErr result (λ n. n.fault ≢ NoRoom → n.fault ≢ FaultOfDisk → (s : Told) → D.told disk ≡ Some s → files config s.files ≡ Err n.fault) }
         ensures fault { IfErr result (λ n. n.fault ≡ FaultOfDisk → Rose (D.faults disk) (D.faults n.disk)) }
+        ensures sound { IfErr result (λ n. IsSound n.fault) }
 
         // The disk is as it was.
         ensures quiet { IfOk result (λ o. IsQuiet D.told D.may_leave D.moment D.left_since D.faults disk o.committer.disk) }
         ensures not_opened { IfErr result (λ n. IsQuiet D.told D.may_leave D.moment D.left_since D.faults disk n.disk) }
+        ensures still { IfOk result (λ o. D.faults o.committer.disk ≡ D.faults disk) }
+        ensures still_not_opened { IfErr result (λ n. n.fault ≢ FaultOfDisk → D.faults n.disk ≡ D.faults disk) }
 
         // Commits go on from it.
         ensures decodes { IfOk result (λ o. Decodes o.labels config (map arc_value o.segments.items) (docs_in o.labels (map arc_value o.segments.items))) }
@@ -122,6 +126,12 @@ impl<D: Disk> Committer<D> {
             → (map arc_value segments.now ≡ [] → old_segments ≡ [])
             → IsCommittedAt D.may_leave self.new.config self.new.state self.new.disk view.now (map arc_value segments.now)) }
 
+        // Then the disk is settled, as whoever opens it next may need.
+        ensures settled { OnOk result ((s u : Told) (labels : List (List (List ℕ))) (old_segments : List Records) → D.told self.old.disk ≡ Some s → D.told self.new.disk ≡ Some u
+            → IsCommittedAt D.may_leave self.old.config self.old.state self.old.disk labels old_segments → GoesOn labels view.now
+            → (map arc_value segments.now ≡ [] → old_segments ≡ [])
+            → IsSettled D.may_leave self.new.config u self.new.disk) }
+
         // After Ok the disk tells what it told, with the files of the commit made, its pending files renamed and its strays removed.
         ensures told { OnOk result ((s : Told) → D.told self.old.disk ≡ Some s → D.told self.new.disk ≡ Some (committed_told self.old.config self.old.state view.now (map arc_value segments.now) s)) }
         ensures state { OnOk result (self.new.state ≡ committed_after self.old.config self.old.state view.now (map arc_value segments.now)) }
@@ -147,9 +157,13 @@ impl<D: Disk> Committer<D> {
         ensures tells { OnOk result ((s : Told) → D.told self.old.disk ≡ Some s → (u : Told) × (D.told self.new.disk ≡ Some u)) }
         ensures open { OnOk result ((self.old.closed ≡ None) × (self.new.closed ≡ None)) }
         ensures later { D.faults self.old.disk ≤ D.faults self.new.disk }
+        ensures still { OnOk result (D.faults self.new.disk ≡ D.faults self.old.disk) }
+        ensures room { self.new.state.next ≤ 2 ^ 63 }
         ensures takes { (self.old.state.next ≤ self.new.state.next) × (self.new.state.next ≤ self.old.state.next + 1000003) }
         ensures config { self.new.config ≡ self.old.config }
     {
+        // Its clause bounds the numbers before.
+        self.state.has_room();
         if let Some(count) = self.closed {
             return Err(CommitFault::Closed { count });
         }

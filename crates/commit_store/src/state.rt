@@ -37,3 +37,14 @@ impl Model for CommitState {
 
     ghost invariant = { λ s. IsCommitted (record { next = s.next; listed = s.listed.items; taxonomy = s.taxonomy; label_parts = s.label_parts.items; labels = s.labels; index = s.index; kept = map kept_view s.stored.items }) };
 }
+
+impl CommitState {
+    ghost use Rattle.std.specs.Prelude.{◌≤◌, ◌^◌};
+
+    // The bound that each state keeps.
+    pub(crate) fn has_room(&self)
+        ensures { self.now.next ≤ 2 ^ 63 }
+    {
+        let _next = self.next;
+    }
+}

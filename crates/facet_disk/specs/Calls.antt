@@ -11,10 +11,12 @@ use Rattle.facet_disk.specs.Images.{Image, Told, put_in, half_put_in, synced_in}
 abbrev pub Rose : ℕ → ℕ → Type 0
 Rose before now = (before < now) ⊎ (2 ^ 64 - 1 ≤ now)
 
--- a count of faults does not fall, and a call failed other than for want of memory only where it rose
+-- A count of faults does not fall. A call failed other than for want of memory only where it rose; at Ok and for want of memory it stays.
 pub record HasCause {T : Type 0} (before now : ℕ) (result : Result T DiskFault) : Type 0 where
   pub later : before ≤ now
   pub failed : IfErr result (λ e. e ≢ NoMemory → Rose before now)
+  pub still : OnOk result (now ≡ before)
+  pub memory : IfErr result (λ e. e ≡ NoMemory → now ≡ before)
 
 -- the fault is one of these
 abbrev pub IsOneOf : List DiskFault → DiskFault → Type 0

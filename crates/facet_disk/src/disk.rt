@@ -14,12 +14,12 @@ use std::alloc::Global;
 /// A crash at a moment leaves an image: for each name the bytes of its file, or none. These sentences say which.
 ///
 /// 1. A file that was put and not synced since is absent or holds any bytes.
-/// 2. A file that was synced holds what a read gives, under its name.
+/// 2. A file that was synced holds what a read gives, under its name; so also one that was renamed and then synced before its directory's names.
 /// 3. Each rename and each removal since the last `sync_names` of its directory has happened wholly or not at all, each by itself.
 /// 4. All else is as a read gives it.
 /// 5. A crash inside a call leaves what a crash just before it or just after it may leave.
 /// 6. A `put` that failed may have made the file or not, and it counts as put and not synced. A `sync` or `sync_names` that failed has
-///    synced nothing. A `rename` or `remove` that failed may have happened or not.
+///    synced nothing that can be relied on. A `rename` or `remove` that failed may have happened or not.
 /// 7. The disk as it reads is one of its own images.
 ///
 /// Where a call answers `Absent`, `Present` or `NoMemory`, its files and what a crash may leave are as before.

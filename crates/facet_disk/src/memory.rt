@@ -3,7 +3,7 @@ ghost use Rattle.facet_disk.specs.declared.fault.DiskFault.TheVariants.{Failed, 
 ghost use Rattle.facet_disk.specs.Images.{Image, Told, renamed_in, removed_in};
 ghost use Rattle.facet_disk.specs.Crashes.{AsBefore, Within, Follows, PutOf, RenameOf, RemoveOf, IsSynced, AreNamesDone, Elapses};
 ghost use Rattle.facet_disk.specs.Calls.{HasCause, IsOneOf, Refuses, IsAsDue, put_due, file_due, rename_due, Lists, Puts, Syncs, Steps};
-ghost use Rattle.facet_disk.specs.CallCounts.{no_call, with_fault};
+ghost use Rattle.facet_disk.specs.CallCounts.{no_call, with_fault, fails_next};
 ghost use Rattle.facet_disk.specs.Record.{held, told_step, leave_step};
 ghost use Rattle.facet_disk.specs.Stopped.{after_the_call, left_after};
 ghost use Rattle.facet_disk.specs.Memory.{memory_told, memory_leaves, memory_moment, memory_left_since, IsCounted};
@@ -149,7 +149,8 @@ impl MemoryDisk {
     }
 }
 
-// The clauses of `call` say beside those of the trait which calls fail and do nothing, and that a change is noted under its call.
+// The clauses of `call` say beside those of the trait which calls fail and do nothing, and that a change is noted under its call. By those of
+// `failed` no other `list` or `read` answers that the device failed; a call that writes may, where its change finds no memory.
 impl Disk for MemoryDisk {
     ghost use Rattle.facet_disk.specs.MemoryLaws.{memory_counts_now, memory_only_now, memory_own};
 
@@ -177,6 +178,7 @@ impl Disk for MemoryDisk {
         ensures cause { HasCause self.old.calls.faults self.new.calls.faults result }
         ensures kinds { IfErr result (IsOneOf (Failed ∷ Memory ∷ [])) }
         ensures call { IsCounted self.old self.new result }
+        ensures failed { IfErr result (λ e. e ≡ Failed → IsTrue (fails_next self.old.calls)) }
     {
         self.calls.begin()?;
         match list_names(alloc, &self.start, &self.changes, dir) {
@@ -194,6 +196,7 @@ impl Disk for MemoryDisk {
         ensures cause { HasCause self.old.calls.faults self.new.calls.faults result }
         ensures kinds { IfErr result (IsOneOf (Failed ∷ Absent name ∷ Memory ∷ [])) }
         ensures call { IsCounted self.old self.new result }
+        ensures failed { IfErr result (λ e. e ≡ Failed → IsTrue (fails_next self.old.calls)) }
     {
         self.calls.begin()?;
         match find(&self.start, &self.changes, name) {

@@ -4,10 +4,6 @@ use Rattle.std.specs.Prelude.{min}
 use Rattle.std.proofs.lemmas.List.{take-append-drop, append-nil, length-take, take_at, nil_from_length, length-drop, drop-drop}
 use Rattle.std.specs.Io.KnownBytes.{Appends, Consumes, Keeps}
 
-appends_nothing : (old : Option (List ℕ)) → Appends old old []
-appends_nothing None = tt
-appends_nothing (Some xs) = sym (append-nil xs)
-
 appends_then : (old mid new : Option (List ℕ)) (a b : List ℕ) → Appends old mid a → Appends mid new b → Appends old new (a ++ b)
 appends_then None mid new a b p q = tt
 appends_then (Some xs) None new a b p q = absurd p
@@ -26,9 +22,6 @@ pub record IsPartWritten (old now : Option (List ℕ)) (bytes rest : List ℕ) :
   pub parts : bytes ≡ done ++ rest
   pub appended : Appends old now done
 
-pub part_start : (old : Option (List ℕ)) (bytes : List ℕ) → IsPartWritten old old bytes bytes
-part_start old bytes = record { done = []; parts = refl; appended = appends_nothing old }
-
 pub part_more : (old mid new : Option (List ℕ)) (bytes rest : List ℕ) (n : ℕ) → IsPartWritten old mid bytes rest → Appends mid new (take n rest) → IsPartWritten old new bytes (drop n rest)
 part_more old mid new bytes rest n p q = record {
   done = p.done ++ take n rest;
@@ -40,11 +33,6 @@ pub part_failed : (old mid new : Option (List ℕ)) (bytes rest : List ℕ) → 
 part_failed old mid new bytes rest p q =
     let front : take (length p.done) bytes ≡ p.done = rw p.parts (take_at p.done rest (length p.done) refl) in
     (length p.done, rw front (appends_kept old mid new p.done p.appended q))
-
-pub part_done : (old now : Option (List ℕ)) (bytes rest : List ℕ) → IsPartWritten old now bytes rest → rest ≡ [] → Appends old now bytes
-part_done old now bytes rest p e =
-    let whole : bytes ≡ p.done = p.parts ∙ ap (λ (t : List ℕ). p.done ++ t) e ∙ append-nil p.done in
-    rw whole p.appended
 
 -- n of the bytes from `at` on were copied
 pub handed_out : (xs into : List ℕ) (at n piece : ℕ) → n ≡ min (min (length into) piece) (length (drop at xs)) → 1 ≤ piece → take n into ≡ take n (drop at xs)

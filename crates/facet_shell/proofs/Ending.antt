@@ -37,20 +37,6 @@ kind_of (faults.Uncovered needs has) = inr (inr ((λ e. cc e), (λ e. cc e), inl
 kind_of (faults.NumbersSpent greatest) = inr (inr ((λ e. cc e), (λ e. cc e), inl refl))
 kind_of (faults.OtherConfig dim) = inr (inr ((λ e. cc e), (λ e. cc e), inr refl))
 
--- a status that comes after the script was read
-pub data IsLater : Status → Type 0 where
-  at_done : IsLater Done
-  at_write : IsLater WriteFault
-  at_disk : IsLater DiskFault
-  at_store : IsLater BadStore
-  at_memory : IsLater NoMemory
-  at_config : IsLater OtherConfig
-
-later_of : (fault : OpenFault) → (fault ≡ faults.Disk) ⊎ (fault ≡ faults.NoMemory) ⊎ IsOfFiles fault → IsLater (fault_status fault)
-later_of fault (inl is) = subst (λ (f : OpenFault). IsLater (fault_status f)) (sym is) at_disk
-later_of fault (inr (inl is)) = subst (λ (f : OpenFault). IsLater (fault_status f)) (sym is) at_memory
-later_of fault (inr (inr of_files)) = ⊎_elim (λ is. subst IsLater (sym is) at_store) (λ is. subst IsLater (sym is) at_config) of_files.2
-
 -- only the disk's fault ends so
 disk_of : (fault : OpenFault) → fault_status fault ≡ DiskFault → (fault ≡ faults.Disk) ⊎ (fault ≡ faults.NoMemory) ⊎ IsOfFiles fault → fault ≡ faults.Disk
 disk_of fault ends (inl is) = is
@@ -82,12 +68,6 @@ write_apart status is which = let same : WriteFault ≡ status = sym is in ⊎_e
 memory_apart : (status : Status) → status ≡ NoMemory → IsShut status → ⊥
 memory_apart status is which = let same : NoMemory ≡ status = sym is in ⊎_elim (λ w. cc (same ∙ w)) (λ more. ⊎_elim (λ w. cc (same ∙ w)) (λ w. cc (same ∙ w)) more) which
 
--- what was read before, all of which is left behind
-pub whole_is : (before now : Option (List ℕ)) (input other : List ℕ) → Consumes before now input → IsAtEnd now → before ≡ Some other → input ≡ other
-whole_is None now input other read end some = cc some
-whole_is (Some xs) None input other read end some = absurd read
-whole_is (Some xs) (Some ys) input other read end some = sym (append-nil input) ∙ ap (λ (zs : List ℕ). input ++ zs) (sym end) ∙ sym read ∙ cc some
-
 module _ {D : Type 0} (told : D → Option Told) (may_leave : D → Image → Type 0) (moment : D → ℕ) (left_since : D → ℕ → Image → Type 0) (faults_of : D → ℕ) (s : Script) (input : List ℕ) (left_before left_now : Option (List ℕ)) (old new : D)
     (faults_before faults_now : ℕ) (before now : Option (List ℕ)) (status : Status) where
   abbrev End : Type 0
@@ -108,20 +88,11 @@ module _ {D : Type 0} (told : D → Option Told) (may_leave : D → Image → Ty
         opens = ran.opens;
         right = subst (λ (os : List Order). RightReplies s.settings ran.opened os replies ran.last) same ran.right;
         counted = ran.counted;
+        settled = ran.settled;
         keeps = λ t tells settled. subst (λ (os : List Order). Keeps may_leave moment left_since s.settings.config ran.opened ran.last (durable os replies) old new) same (ran.keeps t tells settled);
       }
 
   -- ---- each end
-
-  later_writes : (many : ℕ) (replies : List Reply) → Writes s.orders many replies faults_before faults_now before now status → IsLater status
-  later_writes many replies (inl w) = subst IsLater (sym w.0) at_done
-  later_writes many replies (inr (inl w)) = subst IsLater (sym w.0) at_write
-  later_writes many replies (inr (inr w)) = subst IsLater (sym w.0) at_memory
-
-  -- no status comes that comes before the script was read
-  pub is_later : End → IsLater status
-  is_later (inl e) = later_writes e.many e.replies e.writes
-  is_later (inr e) = ⊎_elim (λ c. subst IsLater c.1 (later_of c.0 (kind_of c.0))) (λ c. subst IsLater (sym c.0) at_memory) e.cause
 
   -- an order's replies were written: a store that stays shut ends otherwise
   abbrev IsAnswered : Type 0
@@ -130,8 +101,8 @@ module _ {D : Type 0} (told : D → Option Told) (may_leave : D → Image → Ty
   not_shut : StaysShut told may_leave moment left_since faults_of s old new faults_before faults_now before now status → IsAnswered → ⊥
   not_shut e which = ⊎_elim (λ c. shut_apart c.0 (kind_of c.0) status which c.1) (λ c. ⊎_elim (λ w. let is : NoMemory ≡ Done = sym c.0 ∙ w in cc is) (λ w. let is : NoMemory ≡ WriteFault = sym c.0 ∙ w in cc is) which) e.cause
 
-  finished : (many : ℕ) (replies : List Reply) → Writes s.orders many replies faults_before faults_now before now status → status ≡ Done → (take many s.orders ≡ s.orders) × Appends before now (reply_lines s.orders replies)
-  finished many replies (inl w) ends = (w.1, w.2)
+  finished : (many : ℕ) (replies : List Reply) → Writes s.orders many replies faults_before faults_now before now status → status ≡ Done → (take many s.orders ≡ s.orders) × Appends before now (reply_lines s.orders replies) × (faults_now ≡ faults_before)
+  finished many replies (inl w) ends = (w.1, w.2, w.3)
   finished many replies (inr (inl w)) ends = absurd (let is : WriteFault ≡ Done = sym w.0 ∙ ends in cc is)
   finished many replies (inr (inr w)) ends = absurd (let is : NoMemory ≡ Done = sym w.0 ∙ ends in cc is)
 
@@ -155,67 +126,29 @@ module _ {D : Type 0} (told : D → Option Told) (may_leave : D → Image → Ty
     write_fault (inl e) ends = let w = broke_off e.many e.replies e.writes ends in record { input = input; read = read; is = s; script_is = is; replies = e.replies; ran = ran_all e.many e.replies w.0 e.ran; written = w.2 }
     write_fault (inr e) ends = absurd (not_shut e (inr ends))
 
-    pub write_failed : End → status ≡ WriteFault → Rose faults_before faults_now
-    write_failed (inl e) ends = (broke_off e.many e.replies e.writes ends).1
-    write_failed (inr e) ends = absurd (not_shut e (inr ends))
-
-    pub no_memory : End → status ≡ NoMemory → StopsShort told may_leave moment left_since faults_of left_before left_now old new ⊎ IsQuiet told may_leave moment left_since faults_of old new
-    no_memory (inl e) ends = inl (record { input = input; read = read; is = s; script_is = is; many = e.many; replies = e.replies; ran = e.ran })
-    no_memory (inr e) ends = inr e.quiet
-
-    pub quiet : End → (status ≡ Done) ⊎ (status ≡ WriteFault) ⊎ (status ≡ NoMemory) ⊎ IsQuiet told may_leave moment left_since faults_of old new
-    quiet (inl e) = ⊎_elim (λ w. inl w.0) (λ more. ⊎_elim (λ w. inr (inl w.0)) (λ w. inr (inr (inl w.0))) more) e.writes
-    quiet (inr e) = inr (inr (inr e.quiet))
-
     pub not_opened : End → (status ≡ BadStore) ⊎ (status ≡ OtherConfig) → TellsOfStore told left_before left_now faults_before faults_now before now old status
     not_opened (inl e) which = absurd (not_files e.many e.replies e.writes (inr which))
     not_opened (inr e) which = ⊎_elim
-        (λ c. let files = files_of c.0 status c.1 which (kind_of c.0) in record { input = input; read = read; is = s; script_is = is; fault = c.0; ends = c.1; stored = c.2.1 files.1 files.0; written = c.3 })
+        (λ c. let files = files_of c.0 status c.1 which (kind_of c.0) in record { input = input; read = read; is = s; script_is = is; fault = c.0; ends = c.1; sound = c.2.3; stored = c.2.1 files.1 files.0; written = c.3 })
         (λ c. absurd (memory_apart status c.0 (inr which))) e.cause
+
+    -- the count of a disk stays where its store is not opened, unless it failed
+    abbrev IsStill : Type 0
+    IsStill = (status ≡ Done) ⊎ (status ≡ WriteFault) ⊎ (status ≡ NoMemory) ⊎ (status ≡ DiskFault) ⊎ (faults_of new ≡ faults_of old)
+
+    shut_still : (fault : OpenFault) → fault_status fault ≡ status → (fault ≢ faults.Disk → faults_of new ≡ faults_of old) → (fault ≡ faults.Disk) ⊎ (fault ≡ faults.NoMemory) ⊎ IsOfFiles fault → IsStill
+    shut_still fault ends still (inl same) = inr (inr (inr (inl (sym ends ∙ ap fault_status same))))
+    shut_still fault ends still (inr (inl same)) = inr (inr (inl (sym ends ∙ ap fault_status same)))
+    shut_still fault ends still (inr (inr of_files)) = inr (inr (inr (inr (still of_files.0))))
+
+    pub disk_still : End → IsStill
+    disk_still (inl e) = ⊎_elim (λ w. inl w.0) (λ more. ⊎_elim (λ w. inr (inl w.0)) (λ w. inr (inr (inl w.0))) more) e.writes
+    disk_still (inr e) = ⊎_elim (λ c. shut_still c.0 c.1 c.2.2 (kind_of c.0)) (λ c. inr (inr (inl c.0))) e.cause
+
+    pub sink_still : End → status ≡ Done → faults_now ≡ faults_before
+    sink_still (inl e) ends = (finished e.many e.replies e.writes ends).2
+    sink_still (inr e) ends = absurd (not_shut e (inl ends))
 
     pub disk_failed : End → status ≡ DiskFault → ReadsScript left_before left_now × disk.Rose (faults_of old) (faults_of new)
     disk_failed (inl e) ends = absurd (not_files e.many e.replies e.writes (inl ends))
     disk_failed (inr e) ends = ⊎_elim (λ c. ((input, s, read, is), c.2.0 (disk_of c.0 (c.1 ∙ ends) (kind_of c.0)))) (λ c. absurd (memory_apart status c.0 (inl ends))) e.cause
-
-    abbrev Tells : Type 0
-    Tells = WritesLine faults_before faults_now before now (status_line status)
-
-    told_shut : (fault : OpenFault) → fault_status fault ≡ status → WritesLine faults_before faults_now before now (open_line fault) → (fault ≡ faults.Disk) ⊎ (fault ≡ faults.NoMemory) ⊎ IsOfFiles fault → (status ≡ BadStore) ⊎ (status ≡ OtherConfig) ⊎ Tells
-    told_shut fault ends line (inl same) = inr (inr (subst (WritesLine faults_before faults_now before now) (ap open_line same ∙ ap status_line (sym (ap fault_status same) ∙ ends)) line))
-    told_shut fault ends line (inr (inl same)) = inr (inr (subst (WritesLine faults_before faults_now before now) (ap open_line same ∙ ap status_line (sym (ap fault_status same) ∙ ends)) line))
-    told_shut fault ends line (inr (inr files)) = ⊎_elim (λ w. inl (sym ends ∙ w)) (λ w. inr (inl (sym ends ∙ w))) files.2
-
-    memory_told : status ≡ NoMemory → WritesLine faults_before faults_now before now (status_line NoMemory) → Tells
-    memory_told ends line = subst (λ (x : Status). WritesLine faults_before faults_now before now (status_line x)) (sym ends) line
-
-    pub told_of : End → (status ≡ Done) ⊎ (status ≡ WriteFault) ⊎ (status ≡ BadScript) ⊎ (status ≡ BadStore) ⊎ (status ≡ OtherConfig) ⊎ Tells
-    told_of (inl e) = ⊎_elim (λ w. inl w.0) (λ more. ⊎_elim (λ w. inr (inl w.0)) (λ w. inr (inr (inr (inr (inr (memory_told w.0 w.1)))))) more) e.writes
-    told_of (inr e) = ⊎_elim (λ c. inr (inr (inr (told_shut c.0 c.1 c.3 (kind_of c.0))))) (λ c. inr (inr (inr (inr (inr (memory_told c.0 c.1)))))) e.cause
-
-    -- how a run over these files ends
-    script_ends : (t : Told) → expected input t.files ≡ opened_status (files s.settings.config t.files)
-    script_ends t = ap (λ b. if b then TooLong else script_status (script input) t.files) (le-ltb script_limit (length input) read.fits) ∙ ap (λ r. script_status r t.files) is
-
-    as_opened : (t : Told) (ends : Status) → status ≡ ends → ends ≡ opened_status (files s.settings.config t.files) → status ≡ expected input t.files
-    as_opened t ends one two = one ∙ two ∙ sym (script_ends t)
-
-    abbrev Expected : Told → Type 0
-    Expected t = (status ≡ expected input t.files) ⊎ (status ≡ NoMemory)
-
-    ran_expected : (t : Told) (many : ℕ) (replies : List Reply) → told old ≡ Some t → Ran told may_leave moment left_since faults_of s many replies old new → ¬ Rose faults_before faults_now
-        → Writes s.orders many replies faults_before faults_now before now status → Expected t
-    ran_expected t many replies tells ran calm (inl w) = let f = ran.opens.stored t tells in inl (as_opened t Done w.0 (sym (ap opened_status f.1)))
-    ran_expected t many replies tells ran calm (inr (inl w)) = absurd (calm w.2)
-    ran_expected t many replies tells ran calm (inr (inr w)) = inr w.0
-
-    shut_expected : (t : Told) (fault : OpenFault) → fault_status fault ≡ status → (fault ≡ faults.Disk → ⊥) → (fault ≢ faults.NoMemory → fault ≢ faults.Disk → files s.settings.config t.files ≡ Err fault) → (fault ≡ faults.Disk) ⊎ (fault ≡ faults.NoMemory) ⊎ IsOfFiles fault → Expected t
-    shut_expected t fault ends calm has (inl same) = absurd (calm same)
-    shut_expected t fault ends calm has (inr (inl same)) = inr (sym ends ∙ ap fault_status same)
-    shut_expected t fault ends calm has (inr (inr of_files)) = inl (as_opened t (fault_status fault) (sym ends) (sym (ap opened_status (has of_files.1 of_files.0))))
-
-    all_expected : (t : Told) → told old ≡ Some t → End → ¬ Rose faults_before faults_now → ¬ disk.Rose (faults_of old) (faults_of new) → Expected t
-    all_expected t tells (inl e) calm fine = ran_expected t e.many e.replies tells e.ran calm e.writes
-    all_expected t tells (inr e) calm fine = ⊎_elim (λ c. shut_expected t c.0 c.1 (λ same. fine (c.2.0 same)) (λ one two. c.2.1 one two t tells) (kind_of c.0)) (λ c. inr c.0) e.cause
-
-    pub complete : End → (other : List ℕ) (t : Told) → left_before ≡ Some other → told old ≡ Some t → ¬ Rose faults_before faults_now → ¬ disk.Rose (faults_of old) (faults_of new) → (status ≡ expected other t.files) ⊎ (status ≡ NoMemory)
-    complete e other t tells_source tells calm fine = subst (λ (bytes : List ℕ). (status ≡ expected bytes t.files) ⊎ (status ≡ NoMemory)) (whole_is left_before left_now input other read.read read.end tells_source) (all_expected t tells e calm fine)

@@ -68,7 +68,3 @@ entry_made config known e doc resolved is leaves short list at accepted expanded
   },
   tt,
 )
-
-pub entries_push : (config : Config) (labels : Labels) (entries : List Entry) (e : Entry) → AreEntries config labels entries → AreEntries config labels (e ∷ []) → AreEntries config labels (entries ++ e ∷ [])
-entries_push config labels [] e are one = one
-entries_push config labels (x ∷ xs) e are one = (are.0, entries_push config labels xs e are.1 one)

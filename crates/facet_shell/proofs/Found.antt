@@ -28,7 +28,3 @@ module _ {A : Type 0} (value : A → Records) (xs : List A) (i : ℕ) (x : A) (l
   -- it is one of a later segment
   pub record_later : (at : ℕ) → length (value x).records ≤ at → slice_get (records_in (map value (drop i xs))) at ≡ slice_get (records_in (map value (drop (i + 1) xs))) (at - length (value x).records)
   record_later at high = ap (λ l. slice_get l at) cut ∙ back_get (value x).records (records_in (map value (drop (i + 1) xs))) at high
-
-  -- this segment's are counted
-  pub counted_more : (count docs : ℕ) → docs ≡ length (value x).records → count + length (records_in (map value (drop i xs))) ≡ (count + docs) + length (records_in (map value (drop (i + 1) xs)))
-  counted_more count docs is = omega (arith, is, ap length cut, length-append (value x).records (records_in (map value (drop (i + 1) xs))))

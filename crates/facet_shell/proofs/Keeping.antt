@@ -48,9 +48,6 @@ module _ (config : Config) (labels view : Labels) (segments : List Records) (pub
   pub flushed_docs : docs_in labels (flushed segments buffer) ≡ docs_in labels segments ++ docs_of buffer
   flushed_docs = decoded labels config (flushed segments buffer) (docs_in labels segments ++ docs_of buffer) decodes_all
 
-  pub decodes_flushed : Decodes labels config (flushed segments buffer) (docs_in labels segments ++ docs_of buffer)
-  decodes_flushed = decodes_all
-
   same_front : (entries : List Entry) → take published (flushed segments entries) ≡ take published segments
   same_front [] = refl
   same_front (e ∷ es) = take-append-le published segments (segment_of (e ∷ es) ∷ []) kept.within

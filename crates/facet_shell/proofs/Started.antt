@@ -14,6 +14,7 @@ use Rattle.commit_store.specs.Committed.{Committed}
 use Rattle.commit_store.specs.Committing.{HasFiles}
 use Rattle.commit_store.specs.Plannings.{IsCommittedAt}
 use Rattle.seg_decoding.specs.Decoding.{docs_in}
+use Rattle.store_opening.specs.Faults.{IsSound}
 use Rattle.store_opening.specs.Files.{files, greatest_number}
 use Rattle.store_opening.specs.Newest.{next_after}
 use Rattle.store_opening.specs.Quiet.{IsQuiet, IsUnchanged}
@@ -78,40 +79,42 @@ module _ {D : Type 0} (told : D → Option Told) (may_leave : D → Image → Ty
       }
 
   -- what was opened
-  pub opens : store.closed ≡ None → store.faults ≡ faults disk → IsQuiet told may_leave moment left_since faults start disk
+  pub opens : store.closed ≡ None → store.faults ≡ faults disk → faults disk ≡ faults start
       → ((t : Told) → told start ≡ Some t → HasFiles config labels segments t.files) → ((t : Told) → told start ≡ Some t → store.next ≡ next_after (greatest_number t.files)) → Opens told faults config start opened
-  opens unfailed counted quiet has next = record {
+  opens unfailed counted still has next = record {
     whole = refl;
     unfailed = unfailed;
-    counted = omega (arith, quiet.later, counted);
+    counted = counted ∙ still;
     stored = λ t tells. (record { labels = labels; segments = segments }, has t tells, refl, refl, next t tells);
   }
 
 -- a store that was opened, and whose orders were carried out
 module _ {D : Type 0} (told : D → Option Told) (may_leave : D → Image → Type 0) (moment : D → ℕ) (left_since : D → ℕ → Image → Type 0) (faults : D → ℕ)
     (only_now : (d : D) (c : Image) → left_since d (moment d) c → may_leave d c) (s : Script) (config : Config) (same : config ≡ s.settings.config) (start : D) (faults_before faults_now : ℕ) (before now : Option (List ℕ)) (status : Status) where
-  pub serves : (labels : Labels) (segments : List Records) (state : Committed) (disk new : D) → IsQuiet told may_leave moment left_since faults start disk
+  pub serves : (labels : Labels) (segments : List Records) (state : Committed) (disk new : D) → IsQuiet told may_leave moment left_since faults start disk → faults disk ≡ faults start
       → ((t : Told) → told start ≡ Some t → HasFiles config labels segments t.files) → ((t : Told) → told start ≡ Some t → state.next ≡ next_after (greatest_number t.files))
       → ((t : Told) → told start ≡ Some t → IsSettled may_leave config t start → IsCommittedAt may_leave config state disk labels segments) → IsLabelList labels
       → Decodes labels config segments (docs_in labels segments) → (docs_in labels segments ≡ [] → segments ≡ [])
       → Served told may_leave moment left_since faults s (opened_shelf labels (docs_in labels segments) (store_of None state.next (faults disk))) s.settings.config state disk new faults_before faults_now before now status
       → Serves told may_leave moment left_since faults s start new faults_before faults_now before now status
-  serves labels segments state disk new quiet has next at list decodes some served =
+  serves labels segments state disk new quiet still has next at list decodes some served =
       let store : Store = store_of None state.next (faults disk) in
       let shelf : Shelf = opened_shelf labels (docs_in labels segments) store in
+      let story : (t : Told) → told start ≡ Some t → IsSettled may_leave s.settings.config t start → IsStory told may_leave moment left_since shelf start shelf 0 s.settings.config state disk =
+      λ t tells settled. let settled_here : IsSettled may_leave config t start = subst (λ (c : Config). IsSettled may_leave c t start) (sym same) settled in
+      subst (λ (c : Config). IsStory told may_leave moment left_since shelf start shelf 0 c state disk) same
+      (started told may_leave moment left_since faults only_now config labels segments state start disk store t tells settled_here quiet (has t tells) (at t tells settled_here) list decodes some) in
       record {
         many = served.many;
         replies = served.replies;
         ran = record {
           opened = shelf;
           last = served.last;
-          opens = subst (λ (c : Config). Opens told faults c start shelf) same (opens told may_leave moment left_since faults only_now config labels segments state start disk store refl refl quiet has next);
+          opens = subst (λ (c : Config). Opens told faults c start shelf) same (opens told may_leave moment left_since faults only_now config labels segments state start disk store refl refl still has next);
           right = served.right;
           counted = served.counted;
-          keeps = λ t tells settled.
-              let settled_here : IsSettled may_leave config t start = subst (λ (c : Config). IsSettled may_leave c t start) (sym same) settled in
-              served.keeps start (subst (λ (c : Config). IsStory told may_leave moment left_since shelf start shelf 0 c state disk) same
-              (started told may_leave moment left_since faults only_now config labels segments state start disk store t tells settled_here quiet (has t tells) (at t tells settled_here) list decodes some));
+          keeps = λ t tells settled. served.keeps start (story t tells settled);
+          settled = λ t u tells settled none tells_now. served.settled start (story t tells settled) none u tells_now;
         };
         writes = served.writes;
       }
@@ -119,15 +122,16 @@ module _ {D : Type 0} (told : D → Option Told) (may_leave : D → Image → Ty
   -- a store that was not opened
   pub shuts : (disk new : D) (fault : OpenFault) → new ≡ disk → IsQuiet told may_leave moment left_since faults start disk
       → (fault ≢ NoRoom → fault ≢ OfDisk → (t : Told) → told start ≡ Some t → files config t.files ≡ Err fault) → (fault ≡ OfDisk → disk_calls.Rose (faults start) (faults disk))
+      → (fault ≢ OfDisk → faults disk ≡ faults start) → IsSound fault
       → ((status ≡ fault_status fault) × WritesLine faults_before faults_now before now (open_line fault)) ⊎ ((status ≡ NoMemory) × WritesLine faults_before faults_now before now (status_line NoMemory))
       → StaysShut told may_leave moment left_since faults s start new faults_before faults_now before now status
-  shuts disk new fault back quiet has rose tells = record {
+  shuts disk new fault back quiet has rose still sound tells = record {
     quiet = subst (λ (d : D). IsQuiet told may_leave moment left_since faults start d) (sym back) quiet;
     cause = ⊎_elim
         (λ t. inl (
           fault,
           sym t.0,
-          ((λ is. subst (λ (d : D). disk_calls.Rose (faults start) (faults d)) (sym back) (rose is)), (λ one two u tells_start. subst (λ (c : Config). files c u.files ≡ Err fault) same (has one two u tells_start))),
+          ((λ is. subst (λ (d : D). disk_calls.Rose (faults start) (faults d)) (sym back) (rose is)), (λ one two u tells_start. subst (λ (c : Config). files c u.files ≡ Err fault) same (has one two u tells_start)), (λ other. ap faults back ∙ still other), sound),
           t.1,
         ))
         (λ t. inr t) tells;

@@ -10,6 +10,7 @@ use Rattle.facet_replies.specs.declared.fault.ScriptFault.{ScriptFault}
 use Rattle.facet_words.specs.Answers.{Shelf, opened_shelf, RightReplies, reply_lines, durable}
 use Rattle.facet_words.specs.Commands.{Script}
 use Rattle.facet_words.specs.Scripts.{script}
+use Rattle.store_opening.specs.Faults.{IsSound}
 use Rattle.store_opening.specs.Files.{Found, files, greatest_number}
 use Rattle.store_opening.specs.Newest.{next_after}
 use Rattle.store_opening.specs.Settled.{IsSettled}
@@ -37,9 +38,9 @@ ReadsSome before now = (input : List ℕ) × (length input ≤ script_limit + 1)
 abbrev pub ReadsTooMuch : Option (List ℕ) → Option (List ℕ) → Type 0
 ReadsTooMuch before now = (input : List ℕ) × (length input ≡ script_limit + 1) × Consumes before now input
 
--- the line was written, or where a count of faults rose a prefix of it
+-- the line was written and no fault counted, or where the count of faults rose a prefix of it
 abbrev pub WritesLine : ℕ → ℕ → Option (List ℕ) → Option (List ℕ) → List ℕ → Type 0
-WritesLine faults_before faults_now before now line = Appends before now line ⊎ (Rose faults_before faults_now × ((n : ℕ) × Appends before now (take n line)))
+WritesLine faults_before faults_now before now line = (Appends before now line × (faults_now ≡ faults_before)) ⊎ (Rose faults_before faults_now × ((n : ℕ) × Appends before now (take n line)))
 
 -- what was read is no script, and the line of its first fault was written, or where a count of faults rose a prefix of it
 abbrev pub TellsOfScript : Option (List ℕ) → Option (List ℕ) → ℕ → ℕ → Option (List ℕ) → Option (List ℕ) → Type 0
@@ -52,10 +53,10 @@ TellsOfScript left_before left_now faults_before faults_now written_before writt
 pub record Opens {D : Type 0} (told : D → Option Told) (faults : D → ℕ) (config : Config) (disk : D) (opened : Shelf) : Type 0 where
   pub whole : opened ≡ opened_shelf opened.labels opened.docs opened.store
   pub unfailed : opened.store.closed ≡ None
-  pub counted : faults disk ≤ opened.store.faults
+  pub counted : opened.store.faults ≡ faults disk
   pub stored : (s : Told) → told disk ≡ Some s → (f : Found) × (files config s.files ≡ Ok f) × (opened.labels ≡ f.labels) × (opened.docs ≡ docs_found f) × (opened.store.next ≡ next_after (greatest_number s.files))
 
--- The first orders of a script have these replies, which are right for the opened store, and where its disk is settled, what commits were acknowledged is kept.
+-- The first orders of a script have these replies, which are right for the opened store; where its disk is settled, what commits were acknowledged is kept, and where none failed on the disk, it is settled again.
 pub record Ran {D : Type 0} (told : D → Option Told) (may_leave : D → Image → Type 0) (moment : D → ℕ) (left_since : D → ℕ → Image → Type 0) (faults : D → ℕ) (s : Script) (many : ℕ) (replies : List Reply) (old new : D) : Type 0 where
   pub opened : Shelf
   pub last : Shelf
@@ -63,6 +64,7 @@ pub record Ran {D : Type 0} (told : D → Option Told) (may_leave : D → Image 
   pub right : RightReplies s.settings opened (take many s.orders) replies last
   pub counted : last.store.faults ≡ faults new
   pub keeps : (t : Told) → told old ≡ Some t → IsSettled may_leave s.settings.config t old → Keeps may_leave moment left_since s.settings.config opened last (durable (take many s.orders) replies) old new
+  pub settled : (t u : Told) → told old ≡ Some t → IsSettled may_leave s.settings.config t old → last.store.closed ≡ None → told new ≡ Some u → IsSettled may_leave s.settings.config u new
 
 -- what was read is a script, all its orders have right replies, and their lines were written
 pub record Finishes {D : Type 0} (told : D → Option Told) (may_leave : D → Image → Type 0) (moment : D → ℕ) (left_since : D → ℕ → Image → Type 0) (faults : D → ℕ) (left_before left_now written_before written_now : Option (List ℕ)) (old new : D) : Type 0 where
@@ -102,6 +104,7 @@ pub record TellsOfStore {D : Type 0} (told : D → Option Told) (left_before lef
   pub script_is : script input ≡ Ok is
   pub fault : OpenFault
   pub ends : fault_status fault ≡ status
+  pub sound : IsSound fault
   pub stored : (s : Told) → told disk ≡ Some s → files is.settings.config s.files ≡ Err fault
   pub written : WritesLine faults_before faults_now written_before written_now (open_line fault)
 

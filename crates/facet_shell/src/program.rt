@@ -58,6 +58,12 @@ pub fn run<R: AllocGlobal, S: Source, K: Sink, D: Disk>(
     ensures read_failed { result.status ≡ Status.ReadFault → Rose (S.faults source.old) (S.faults source.new) }
     ensures write_failed { result.status ≡ Status.WriteFault → Rose (K.faults sink.old) (K.faults sink.new) }
     ensures disk_failed { result.status ≡ Status.DiskFault → ReadsScript (S.left source.old) (S.left source.new) × DiskRose (D.faults disk) (D.faults result.disk) }
+
+    // Counts of faults stay where nothing failed. That of the disk may rise in a commit, whose reply tells it.
+    ensures source_still { result.status ≢ Status.ReadFault → S.faults source.new ≡ S.faults source.old }
+    ensures sink_still { result.status ≡ Status.Done → K.faults sink.new ≡ K.faults sink.old }
+    ensures disk_still { (result.status ≡ Status.Done) ⊎ (result.status ≡ Status.WriteFault) ⊎ (result.status ≡ Status.NoMemory) ⊎ (result.status ≡ Status.DiskFault) ⊎ (D.faults result.disk ≡ D.faults disk) }
+
     ensures complete { (input : List ℕ) (s : Told) → S.left source.old ≡ Some input → D.told disk ≡ Some s → length words.now ≡ 1
         → ¬ Rose (S.faults source.old) (S.faults source.new) → ¬ Rose (K.faults sink.old) (K.faults sink.new) → ¬ DiskRose (D.faults disk) (D.faults result.disk)
         → (result.status ≡ expected input s.files) ⊎ (result.status ≡ Status.NoMemory) }

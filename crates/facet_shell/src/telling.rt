@@ -1,10 +1,13 @@
 ghost use Rattle.std.specs.Prelude.{◌≡◌, ◌≢◌, ◌⊎◌, IfOk};
 ghost use Rattle.facet_replies.specs.ReplyLines.{fault_line};
+ghost use Rattle.facet_disk.specs.FileNames.{name_text};
+ghost use Rattle.facet_replies.specs.StoreLines.{damaged, unopened_line};
+ghost use Rattle.facet_replies.specs.StoreViews.{store_fault_view};
 ghost use Rattle.facet_shell.specs.Runs.{WritesLine};
 ghost use Rattle.facet_shell.specs.Statuses.{fault_status, open_line, status_line};
 
 use crate::status::{Ended, Status};
-use facet_disk::Disk;
+use facet_disk::{Disk, FileName};
 use facet_io::{Sink, write_all};
 use facet_names::NoMemory;
 use facet_words::{ScriptFault, StoreFault, write_fault, write_store_fault};
@@ -45,61 +48,56 @@ pub fn tell_of_script<K: Sink, D: Disk>(
     }
 }
 
+// The line of a fault of a store's files.
+fn store_line(alloc: Global, fault: StoreFault) -> Result<Vec<u8>, NoMemory>
+    ensures { IfOk result (λ line. line.items ≡ unopened_line (store_fault_view fault.entry)) }
+{
+    let mut line = Vec::new(alloc);
+    write_store_fault(alloc, &mut line, fault)?;
+    Ok(line)
+}
+
+// The line of a file whose digest is another than the one that was kept.
+fn damaged_line(
+    alloc: Global,
+    name: FileName,
+    kept: [u8; 32],
+    found: [u8; 32],
+) -> Result<Vec<u8>, NoMemory>
+    ensures { IfOk result (λ line. line.items ≡ unopened_line (damaged (name_text name) kept found)) }
+{
+    let text = format!(in alloc; "{name}")?;
+    let file = text.as_str();
+    store_line(alloc, StoreFault::Damaged { file, kept, found })
+}
+
 // The line that tells why a store was not opened.
 fn open_line(alloc: Global, fault: &OpenFault) -> Result<Vec<u8>, NoMemory>
     ensures { IfOk result (λ line. line.items ≡ open_line fault.now) }
 {
-    let mut line = Vec::new(alloc);
     match fault {
-        OpenFault::Disk => line.extend_from_slice(Status::DiskFault.line())?,
-        OpenFault::NoMemory => line.extend_from_slice(Status::NoMemory.line())?,
+        OpenFault::Disk => Ok(Vec::from_slice(alloc, Status::DiskFault.line())?),
+        OpenFault::NoMemory => Ok(Vec::from_slice(alloc, Status::NoMemory.line())?),
         OpenFault::Missing { name } => {
             let file = format!(in alloc; "{name}")?;
-            write_store_fault(alloc, &mut line, StoreFault::Missing { file: &file })?;
+            store_line(alloc, StoreFault::Missing { file: &file })
         }
-        OpenFault::Damaged { name, kept, found } => {
-            let file = format!(in alloc; "{name}")?;
-            let fault = StoreFault::Damaged {
-                file: &file,
-                kept: *kept,
-                found: *found,
-            };
-            write_store_fault(alloc, &mut line, fault)?;
-        }
+        OpenFault::Damaged { name, kept, found } => { damaged_line(alloc, *name, *kept, *found) }
         OpenFault::Malformed { name, at } => {
-            let file = format!(in alloc; "{name}")?;
-            write_store_fault(
-                alloc,
-                &mut line,
-                StoreFault::Malformed {
-                    file: &file,
-                    at: *at,
-                },
-            )?;
+            let (file, at) = (format!(in alloc; "{name}")?, *at);
+            store_line(alloc, StoreFault::Malformed { file: &file, at })
         }
         OpenFault::Uncovered { needs, has } => {
-            let fault = StoreFault::Uncovered {
-                needs: *needs,
-                has: *has,
-            };
-            write_store_fault(alloc, &mut line, fault)?;
+            let (needs, has) = (*needs, *has);
+            store_line(alloc, StoreFault::Uncovered { needs, has })
         }
         OpenFault::NumbersSpent { number } => {
-            write_store_fault(
-                alloc,
-                &mut line,
-                StoreFault::NumbersSpent { number: *number },
-            )?;
+            store_line(alloc, StoreFault::NumbersSpent { number: *number })
         }
         OpenFault::OtherConfig { dim } => {
-            write_store_fault(
-                alloc,
-                &mut line,
-                StoreFault::OtherConfig { dim: dim.text() },
-            )?;
+            store_line(alloc, StoreFault::OtherConfig { dim: dim.text() })
         }
     }
-    Ok(line)
 }
 
 /// Tells why a store was not opened.

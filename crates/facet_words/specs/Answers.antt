@@ -111,13 +111,13 @@ Rises before now = (before < now) ⊎ (2 ^ 64 - 1 ≤ now)
 abbrev pub most_files : ℕ
 most_files = 1000003
 
--- the files of a commit took the next numbers
+-- the files of a commit took the next numbers, which are below 2^63
 abbrev pub TakesFiles : Store → Store → Type 0
-TakesFiles before now = (before.next ≤ now.next) × (now.next ≤ before.next + most_files)
+TakesFiles before now = (before.next ≤ now.next) × (now.next ≤ before.next + most_files) × (now.next ≤ 2 ^ 63)
 
--- all documents are durable
+-- all documents are durable, and no call of the disk failed
 abbrev pub IsDurable : Shelf → Reply → Shelf → Type 0
-IsDurable shelf reply next = (store : Store) × (reply ≡ numbered (length shelf.docs)) × (next ≡ record shelf { store = store }) × (store.closed ≡ None) × (shelf.store.faults ≤ store.faults) × TakesFiles shelf.store store
+IsDurable shelf reply next = (store : Store) × (reply ≡ numbered (length shelf.docs)) × (next ≡ record shelf { store = store }) × (store.closed ≡ None) × (store.faults ≡ shelf.store.faults) × TakesFiles shelf.store store
 
 -- the last file number would be 2^63 or more
 abbrev pub IsSpent : Shelf → Reply → Shelf → Type 0

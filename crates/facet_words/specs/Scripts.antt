@@ -38,7 +38,7 @@ config_at bytes = do
 
 -- ---- the other lines
 
--- there is one session yet, 1
+-- the one session is 1
 abbrev pub in_session : ℕ → ℕ × Command → Result Order ScriptFault
 in_session line c = if c.0 == 1 then Ok (record { session = c.0; line = line; command = c.1 }) else Err (BadSession line)
 

@@ -1,5 +1,5 @@
 -- What two directories hold, and the files of an image.
-use Rattle.std.proofs.Common.{◌≡◌, ◌≢◌, ◌≤◌, ◌<◌, ◌^◌, ℕ, Bool, true, false, ◌||◌, List, [], ◌∷◌, map, Option, Some, None, Result, Ok, Err, refl, sym, ap, subst, ◌∙◌, arith, ⊎_elim, nat_eq, if◌then◌else◌}
+use Rattle.std.proofs.Common.{◌≡◌, ◌≢◌, ◌≤◌, ◌<◌, ◌^◌, ℕ, Bool, true, false, ◌||◌, List, [], ◌∷◌, map, Option, Some, None, Result, Ok, Err, refl, sym, ap, subst, ◌∙◌, arith, ⊎_elim, nat_eq, get_or, if◌then◌else◌}
 use Rattle.std.specs.Prelude.{IfSome, length, find}
 use Rattle.std.specs.Option.{option_map}
 use Rattle.std.specs.List.{AllByRecursion, list_any}
@@ -28,6 +28,7 @@ use Rattle.seg_decoding.specs.Opening.{stored_segment}
 use Rattle.store_opening.specs.declared.fault.OpenFault.{OpenFault}
 use Rattle.store_opening.specs.declared.fault.OpenFault.TheVariants.{Malformed}
 use Rattle.store_opening.specs.Files.{Found, Segments, segments_in, greatest_number, unspent, of_file, segment_bytes, labels_behind, labels_of, taxonomy_in, agrees, segment_of, segments_of, index_in, files, held_segments, files_of}
+use Rattle.store_opening.specs.Quiet.{IsQuiet}
 use Rattle.store_opening.specs.Settled.{label_numbers, document_numbers, named, before, there, held_in, IsSettled}
 use Rattle.store_opening.proofs.Greatest.{small_unspent, unspent_small}
 use Rattle.store_opening.proofs.Whole.{files_read}
@@ -160,14 +161,6 @@ found_there f (s ∷ xs) all n b e = go (found_there f xs all.1 n b) (nat_eq s.0
     go : (found xs n ≡ Some b → f n ≡ Some b) → (t : Bool) → nat_eq s.0 n ≡ t → f n ≡ Some b
     go rest true is = ap f (sym (eq_from s.0 n is)) ∙ all.0 ∙ sym (found_one s.0 s.1 xs n true is) ∙ e
     go rest false is = rest (sym (found_one s.0 s.1 xs n false is) ∙ e)
-
-there_each : (f : Segments) (numbers : List ℕ) → AllByRecursion (λ s. f s.0 ≡ Some s.1) (there f numbers)
-there_each f [] = tt
-there_each f (n ∷ ns) = go (there_each f ns) (f n) refl
-  where
-    go : AllByRecursion (λ s. f s.0 ≡ Some s.1) (there f ns) → (o : Option (List ℕ)) → f n ≡ o → AllByRecursion (λ s. f s.0 ≡ Some s.1) (before n o (there f ns))
-    go rest None is = rest
-    go rest (Some b) is = (is, rest)
 
 -- a number that is among those has its bytes found
 found_in : (f : Segments) (n : ℕ) (b : List ℕ) → f n ≡ Some b → (numbers : List ℕ) → list_any (λ m. nat_eq m n) numbers ≡ true → found (there f numbers) n ≡ Some b
@@ -308,3 +301,66 @@ module _ {D : Type 0} (may_leave : D → Image → Type 0) (disk : D) (config : 
     taxonomy_held = holds Taxonomy c left;
     index_held = holds Index c left;
   }
+
+-- ---- a disk is settled whose images all stand for two directories
+
+same_both : (f g h : Segments) (numbers : List ℕ) → AreSame f h numbers → AreSame g h numbers → AreSame f g numbers
+same_both f g h [] one two = tt
+same_both f g h (n ∷ ns) one two = (one.0 ∙ sym two.0, same_both f g h ns one.1 two.1)
+
+module _ (config : Config) (next : ℕ) (t i : Held) (f : Found) (e : files_of config t i ≡ Ok f) where
+  abbrev held : Dir → Held
+  held Taxonomy = t
+  held Index = i
+
+  named_there : (dir : Dir) → AreThere (held_segments (held dir)) (named dir (held dir).commit)
+  unfolding files_of
+  named_there Taxonomy =
+      let a = bind_ok (taxonomy_in t.commit (held_segments t)) (λ labels. index_in config labels i.commit (held_segments i) >>= λ segments. Ok (record { labels = labels; segments = segments })) f e in
+      taxonomy_there (held_segments t) t.commit a.0 a.1
+  named_there Index =
+      let a = bind_ok (taxonomy_in t.commit (held_segments t)) (λ labels. index_in config labels i.commit (held_segments i) >>= λ segments. Ok (record { labels = labels; segments = segments })) f e in
+      let b = bind_ok (index_in config a.0 i.commit (held_segments i)) (λ segments. Ok (record { labels = a.0; segments = segments })) f a.2 in
+      index_there (held_segments i) config a.0 i.commit b.0 b.1
+
+  held_by : (dir : Dir) (c : Image) → Stands next t i c → Holds dir (held dir) c
+  held_by Taxonomy c stands = stands.taxonomy_held
+  held_by Index c stands = stands.index_held
+
+  named_same : (dir : Dir) (c : Image) → Stands next t i c → AreSame (segments_in dir c) (held_segments (held dir)) (named dir (held dir).commit)
+  named_same dir c stands = same_from (segments_in dir c) (held_segments (held dir))
+      (found_there (segments_in dir c) (held dir).segments (all_each (λ s. segments_in dir c s.0 ≡ Some s.1) (held dir).segments (held_by dir c stands).segments)) (named dir (held dir).commit) (named_there dir)
+
+  pub stands_settled : {D : Type 0} (may_leave : D → Image → Type 0) (disk : D) (s : Told) → may_leave disk s.files → ((c : Image) → may_leave disk c → Stands next t i c) → IsSettled may_leave config s disk
+  stands_settled may_leave disk s own stands =
+      let reads : Stands next t i s.files = stands s.files own in
+      record {
+        numbers = λ c left n some. let low : n.number < 2 ^ 63 = (stands c left).small n some in omega (arith, low);
+        same = λ c left. files_stand config next t i c f (stands c left) e ∙ sym (files_stand config next t i s.files f reads e);
+        commits = λ dir c left. (held_by dir c (stands c left)).commit ∙ sym (held_by dir s.files reads).commit;
+        segments = λ dir c left. each_at (λ n. segments_in dir c n ≡ segments_in dir s.files n) (named dir (newest_file dir s.files))
+            (subst (λ (o : Option (ℕ × List ℕ)). AreSame (segments_in dir c) (segments_in dir s.files) (named dir o)) (sym (held_by dir s.files reads).commit)
+            (same_both (segments_in dir c) (segments_in dir s.files) (held_segments (held dir)) (named dir (held dir).commit) (named_same dir c (stands c left)) (named_same dir s.files reads)));
+      }
+
+-- ---- a disk that a crash left, and one of which nothing was changed
+
+-- each image is as the disk reads
+pub alone_settled : {D : Type 0} (may_leave : D → Image → Type 0) (disk : D) (config : Config) (s : Told) → ((c : Image) → may_leave disk c → c ≡ s.files) → Below (2 ^ 64) s.files → IsSettled may_leave config s disk
+alone_settled may_leave disk config s alone below = record {
+  numbers = λ c left. subst (Below (2 ^ 64)) (sym (alone c left)) below;
+  same = λ c left. ap (files config) (alone c left);
+  commits = λ dir c left. ap (newest_file dir) (alone c left);
+  segments = λ dir c left. λ i d lt. ap (λ (image : Image). segments_in dir image (get_or (named dir (newest_file dir s.files)) i d)) (alone c left);
+}
+
+pub quiet_settled : {D : Type 0} (told : D → Option Told) (may_leave : D → Image → Type 0) (moment : D → ℕ) (left_since : D → ℕ → Image → Type 0) (faults : D → ℕ) (old new : D) (config : Config) (s : Told) → IsQuiet told may_leave moment left_since faults old new
+    → IsSettled may_leave config s old → IsSettled may_leave config s new
+quiet_settled told may_leave moment left_since faults old new config s quiet settled =
+    let was : (c : Image) → may_leave new c → may_leave old c = λ c left. let before = quiet.passes.now c left in subst (may_leave old) (sym before.2) before.1 in
+    record {
+      numbers = λ c left. settled.numbers c (was c left);
+      same = λ c left. settled.same c (was c left);
+      commits = λ dir c left. settled.commits dir c (was c left);
+      segments = λ dir c left. settled.segments dir c (was c left);
+    }

@@ -1,4 +1,5 @@
 pub mod Accepted
+pub mod Damages
 pub mod Documents
 pub mod Greatest
 pub mod Held

@@ -1,4 +1,5 @@
 -- Faults of the parts of a store as faults of opening it.
+use Rattle.std.specs.Prelude.{◌≢◌, ◌<◌, ◌≤◌, ◌^◌}
 use Rattle.facet_disk.specs.declared.fault.DiskFault.{DiskFault}
 use Rattle.facet_disk.specs.declared.fault.DiskFault.TheVariants as disks
 use Rattle.facet_disk.specs.declared.name.FileName.{FileName}
@@ -7,7 +8,7 @@ use Rattle.label_file.specs.declared.fault.LabelsFault.TheVariants as labels
 use Rattle.seg_decoding.specs.declared.fault.StoredFault.{StoredFault}
 use Rattle.seg_decoding.specs.declared.fault.StoredFault.TheVariants as segments
 use Rattle.store_opening.specs.declared.fault.OpenFault.{OpenFault}
-use Rattle.store_opening.specs.declared.fault.OpenFault.TheVariants.{Disk, Malformed, NoMemory}
+use Rattle.store_opening.specs.declared.fault.OpenFault.TheVariants.{Disk, Missing, Damaged, Malformed, Uncovered, NumbersSpent, OtherConfig, NoMemory}
 
 -- that of a call of the disk
 abbrev pub of_disk : DiskFault → OpenFault
@@ -25,3 +26,14 @@ of_labels name labels.NoMemory = NoMemory
 abbrev pub of_segment : FileName → StoredFault → OpenFault
 of_segment name (segments.Malformed at) = Malformed name at
 of_segment name segments.NoMemory = NoMemory
+
+-- What a fault says by itself, whatever the disk tells: a digest is another than the one that was kept, there are fewer labels than are needed, a number is 2^63 or more.
+abbrev pub IsSound : OpenFault → Type 0
+IsSound Disk = Unit {0}
+IsSound (Missing name) = Unit {0}
+IsSound (Damaged name kept digest) = kept ≢ digest
+IsSound (Malformed name at) = Unit {0}
+IsSound (Uncovered needs has) = has < needs
+IsSound (NumbersSpent number) = 2 ^ 63 ≤ number
+IsSound (OtherConfig dim) = Unit {0}
+IsSound NoMemory = Unit {0}

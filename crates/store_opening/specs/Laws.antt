@@ -1,11 +1,12 @@
 -- Files and the commits that they are held by.
-use Rattle.std.specs.Prelude.{◌≡◌, ℕ, Ok}
+use Rattle.std.specs.Prelude.{◌≡◌, ◌^◌, ℕ, Option, Ok}
 use Rattle.facet_disk.specs.declared.name.Dir.TheVariants.{Taxonomy, Index}
 use Rattle.facet_disk.specs.Images.{Image, Told}
 use Rattle.facet_model.specs.Flags.{Config}
 use Rattle.commit_calls.specs.Held.{Held, Below, Stands}
 use Rattle.commit_calls.specs.Moments.{IsAt}
 use Rattle.store_opening.specs.Files.{Found, files, files_of}
+use Rattle.store_opening.specs.Quiet.{IsQuiet}
 use Rattle.store_opening.specs.Settled.{IsSettled, held_in}
 
 -- an image that stands for two directories stands for what these hold
@@ -20,3 +21,15 @@ HoldsFiles = (config : Config) (c : Image) (f : Found) → files config c ≡ Ok
 abbrev pub SettledStands : {D : Type 0} → (D → Image → Type 0) → D → Type 0
 SettledStands may_leave disk = (config : Config) (s : Told) (f : Found) (next : ℕ) → IsSettled may_leave config s disk → files config s.files ≡ Ok f → Below next s.files
     → IsAt may_leave next (held_in Taxonomy s.files) (held_in Index s.files) disk
+
+-- a disk is settled whose images all stand for what two directories hold, where that is a store
+abbrev pub StandsSettles : {D : Type 0} → (D → Image → Type 0) → D → Type 0
+StandsSettles may_leave disk = (config : Config) (s : Told) (f : Found) (next : ℕ) (taxonomy index : Held) → may_leave disk s.files → IsAt may_leave next taxonomy index disk → files_of config taxonomy index ≡ Ok f → IsSettled may_leave config s disk
+
+-- so is a disk that has no other image than it reads, as an empty one, or one that a crash left
+abbrev pub OneImageSettles : {D : Type 0} → (D → Image → Type 0) → D → Type 0
+OneImageSettles may_leave disk = (config : Config) (s : Told) → ((c : Image) → may_leave disk c → c ≡ s.files) → Below (2 ^ 64) s.files → IsSettled may_leave config s disk
+
+-- and a settled disk stays so where nothing is changed
+abbrev pub QuietStays : {D : Type 0} → (D → Option Told) → (D → Image → Type 0) → (D → ℕ) → (D → ℕ → Image → Type 0) → (D → ℕ) → D → D → Type 0
+QuietStays told may_leave moment left_since faults old new = (config : Config) (s : Told) → IsQuiet told may_leave moment left_since faults old new → IsSettled may_leave config s old → IsSettled may_leave config s new

@@ -10,9 +10,10 @@ ghost use Rattle.commit_calls.specs.Held.{file, newest_file};
 ghost use Rattle.commit_file.specs.Commits.{index_listing, documents_of};
 ghost use Rattle.commit_file.specs.Reading.{index_commit};
 ghost use Rattle.store_opening.specs.declared.fault.OpenFault.TheVariants.{Disk, NoMemory as Memory};
+ghost use Rattle.store_opening.specs.Faults.{IsSound};
 ghost use Rattle.store_opening.specs.Files.{segments_in, of_file, same_flags, agrees, segment_of, segments_of, index_in};
 ghost use Rattle.store_opening.specs.Newest.{AreListed, IsNewestIndex, IsNamedAs};
-ghost use Rattle.store_opening.specs.Quiet.{IsQuiet};
+ghost use Rattle.store_opening.specs.Quiet.{IsQuiet, IsStill};
 
 use crate::fault::{OpenFault, of_file, of_segment};
 use crate::reading::{CommitBytes, read_newest, read_segment};
@@ -51,6 +52,8 @@ fn read_document_part<D: Disk>(
     ensures named { IfOk result (λ v. IsNamedAs config.now labels.now part v) }
     ensures err { IfErr result (λ e. e ≢ Memory → e ≢ Disk → (s : Told) → D.told disk.old ≡ Some s → AreListed s.files listed.now → segment_of config.now labels.now needs (segments_in Dir.Index s.files) part ≡ Err e) }
     ensures disk { IsErrOf result Disk → Rose (D.faults disk.old) (D.faults disk.new) }
+    ensures sound { IfErr result IsSound }
+    ensures still { IsStill (D.faults disk.old) (D.faults disk.new) result }
     ensures quiet { IsQuiet D.told D.may_leave D.moment D.left_since D.faults disk.old disk.new }
 {
     let name = FileName {
@@ -89,6 +92,8 @@ fn read_document_parts<D: Disk>(
     ensures named { IfOk result (λ v. AllZip (IsNamedAs config.now labels.now) parts.now (map arc_value v.items)) }
     ensures err { IfErr result (λ e. e ≢ Memory → e ≢ Disk → (s : Told) → D.told disk.old ≡ Some s → AreListed s.files listed.now → segments_of config.now labels.now needs (segments_in Dir.Index s.files) parts.now ≡ Err e) }
     ensures disk { IsErrOf result Disk → Rose (D.faults disk.old) (D.faults disk.new) }
+    ensures sound { IfErr result IsSound }
+    ensures still { IsStill (D.faults disk.old) (D.faults disk.new) result }
     ensures quiet { IsQuiet D.told D.may_leave D.moment D.left_since D.faults disk.old disk.new }
 {
     let mut segments = Vec::new(alloc);
@@ -104,6 +109,7 @@ fn commit_of(alloc: Global, found: &CommitBytes) -> Result<IndexCommit, OpenFaul
     ensures ok { IfOk result (λ c. index_commit found.now.number found.now.bytes.items ≡ Ok (index_listing c)) }
     ensures few { IfOk result (λ c. sum_by documents_of c.parts.items ≤ 1000000) }
     ensures err { IfErr result (λ e. e ≢ Memory → told_as (of_file (file Dir.Index Kind.Commit found.now.number)) (index_commit found.now.number found.now.bytes.items) ≡ Err e) }
+    ensures sound { IfErr result IsSound }
 {
     let name = FileName {
         dir: Dir::Index,
@@ -121,6 +127,7 @@ fn check_flags(alloc: Global, config: &FacetsConfig, kept: &FacetsConfig) -> Res
     ensures ok { IfOk result (λ _. same_flags (first_different config.now kept.now) ≡ Ok tt) }
     ensures err { IfErr result (λ e. e ≢ Memory → same_flags (first_different config.now kept.now) ≡ Err e) }
     ensures device { IfErr result (λ e. e ≢ Disk) }
+    ensures sound { IfErr result IsSound }
 {
     let Some(dim) = config.differs(kept) else {
         return Ok(());
@@ -144,6 +151,7 @@ fn check_commit(
     ensures needs { IfOk result (λ _. commit.now.needs ≤ length labels.now) }
     ensures err { IfErr result (λ e. e ≢ Memory → agrees config.now (length labels.now) (index_listing commit.now) ≡ Err e) }
     ensures device { IfErr result (λ e. e ≢ Disk) }
+    ensures sound { IfErr result IsSound }
 {
     check_flags(alloc, config, &commit.kept)?;
     let has = labels.size();
@@ -171,6 +179,8 @@ pub(crate) fn read_index<D: Disk>(
     ensures few { IfOk result (λ r. sum_by documents_of r.parts.items ≤ 1000000) }
     ensures err { IfErr result (λ e. e ≢ Memory → e ≢ Disk → (s : Told) → D.told disk.old ≡ Some s → AreListed s.files listed.now → index_in config.now labels.now (newest_file Dir.Index s.files) (segments_in Dir.Index s.files) ≡ Err e) }
     ensures disk { IsErrOf result Disk → Rose (D.faults disk.old) (D.faults disk.new) }
+    ensures sound { IfErr result IsSound }
+    ensures still { IsStill (D.faults disk.old) (D.faults disk.new) result }
     ensures quiet { IsQuiet D.told D.may_leave D.moment D.left_since D.faults disk.old disk.new }
 {
     let Some(found) = read_newest(alloc, disk, listed, Dir::Index)? else {

@@ -7,6 +7,7 @@ ghost use Rattle.facet_disk.specs.FileNames.{same_dir, same_kind};
 ghost use Rattle.facet_disk.specs.Images.{Image};
 ghost use Rattle.commit_calls.specs.Held.{newest};
 ghost use Rattle.store_opening.specs.declared.fault.OpenFault.TheVariants.{Disk, NoMemory as Memory};
+ghost use Rattle.store_opening.specs.Faults.{IsSound};
 ghost use Rattle.store_opening.specs.Files.{greatest_number, unspent};
 ghost use Rattle.store_opening.specs.Newest.{AreListed, next_after};
 
@@ -65,6 +66,7 @@ pub(crate) fn next_number(names: &[FileName]) -> Result<u64, OpenFault>
     ensures next { IfOk result (λ next. (c : Image) → AreListed c names.now → next ≡ next_after (greatest_number c)) }
     ensures err { IfErr result (λ e. (c : Image) → AreListed c names.now → unspent (greatest_number c) ≡ Err e) }
     ensures device { IfErr result (λ e. (e ≢ Disk) × (e ≢ Memory)) }
+    ensures sound { IfErr result IsSound }
     ensures below { IfOk result (λ next. (n : FileName) → Contains names.now n → n.number < next) }
     ensures some { IfOk result (λ next. 1 ≤ next) }
     ensures room { IfOk result (λ next. next ≤ 2 ^ 63) }

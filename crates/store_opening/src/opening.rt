@@ -9,9 +9,10 @@ ghost use Rattle.commit_calls.specs.Held.{newest_file};
 ghost use Rattle.commit_file.specs.Commits.{AreInOrder};
 ghost use Rattle.seg_decoding.specs.Decoding.{docs_in};
 ghost use Rattle.store_opening.specs.declared.fault.OpenFault.TheVariants.{Disk, NoMemory as Memory};
+ghost use Rattle.store_opening.specs.Faults.{IsSound};
 ghost use Rattle.store_opening.specs.Files.{files, greatest_number};
 ghost use Rattle.store_opening.specs.Newest.{AreListed, next_after, IsNewestTaxonomy, IsNewestIndex, IsNamedAs};
-ghost use Rattle.store_opening.specs.Quiet.{IsQuiet};
+ghost use Rattle.store_opening.specs.Quiet.{IsQuiet, IsStill};
 ghost use Rattle.store_opening.specs.Reads.{found};
 
 use crate::fault::OpenFault;
@@ -52,6 +53,8 @@ pub fn read_store<D: Disk>(
     ensures ok { IfOk result (λ r. (s : Told) → D.told disk.old ≡ Some s → files config.now s.files ≡ Ok (found r)) }
     ensures err { IfErr result (λ e. e ≢ Memory → e ≢ Disk → (s : Told) → D.told disk.old ≡ Some s → files config.now s.files ≡ Err e) }
     ensures disk { IsErrOf result Disk → Rose (D.faults disk.old) (D.faults disk.new) }
+    ensures sound { IfErr result IsSound }
+    ensures still { IsStill (D.faults disk.old) (D.faults disk.new) result }
     ensures quiet { IsQuiet D.told D.may_leave D.moment D.left_since D.faults disk.old disk.new }
 
     // Whatever the disk tells, the segments are those of their documents, which are at most 1,000,000.

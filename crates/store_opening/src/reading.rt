@@ -5,10 +5,11 @@ ghost use Rattle.facet_disk.specs.Images.{Told};
 ghost use Rattle.facet_disk.specs.Calls.{Lists, Rose};
 ghost use Rattle.commit_calls.specs.Held.{newest_file};
 ghost use Rattle.store_opening.specs.declared.fault.OpenFault.TheVariants.{Disk, NoMemory as Memory};
+ghost use Rattle.store_opening.specs.Faults.{IsSound};
 ghost use Rattle.store_opening.specs.Files.{segment_bytes};
 ghost use Rattle.store_opening.specs.Newest.{AreListed};
 ghost use Rattle.store_opening.specs.Commits.{commit_bytes};
-ghost use Rattle.store_opening.specs.Quiet.{IsQuiet};
+ghost use Rattle.store_opening.specs.Quiet.{IsQuiet, IsStill};
 
 use crate::fault::{OpenFault, of_file};
 use crate::numbers::newest_of;
@@ -28,6 +29,8 @@ fn list_dir<D: Disk>(alloc: Global, disk: &mut D, dir: Dir) -> Result<Vec<FileNa
     ensures ok { IfOk result (λ v. (s : Told) → D.told disk.old ≡ Some s → Lists dir s.files v.items) }
     ensures err { IfErr result (λ e. (e ≡ Memory) ⊎ (e ≡ Disk)) }
     ensures disk { IsErrOf result Disk → Rose (D.faults disk.old) (D.faults disk.new) }
+    ensures sound { IfErr result IsSound }
+    ensures still { IsStill (D.faults disk.old) (D.faults disk.new) result }
     ensures quiet { IsQuiet D.told D.may_leave D.moment D.left_since D.faults disk.old disk.new }
 {
     let names = disk.list(alloc, dir)?;
@@ -39,6 +42,8 @@ pub(crate) fn list_all<D: Disk>(alloc: Global, disk: &mut D) -> Result<Vec<FileN
     ensures ok { IfOk result (λ v. (s : Told) → D.told disk.old ≡ Some s → AreListed s.files v.items) }
     ensures err { IfErr result (λ e. (e ≡ Memory) ⊎ (e ≡ Disk)) }
     ensures disk { IsErrOf result Disk → Rose (D.faults disk.old) (D.faults disk.new) }
+    ensures sound { IfErr result IsSound }
+    ensures still { IsStill (D.faults disk.old) (D.faults disk.new) result }
     ensures quiet { IsQuiet D.told D.may_leave D.moment D.left_since D.faults disk.old disk.new }
 {
     let mut names = list_dir(alloc, disk, Dir::Taxonomy)?;
@@ -52,6 +57,8 @@ fn read_file<D: Disk>(alloc: Global, disk: &mut D, name: FileName) -> Result<Vec
     ensures ok { IfOk result (λ v. (s : Told) → D.told disk.old ≡ Some s → s.files name ≡ Some v.items) }
     ensures err { IfErr result (λ e. (e ≡ Memory) ⊎ (e ≡ Disk)) }
     ensures disk { IsErrOf result Disk → Rose (D.faults disk.old) (D.faults disk.new) }
+    ensures sound { IfErr result IsSound }
+    ensures still { IsStill (D.faults disk.old) (D.faults disk.new) result }
     ensures quiet { IsQuiet D.told D.may_leave D.moment D.left_since D.faults disk.old disk.new }
 {
     let bytes = disk.read(alloc, name)?;
@@ -68,6 +75,8 @@ pub(crate) fn read_newest<D: Disk>(
     ensures ok { IfOk result (λ o. (s : Told) → D.told disk.old ≡ Some s → AreListed s.files listed.now → newest_file dir s.files ≡ option_map commit_bytes o) }
     ensures err { IfErr result (λ e. (e ≡ Memory) ⊎ (e ≡ Disk)) }
     ensures disk { IsErrOf result Disk → Rose (D.faults disk.old) (D.faults disk.new) }
+    ensures sound { IfErr result IsSound }
+    ensures still { IsStill (D.faults disk.old) (D.faults disk.new) result }
     ensures quiet { IsQuiet D.told D.may_leave D.moment D.left_since D.faults disk.old disk.new }
 {
     let Some(number) = newest_of(listed, dir) else {
@@ -95,6 +104,8 @@ pub(crate) fn read_segment<D: Disk>(
     ensures digest { IfOk result (λ v. sha256 v.items ≡ digest) }
     ensures err { IfErr result (λ e. e ≢ Memory → e ≢ Disk → (s : Told) → D.told disk.old ≡ Some s → AreListed s.files listed.now → segment_bytes name digest (s.files name) ≡ Err e) }
     ensures disk { IsErrOf result Disk → Rose (D.faults disk.old) (D.faults disk.new) }
+    ensures sound { IfErr result IsSound }
+    ensures still { IsStill (D.faults disk.old) (D.faults disk.new) result }
     ensures quiet { IsQuiet D.told D.may_leave D.moment D.left_since D.faults disk.old disk.new }
 {
     if !listed.contains(&name) {

@@ -7,9 +7,10 @@ ghost use Rattle.commit_calls.specs.Held.{file, newest_file};
 ghost use Rattle.commit_file.specs.Commits.{AreInOrder, taxonomy_listing};
 ghost use Rattle.commit_file.specs.Reading.{taxonomy_commit};
 ghost use Rattle.store_opening.specs.declared.fault.OpenFault.TheVariants.{Disk, NoMemory as Memory};
+ghost use Rattle.store_opening.specs.Faults.{IsSound};
 ghost use Rattle.store_opening.specs.Files.{segments_in, of_file, labels_behind, labels_of, taxonomy_in};
 ghost use Rattle.store_opening.specs.Newest.{AreListed, IsNewestTaxonomy};
-ghost use Rattle.store_opening.specs.Quiet.{IsQuiet};
+ghost use Rattle.store_opening.specs.Quiet.{IsQuiet, IsStill};
 
 use crate::fault::{OpenFault, of_file, of_labels};
 use crate::reading::{CommitBytes, read_newest, read_segment};
@@ -42,6 +43,8 @@ fn read_label_part<D: Disk>(
     ensures count { OnOk result (length labels.new ≡ length labels.old + part.count) }
     ensures err { IfErr result (λ e. e ≢ Memory → e ≢ Disk → (s : Told) → D.told disk.old ≡ Some s → AreListed s.files listed.now → labels_behind (segments_in Dir.Taxonomy s.files) labels.old part ≡ Err e) }
     ensures disk { IsErrOf result Disk → Rose (D.faults disk.old) (D.faults disk.new) }
+    ensures sound { IfErr result IsSound }
+    ensures still { IsStill (D.faults disk.old) (D.faults disk.new) result }
     ensures quiet { IsQuiet D.told D.may_leave D.moment D.left_since D.faults disk.old disk.new }
 {
     let name = FileName {
@@ -70,6 +73,8 @@ fn read_label_parts<D: Disk>(
     ensures count { IfOk result (λ labels. length labels ≡ total) }
     ensures err { IfErr result (λ e. e ≢ Memory → e ≢ Disk → (s : Told) → D.told disk.old ≡ Some s → AreListed s.files listed.now → labels_of (segments_in Dir.Taxonomy s.files) ([] ∷ []) parts.now ≡ Err e) }
     ensures disk { IsErrOf result Disk → Rose (D.faults disk.old) (D.faults disk.new) }
+    ensures sound { IfErr result IsSound }
+    ensures still { IsStill (D.faults disk.old) (D.faults disk.new) result }
     ensures quiet { IsQuiet D.told D.may_leave D.moment D.left_since D.faults disk.old disk.new }
 {
     let mut labels = Taxonomy::new(alloc)?;
@@ -85,6 +90,7 @@ fn commit_of(alloc: Global, found: &CommitBytes) -> Result<TaxonomyCommit, OpenF
     ensures order { IfOk result (λ c. AreInOrder c.labels 1 c.parts.items) }
     ensures few { IfOk result (λ c. c.labels ≤ 1000000) }
     ensures err { IfErr result (λ e. e ≢ Memory → told_as (of_file (file Dir.Taxonomy Kind.Commit found.now.number)) (taxonomy_commit found.now.number found.now.bytes.items) ≡ Err e) }
+    ensures sound { IfErr result IsSound }
 {
     let name = FileName {
         dir: Dir::Taxonomy,
@@ -108,6 +114,8 @@ pub(crate) fn read_taxonomy<D: Disk>(
     ensures err { IfErr result (λ e. e ≢ Memory → e ≢ Disk → (s : Told) → D.told disk.old ≡ Some s → AreListed s.files listed.now → taxonomy_in (newest_file Dir.Taxonomy s.files) (segments_in Dir.Taxonomy s.files) ≡ Err e) }
     ensures order { IfOk result (λ r. AreInOrder (length r.labels) 1 r.parts.items) }
     ensures disk { IsErrOf result Disk → Rose (D.faults disk.old) (D.faults disk.new) }
+    ensures sound { IfErr result IsSound }
+    ensures still { IsStill (D.faults disk.old) (D.faults disk.new) result }
     ensures quiet { IsQuiet D.told D.may_leave D.moment D.left_since D.faults disk.old disk.new }
 {
     let Some(found) = read_newest(alloc, disk, listed, Dir::Taxonomy)? else {

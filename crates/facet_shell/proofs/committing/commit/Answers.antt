@@ -42,7 +42,7 @@ returns-in-Err-Disk-clause-right g c =
     let none = none_unless c.args.committer.now.closed (λ k some. cc ((c.in-Err-Disk.ensures.closed k).0 some, c.in-Err-Disk.field-0-is)) in
     let d = c.in-Err-Disk.ensures.disk c.in-Err-Disk.count c.in-Err-Disk.field-0-is in
     let rise : Rises before.store.faults count = subst (λ (n : ℕ). Rises (g.D.Disk.faults c.args.committer.now.disk) n) (sym d.1) d.0 in
-    failed_right c.args.session.now.settings before after c.in-Err-Disk.count none (after.store, count, refl, rise, λ i. shelf_of (flushed i) (store_of c.commit.new.self.closed c.commit.new.self.state.next (g.D.Disk.faults c.commit.new.self.disk)), d.2, sym d.1, c.in-Err-Disk.ensures.takes)
+    failed_right c.args.session.now.settings before after c.in-Err-Disk.count none (after.store, count, refl, rise, λ i. shelf_of (flushed i) (store_of c.commit.new.self.closed c.commit.new.self.state.next (g.D.Disk.faults c.commit.new.self.disk)), d.2, sym d.1, (c.in-Err-Disk.ensures.takes.0, c.in-Err-Disk.ensures.takes.1, c.in-Err-Disk.ensures.room))
 
 pub returns-in-Err-Disk-clause-story : goal.returns-in-Err-Disk-clause-story
 returns-in-Err-Disk-clause-story g c opened start durable story =

@@ -11,11 +11,11 @@ returns-in-Ok-open g c =
     let e = c.in-Ok-open.ensures in
     inl (serves g.D.Disk.told g.D.Disk.may_leave g.D.Disk.moment g.D.Disk.left_since g.D.Disk.faults law (script_view c.args.script) c.in-Ok.config c.in-Ok.ensures c.args.disk _ _ _ _ _
     c.in-Ok-open.opened.labels (map arc_value c.in-Ok-open.opened.segments.items) c.in-Ok-open.opened.committer.state c.in-Ok-open.opened.committer.disk c.serve.result.disk
-    e.quiet e.ok e.next e.committed c.size.ensures.list e.decodes (subst (λ xs. docs_in c.in-Ok-open.opened.labels (map arc_value xs) ≡ [] → map arc_value xs ≡ []) c.deref.ensures.value c.have_documents.ensures) c.serve.ensures.served)
+    e.quiet e.still e.ok e.next e.committed c.size.ensures.list e.decodes (subst (λ xs. docs_in c.in-Ok-open.opened.labels (map arc_value xs) ≡ [] → map arc_value xs ≡ []) c.deref.ensures.value c.have_documents.ensures) c.serve.ensures.served)
 
 pub returns-in-Err : goal.returns-in-Err
 returns-in-Err g c =
     let law = (g.met.D.Disk g.world.𝓛 g.world.𝓜 g.world.𝓡 ((λ s x. x), (λ x. x), (λ x. x), λ x. x)).only_now in
     let e = c.in-Err.ensures in
     inr (shuts g.D.Disk.told g.D.Disk.may_leave g.D.Disk.moment g.D.Disk.left_since g.D.Disk.faults law (script_view c.args.script) c.in-Ok.config c.in-Ok.ensures c.args.disk _ _ _ _ _
-    c.in-Err.field-0.disk c.tell_of_store.result.disk c.in-Err.field-0.fault c.tell_of_store.ensures.disk e.not_opened e.err e.fault c.tell_of_store.ensures.told)
+    c.in-Err.field-0.disk c.tell_of_store.result.disk c.in-Err.field-0.fault c.tell_of_store.ensures.disk e.not_opened e.err e.fault e.still_not_opened e.sound c.tell_of_store.ensures.told)

@@ -14,7 +14,7 @@ use Rattle.facet_shell.proofs.serving.serve.Goals as goal
 pub returns-in_default : goal.returns-in_default
 returns-in_default g c = record {
   served =
-      served_none g.D.Disk.told g.D.Disk.may_leave g.D.Disk.moment g.D.Disk.left_since g.D.Disk.faults (script_view c.args.script) _ c.args.script.settings.config c.args.opened.committer.state c.args.opened.committer.disk c.tell.result.disk _ _ _ _ c.tell.result.status
+      served_none g.D.Disk.told g.D.Disk.may_leave g.D.Disk.moment g.D.Disk.left_since g.D.Disk.faults (script_view c.args.script) _ c.args.script.settings.config c.args.opened.committer.state c.args.opened.committer.disk c.tell.result.disk _ _ _ _ c.tell.result.status (g.met.D.Disk g.world.𝓛 g.world.𝓜 g.world.𝓡 ((λ s x. x), (λ x. x), (λ x. x), λ x. x)).own
       (c.tell.ensures.disk ∙ c.into_disk.ensures) refl (inr (inr (c.tell.ensures.status, c.tell.ensures.line)));
 }
 
@@ -31,7 +31,7 @@ returns-in-Ok-answer_all g c =
     let right : RightReplies (script_view c.args.script).settings opened (take a.many (script_view c.args.script).orders) a.replies last =
     subst (λ (s : Settings). RightReplies s opened (take a.many (script_view c.args.script).orders) a.replies last) settings (subst (λ (shelf : Shelf). RightReplies c.in-Ok.session.settings shelf (take a.many (script_view c.args.script).orders) a.replies last) is a.right) in
     record {
-      served = served_some g.D.Disk.told g.D.Disk.may_leave g.D.Disk.moment g.D.Disk.left_since g.D.Disk.faults (script_view c.args.script) opened c.args.script.settings.config c.args.opened.committer.state c.args.opened.committer.disk _ _ _ _ _ _
+      served = served_some g.D.Disk.told g.D.Disk.may_leave g.D.Disk.moment g.D.Disk.left_since g.D.Disk.faults (script_view c.args.script) opened c.args.script.settings.config c.args.opened.committer.state c.args.opened.committer.disk _ _ _ _ _ _ (g.met.D.Disk g.world.𝓛 g.world.𝓜 g.world.𝓡 ((λ s x. x), (λ x. x), (λ x. x), λ x. x)).own
           a.many a.replies last c.answer_all.new.committer.state c.answer_all.new.committer.disk right refl c.into_disk-in-Ok-answer_all.ensures
           (λ start first. subst (λ (config : Config). IsStory g.D.Disk.told g.D.Disk.may_leave g.D.Disk.moment g.D.Disk.left_since opened start last (durable (take a.many (script_view c.args.script).orders) a.replies) config c.answer_all.new.committer.state c.answer_all.new.committer.disk) c.requires.config
           (subst (λ (shelf : Shelf). IsStory g.D.Disk.told g.D.Disk.may_leave g.D.Disk.moment g.D.Disk.left_since shelf start last (durable (take a.many (script_view c.args.script).orders) a.replies) c.args.opened.committer.config c.answer_all.new.committer.state c.answer_all.new.committer.disk) is (a.story start
@@ -53,7 +53,7 @@ returns g c =
     let right : RightReplies (script_view c.args.script).settings opened (take a.many (script_view c.args.script).orders) a.replies last =
     subst (λ (s : Settings). RightReplies s opened (take a.many (script_view c.args.script).orders) a.replies last) settings (subst (λ (shelf : Shelf). RightReplies c.in-Ok.session.settings shelf (take a.many (script_view c.args.script).orders) a.replies last) is a.right) in
     record {
-      served = served_some g.D.Disk.told g.D.Disk.may_leave g.D.Disk.moment g.D.Disk.left_since g.D.Disk.faults (script_view c.args.script) opened c.args.script.settings.config c.args.opened.committer.state c.args.opened.committer.disk _ _ _ _ _ _
+      served = served_some g.D.Disk.told g.D.Disk.may_leave g.D.Disk.moment g.D.Disk.left_since g.D.Disk.faults (script_view c.args.script) opened c.args.script.settings.config c.args.opened.committer.state c.args.opened.committer.disk _ _ _ _ _ _ (g.met.D.Disk g.world.𝓛 g.world.𝓜 g.world.𝓡 ((λ s x. x), (λ x. x), (λ x. x), λ x. x)).own
           a.many a.replies last c.answer_all.new.committer.state c.answer_all.new.committer.disk right refl (c.tell-in-Err.ensures.disk ∙ c.into_disk-in-Err.ensures)
           (λ start first. subst (λ (config : Config). IsStory g.D.Disk.told g.D.Disk.may_leave g.D.Disk.moment g.D.Disk.left_since opened start last (durable (take a.many (script_view c.args.script).orders) a.replies) config c.answer_all.new.committer.state c.answer_all.new.committer.disk) c.requires.config
           (subst (λ (shelf : Shelf). IsStory g.D.Disk.told g.D.Disk.may_leave g.D.Disk.moment g.D.Disk.left_since shelf start last (durable (take a.many (script_view c.args.script).orders) a.replies) c.args.opened.committer.config c.answer_all.new.committer.state c.answer_all.new.committer.disk) is (a.story start

@@ -42,6 +42,7 @@ loop-part-preserved g c =
       read = λ s told listed. labels_more (segments_in Taxonomy s.files) c.loop-part.labels parts i blank c.read_label_part.new.labels lt (c.in_ok-read_label_part.ensures.ok s (kept.quiet.same ∙ told) listed)
           ∙ kept.read s told listed;
       order = subst (λ (n : ℕ). AreInOrder c.args.total n (drop (i + 1) parts)) longer order.1;
+      still = c.in_ok-read_label_part.ensures.still.ok ∙ kept.still;
       quiet = goes_on _ _ _ kept.quiet c.in_ok-read_label_part.ensures.quiet;
     }
 

@@ -10,6 +10,7 @@ use Rattle.commit_store.specs.Results.{committed_told}
 use Rattle.commit_store.proofs.Cleaning.{carried_is, cut_short_is, left_named}
 use Rattle.commit_store.proofs.Listed.{are_listed}
 use Rattle.commit_store.proofs.Promises.{on_ok, on_fault, leaves_weaker, leaves_same, here_now, led, one_of_three}
+use Rattle.store_opening.proofs.Held.{stands_settled}
 use Rattle.commit_store.proofs.committer.Committer.commit.Goals as goal
 
 pub returns-in_err-planned-clause-now : goal.returns-in_err-planned-clause-now
@@ -117,3 +118,9 @@ returns-then-is_err-clause-cut_short g c = λ count e s is.
     let fault : is_err c.carry_out.result ≡ true = search rules in
     cut_short_is c.args.self.now.config c.args.self.now.state c.args.view.now (map arc_value c.args.segments.now) c.in_ok-planned.planned.plan c.in_ok-planned.planned.after c.in_ok-planned.ensures.plan s _
     (on_fault c.carry_out.result _ c.carry_out.ensures.cut_short fault s is)
+
+pub returns-clause-settled : goal.returns-clause-settled
+returns-clause-settled g c = λ s u labels segs is new at on empty.
+    let laws = g.met.D.Disk g.world.𝓛 g.world.𝓜 g.world.𝓡 ((λ s x. x), (λ x. x), (λ x. x), λ x. x) in
+    let after = returns-clause-acknowledged g c s labels segs is at on empty in
+    stands_settled c.args.self.now.config _ after.taxonomy after.index _ after.known.files g.D.Disk.may_leave c.carry_out.new.disk u (laws.own c.carry_out.new.disk u new) after.stands
