@@ -3,10 +3,9 @@ use Rattle.std.proofs.Common.{◌≡◌, ◌≤◌, ◌<◌, ◌^◌, refl, sym,
 use Rattle.std.specs.Option.{option_map, option_and_then}
 use Rattle.std.proofs.lemmas.Bool.{cases_lt}
 use Rattle.facet_disk.specs.declared.name.Dir.{Dir}
-use Rattle.facet_disk.specs.declared.name.Dir.TheVariants.{Taxonomy, Index}
 use Rattle.facet_disk.specs.declared.name.Kind.TheVariants.{Commit}
 use Rattle.facet_disk.specs.Images.{Image}
-use Rattle.commit_calls.specs.Held.{Held, Stands, file, greatest, newest, newest_file}
+use Rattle.commit_calls.specs.Held.{file, greatest, newest, newest_file}
 
 -- the greatest number below n that passes, in the words of a user
 abbrev pub IsGreatest : (ℕ → Bool) → ℕ → Option ℕ → Type 0

@@ -1,7 +1,7 @@
 -- Bytes that are written, or read, piece after piece.
 use Rattle.std.proofs.Common.{◌≡◌, ℕ, ◌+◌, ◌<◌, ◌≤◌, List, [], ◌++◌, length, take, drop, Option, Some, None, refl, sym, ap, ◌∙◌, append_assoc, arith, length-append}
 use Rattle.std.specs.Prelude.{min}
-use Rattle.std.proofs.lemmas.List.{take-append-drop, append-nil, length-take, take_at, nil_from_length, length-drop, drop-drop}
+use Rattle.std.proofs.lemmas.List.{take-append-drop, length-take, take_at, nil_from_length, length-drop, drop-drop}
 use Rattle.std.specs.Io.KnownBytes.{Appends, Consumes, Keeps}
 
 appends_then : (old mid new : Option (List ℕ)) (a b : List ℕ) → Appends old mid a → Appends mid new b → Appends old new (a ++ b)

@@ -1,9 +1,8 @@
 -- The ends of a run whose words and script were read.
-use Rattle.std.proofs.Common.{◌≡◌, ◌∙◌, ℕ, List, ◌++◌, length, take, Option, None, Some, Ok, Err, refl, sym, ap, subst, arith, append-nil, if◌then◌else◌, inl, inr, ◌⊎◌, ⊎_elim}
-use Rattle.std.proofs.lemmas.Bool.{le-ltb}
+use Rattle.std.proofs.Common.{◌≡◌, ◌∙◌, ℕ, List, length, take, Option, Ok, refl, sym, ap, subst, arith, inl, inr, ◌⊎◌, ⊎_elim}
 use Rattle.std.specs.Prelude.{◌≢◌}
 use Rattle.std.proofs.lemmas.List.{take_all}
-use Rattle.std.specs.Io.KnownBytes.{Appends, Consumes, IsAtEnd}
+use Rattle.std.specs.Io.KnownBytes.{Appends}
 use Rattle.facet_io.specs.Faults.{Rose}
 use Rattle.facet_disk.specs.Images.{Image, Told}
 use Rattle.facet_disk.specs.Calls as disk
@@ -11,16 +10,14 @@ use Rattle.facet_replies.specs.Replies.{Reply}
 use Rattle.facet_words.specs.Answers.{reply_lines, RightReplies, durable}
 use Rattle.facet_words.specs.Commands.{Order, Script}
 use Rattle.facet_words.specs.Scripts.{script}
-use Rattle.store_opening.specs.Files.{files}
-use Rattle.store_opening.specs.Quiet.{IsQuiet}
 use Rattle.store_opening.specs.declared.fault.OpenFault.{OpenFault}
 use Rattle.store_opening.specs.declared.fault.OpenFault.TheVariants as faults
 use Rattle.facet_shell.specs.Recovering.{Keeps}
-use Rattle.facet_shell.specs.Runs.{ReadsWhole, ReadsScript, WritesLine, Ran, Finishes, FinishesPartly, StopsShort, TellsOfStore, script_limit, opened_status, script_status, expected}
+use Rattle.facet_shell.specs.Runs.{ReadsWhole, ReadsScript, Ran, Finishes, FinishesPartly, TellsOfStore}
 use Rattle.facet_shell.specs.Serving.{Writes, Serves, StaysShut}
-use Rattle.facet_shell.specs.Statuses.{fault_status, open_line, status_line}
+use Rattle.facet_shell.specs.Statuses.{fault_status}
 use Rattle.facet_shell.specs.declared.status.Status.{Status}
-use Rattle.facet_shell.specs.declared.status.Status.TheVariants.{Done, WriteFault, BadScript, DiskFault, BadStore, NoMemory, TooLong, OtherConfig}
+use Rattle.facet_shell.specs.declared.status.Status.TheVariants.{Done, WriteFault, DiskFault, BadStore, NoMemory, OtherConfig}
 
 -- the files have this fault
 abbrev IsOfFiles : OpenFault → Type 0

@@ -1,9 +1,8 @@
 -- Orders, read line by line.
-use Rattle.std.proofs.Common.{◌≡◌, ℕ, ◌+◌, List, [], ◌∷◌, ◌++◌, Result, Ok, Err, refl, sym, ap, ◌∙◌, append_assoc}
-use Rattle.std.proofs.lemmas.List.{append-nil}
+use Rattle.std.proofs.Common.{◌≡◌, ℕ, List, ◌++◌, Result, Ok}
 use Rattle.facet_replies.specs.declared.fault.ScriptFault.{ScriptFault}
 use Rattle.facet_words.specs.Commands.{Order}
-use Rattle.facet_words.specs.Scripts.{◌>>=◌, order_at, orders_from}
+use Rattle.facet_words.specs.Scripts.{◌>>=◌, orders_from}
 
 -- these orders, and then those that were read
 abbrev pub behind : List Order → Result (List Order) ScriptFault → Result (List Order) ScriptFault

@@ -1,5 +1,5 @@
 -- Which replies of one session are right, and which bytes are a script's output.
-use Rattle.std.specs.Prelude.{◌≡◌, ◌≤◌, ◌<◌, ◌⊎◌, ◌+◌, ◌-◌, ◌^◌, ℕ, max, nat_le, nat_lt, if◌then◌else◌, List, [], ◌∷◌, ◌++◌, length, take, map, filter, filter_map, flat_map, fold, slice_get, Option, Some, None, Ok, option_map}
+use Rattle.std.specs.Prelude.{◌≡◌, ◌≤◌, ◌<◌, ◌⊎◌, ◌+◌, ◌-◌, ◌^◌, ℕ, max, nat_le, nat_lt, if◌then◌else◌, List, [], ◌∷◌, ◌++◌, length, take, map, filter, filter_map, flat_map, fold, slice_get, Option, Some, None, option_map}
 use Rattle.std.specs.List.{AllZip, enumerate_from}
 use Rattle.facet_names.specs.Labels.{with_label, prefixes, place}
 use Rattle.facet_model.specs.Flags.{Config}
@@ -8,7 +8,7 @@ use Rattle.facet_model.specs.Accepts.{Broken, first_broken}
 use Rattle.facet_model.specs.Asks.{Asked, AskFault, top_of_none, value_not_kept, ask_fault}
 use Rattle.facet_model.specs.Results.{Answer, IsAnswer}
 use Rattle.facet_model.specs.Hits.{is_hit, hits, lifted}
-use Rattle.facet_words.specs.Commands.{Settings, Search, Command, add, refresh, search, document, stats, commit, Order, Script}
+use Rattle.facet_words.specs.Commands.{Settings, Search, Command, add, refresh, search, document, stats, commit, Order}
 use Rattle.facet_replies.specs.Replies.{Refusal, broken, labels_full, docs_full, top_zero, dim_value_not_kept, no_such_document, disk_failed, closed, numbers_spent, no_memory, Reply, placed, numbered, found, shown, stats as numbers, refused}
 use Rattle.facet_replies.specs.ReplyLines.{reply_line}
 
