@@ -4,5 +4,4 @@ pub mod Members
 pub mod Orders
 pub mod Levels
 mod Limits
-pub mod Nodes
 mod Dimensions

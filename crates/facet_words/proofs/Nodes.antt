@@ -1,1 +1,0 @@
--- The nodes of queries, counted one by one.
