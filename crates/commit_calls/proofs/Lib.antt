@@ -1,6 +1,7 @@
 pub mod Bounds
 pub mod Carrying
 pub mod Early
+pub mod Fitting
 pub mod Images
 pub mod Lists
 pub mod Names

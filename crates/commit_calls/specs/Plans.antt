@@ -5,9 +5,10 @@ use Rattle.facet_disk.specs.declared.name.Dir.{Dir}
 use Rattle.facet_disk.specs.declared.name.Dir.TheVariants.{Taxonomy, Index}
 use Rattle.facet_disk.specs.declared.name.Kind.TheVariants.{Segment, Pending, Commit}
 use Rattle.facet_disk.specs.declared.name.FileName.{FileName}
+use Rattle.facet_disk.specs.Images.{Image, with_at}
 use Rattle.commit_calls.specs.declared.plan.Write.{Write}
 use Rattle.commit_calls.specs.declared.plan.Plan.{Plan}
-use Rattle.commit_calls.specs.Held.{Held, file}
+use Rattle.commit_calls.specs.Held.{Held, Below, file}
 
 -- the files have rising numbers from one up to another, and none is a commit file
 abbrev pub Rises : ℕ → ℕ → List Write → Type 0
@@ -28,6 +29,16 @@ pub record IsPlan (p : Plan) : Type 0 where
   pub rises : Rises p.from p.to p.writes.items
   pub taxonomy_pending : IfSome p.taxonomy (λ n. IsAmong (file Taxonomy Pending n) p.writes.items)
   pub index_pending : IfSome p.index (λ n. IsAmong (file Index Pending n) p.writes.items)
+
+-- each of these files is there when those before it are gone
+abbrev pub AreThere : List FileName → Image → Type 0
+AreThere [] c = Unit {0}
+AreThere (n ∷ ns) c = (c n ≢ None) × AreThere ns (with_at c n None)
+
+-- the numbers of a plan are above those of all files, and its strays are there
+pub record Fits (p : Plan) (c : Image) : Type 0 where
+  pub fresh : Below p.from c
+  pub strays : AreThere p.strays.items c
 
 -- the new commit has the bytes of the pending file of this number, and each segment that it names was named before or is made
 pub record Renews (ws : List Write) (dir : Dir) (n : ℕ) (old new : Held) : Type 0 where

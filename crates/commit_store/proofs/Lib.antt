@@ -14,4 +14,5 @@ pub mod FromDisk
 pub mod InOrder
 pub mod Cleaning
 pub mod Listed
+pub mod Fitting
 pub mod Leading

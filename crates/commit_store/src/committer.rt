@@ -5,6 +5,7 @@ ghost use Rattle.facet_disk.specs.Images.{Image, Told};
 ghost use Rattle.facet_disk.specs.Calls.{Rose};
 ghost use Rattle.facet_model.specs.Stored.{Records, Decodes};
 ghost use Rattle.facet_names.specs.Labels.{GoesOn};
+ghost use Rattle.commit_calls.specs.Held.{Below};
 ghost use Rattle.commit_calls.specs.Moments.{LeavesOnly};
 ghost use Rattle.seg_decoding.specs.Decoding.{docs_in, records_in};
 ghost use Rattle.commit_store.specs.declared.fault.CommitFault.TheVariants.{Disk as OfDisk, Closed, NoMemory as Memory, NumbersSpent};
@@ -51,6 +52,7 @@ impl<D: Disk> Committer<D> {
         ensures ok { IfOk result (λ o. (s : Told) → D.told disk ≡ Some s → HasFiles config o.labels (map arc_value o.segments.items) s.files) }
         ensures err { IfErr result (λ n. n.fault ≢ NoRoom → n.fault ≢ FaultOfDisk → (s : Told) → D.told disk ≡ Some s → files config s.files ≡ Err n.fault) }
         ensures fault { IfErr result (λ n. n.fault ≡ FaultOfDisk → Rose (D.faults disk) (D.faults n.disk)) }
+        ensures failed { IfErr result (λ n. n.fault ≡ FaultOfDisk → (s : Told) → D.told disk ≡ Some s → Rose (D.failures disk) (D.failures n.disk)) }
         ensures sound { IfErr result (λ n. IsSound n.fault) }
 
         // The disk is as it was.
@@ -58,12 +60,14 @@ impl<D: Disk> Committer<D> {
         ensures not_opened { IfErr result (λ n. IsQuiet D.told D.may_leave D.moment D.left_since D.faults disk n.disk) }
         ensures still { IfOk result (λ o. D.faults o.committer.disk ≡ D.faults disk) }
         ensures still_not_opened { IfErr result (λ n. n.fault ≢ FaultOfDisk → D.faults n.disk ≡ D.faults disk) }
+        ensures unfailed { IfOk result (λ o. D.failures o.committer.disk ≡ D.failures disk) }
 
         // Commits go on from it.
         ensures decodes { IfOk result (λ o. Decodes o.labels config (map arc_value o.segments.items) (docs_in o.labels (map arc_value o.segments.items))) }
         ensures few { IfOk result (λ o. length (docs_in o.labels (map arc_value o.segments.items)) ≤ 1000000) }
         ensures unclosed { IfOk result (λ o. (o.committer.closed ≡ None) × (o.committer.config ≡ config)) }
         ensures next { IfOk result (λ o. (s : Told) → D.told disk ≡ Some s → o.committer.state.next ≡ next_after (greatest_number s.files)) }
+        ensures fresh { IfOk result (λ o. (s : Told) → D.told disk ≡ Some s → Below o.committer.state.next s.files) }
         ensures listed { IfOk result (λ o. (s : Told) → D.told disk ≡ Some s → AreListed s.files o.committer.state.listed) }
         ensures committed { IfOk result (λ o. (s : Told) → D.told disk ≡ Some s → IsSettled D.may_leave config s disk
             → IsCommittedAt D.may_leave config o.committer.state o.committer.disk o.labels (map arc_value o.segments.items)) }
@@ -148,8 +152,16 @@ impl<D: Disk> Committer<D> {
         ensures cut_short { IfErr result (λ e. (count : ℕ) → e ≡ OfDisk count → (s : Told) → D.told self.old.disk ≡ Some s
             → IsCutShort self.old.config self.old.state view.now (map arc_value segments.now) s (D.told self.new.disk)) }
 
+        ensures fresh { OnOk result ((s u : Told) → D.told self.old.disk ≡ Some s → D.told self.new.disk ≡ Some u → Below self.old.state.next s.files → Below self.new.state.next u.files) }
+
         ensures refused { IfErr result (λ e. ((count : ℕ) → e ≢ OfDisk count) → self.new ≡ self.old) }
         ensures disk { IfErr result (λ e. (count : ℕ) → e ≡ OfDisk count → Rose (D.faults self.old.disk) (D.faults self.new.disk) × (count ≡ D.faults self.new.disk) × (self.new.closed ≡ Some count)) }
+
+        // No call of it is bound to be refused, where what is known of the files is true of those that the disk tells: then the device failed.
+        ensures failed { IfErr result (λ e. (count : ℕ) → e ≡ OfDisk count → (s : Told) → D.told self.old.disk ≡ Some s → AreListed s.files self.old.state.listed → Below self.old.state.next s.files
+            → Rose (D.failures self.old.disk) (D.failures self.new.disk)) }
+        ensures unfailed { OnOk result (D.failures self.new.disk ≡ D.failures self.old.disk) }
+
         ensures closed { (count : ℕ) → (self.old.closed ≡ Some count) ↔ (result ≡ Err (Closed count)) }
         ensures spent { IfErr result (λ e. (number : ℕ) → e ≡ NumbersSpent number → (number ≡ last_number self.old.config self.old.state view.now (map arc_value segments.now)) × (2 ^ 63 ≤ number) × (number < self.old.state.next + 1000003)) }
         ensures unspent { self.old.closed ≡ None → 2 ^ 63 ≤ last_number self.old.config self.old.state view.now (map arc_value segments.now)

@@ -18,6 +18,12 @@ pub record HasCause {T : Type 0} (before now : ℕ) (result : Result T DiskFault
   pub still : OnOk result (now ≡ before)
   pub memory : IfErr result (λ e. e ≡ NoMemory → now ≡ before)
 
+-- The device failed where a call says so, and then the count of its failures rose; otherwise it stays.
+pub record HasFailed {T : Type 0} (before now : ℕ) (result : Result T DiskFault) : Type 0 where
+  pub failed : IfErr result (λ e. e ≡ Failed → Rose before now)
+  pub due : IfErr result (λ e. e ≢ Failed → now ≡ before)
+  pub still : OnOk result (now ≡ before)
+
 -- the fault is one of these
 abbrev pub IsOneOf : List DiskFault → DiskFault → Type 0
 IsOneOf [] e = ⊥

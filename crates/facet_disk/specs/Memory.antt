@@ -5,7 +5,7 @@ use Rattle.facet_disk.specs.declared.fault.DiskFault.TheVariants.{Failed}
 use Rattle.facet_disk.specs.declared.record.Stored.{Stored}
 use Rattle.facet_disk.specs.declared.record.Change.{Change}
 use Rattle.facet_disk.specs.declared.record.Noted.{Noted}
-use Rattle.facet_disk.specs.CallCounts.{CallState, one_more, with_fault, counted, fails_next}
+use Rattle.facet_disk.specs.CallCounts.{CallState, one_more, with_failure, counted, fails_next}
 use Rattle.facet_disk.specs.Images.{Image, Told}
 use Rattle.facet_disk.specs.Record.{told_after, leaves_after, told_at_first, held, only}
 
@@ -46,4 +46,4 @@ pub record IsCounted {T : Type 0} (old new : MemoryState) (result : Result T Dis
   pub failing : new.calls.failing ≡ old.calls.failing
   pub start : new.start ≡ old.start
   pub noted : IsNoted old new
-  pub fails : IsTrue (fails_next old.calls) → (result ≡ Err Failed) × (new ≡ record old { calls = with_fault (counted old.calls) })
+  pub fails : IsTrue (fails_next old.calls) → (result ≡ Err Failed) × (new ≡ record old { calls = with_failure (counted old.calls) })

@@ -1,4 +1,4 @@
-ghost use Rattle.std.specs.Prelude.{◌≡◌, ◌≤◌, ◌∷◌, [], None, IfOk};
+ghost use Rattle.std.specs.Prelude.{◌≡◌, ◌≢◌, ◌≤◌, ◌∷◌, [], None, IfOk};
 ghost use Rattle.facet_disk.specs.declared.fault.DiskFault.TheVariants.{Failed, Absent, Present, NoMemory as Memory};
 ghost use Rattle.facet_disk.specs.Calls.{Rose, IsOneOf};
 
@@ -22,12 +22,13 @@ pub struct StdDisk<R: Files + Send + Drop> {
     files: R,
     root: String,
     faults: u64,
+    failures: u64,
 }
 
 impl<R: Files + Send + Drop> StdDisk<R> {
     /// The disk in the folder `dir`. It makes no call of the operating system.
     pub fn new(alloc: Global, files: R, dir: &str) -> Result<StdDisk<R>, NoMemory>
-        ensures { IfOk result (λ disk. disk.faults ≡ 0) }
+        ensures { IfOk result (λ disk. (disk.faults ≡ 0) × (disk.failures ≡ 0)) }
     {
         let root = String::from_str(alloc, dir)?;
         Ok(StdDisk {
@@ -35,6 +36,7 @@ impl<R: Files + Send + Drop> StdDisk<R> {
             files,
             root,
             faults: 0,
+            failures: 0,
         })
     }
 }
@@ -208,15 +210,23 @@ fn count_fault(faults: &mut u64)
 }
 
 // The fault of a call on a file that must be there, which is counted.
-fn absent_fault(faults: &mut u64, error: io::Error, name: FileName) -> DiskFault
+fn absent_fault(
+    faults: &mut u64,
+    failures: &mut u64,
+    error: io::Error,
+    name: FileName,
+) -> DiskFault
     ensures rose { Rose faults.old faults.new }
     ensures later { faults.old ≤ faults.new }
     ensures kinds { IsOneOf (Failed ∷ Absent name ∷ []) result }
+    ensures failed { result ≡ Failed → Rose failures.old failures.new }
+    ensures due { result ≢ Failed → failures.new ≡ failures.old }
 {
     count_fault(faults);
     if error.kind() == ErrorKind::NotFound {
         return DiskFault::Absent { name };
     }
+    count_fault(failures);
     DiskFault::Failed
 }
 
@@ -230,6 +240,8 @@ impl<R: Files + Send + Drop> Disk for StdDisk<R> {
     ghost left_since = { λ _ _ _. Unit };
 
     ghost faults = { λ d. d.faults };
+
+    ghost failures = { λ d. d.failures };
 
     ghost counts_now = { λ _ _ _ _ _. tt };
 
@@ -245,6 +257,7 @@ impl<R: Files + Send + Drop> Disk for StdDisk<R> {
                     return Err(DiskFault::NoMemory);
                 }
                 count_fault(&mut self.faults);
+                count_fault(&mut self.failures);
                 Err(DiskFault::Failed)
             }
         }
@@ -257,7 +270,7 @@ impl<R: Files + Send + Drop> Disk for StdDisk<R> {
                 if e.kind() == ErrorKind::OutOfMemory {
                     return Err(DiskFault::NoMemory);
                 }
-                Err(absent_fault(&mut self.faults, e, name))
+                Err(absent_fault(&mut self.faults, &mut self.failures, e, name))
             }
         }
     }
@@ -270,6 +283,7 @@ impl<R: Files + Send + Drop> Disk for StdDisk<R> {
                 if e.kind() == ErrorKind::AlreadyExists {
                     return Err(DiskFault::Present { name });
                 }
+                count_fault(&mut self.failures);
                 Err(DiskFault::Failed)
             }
         }
@@ -278,7 +292,7 @@ impl<R: Files + Send + Drop> Disk for StdDisk<R> {
     fn sync(&mut self, name: FileName) -> Result<(), DiskFault> {
         match sync_file(self.alloc, &self.files, &self.root, name) {
             Ok(()) => Ok(()),
-            Err(e) => Err(absent_fault(&mut self.faults, e, name)),
+            Err(e) => Err(absent_fault(&mut self.faults, &mut self.failures, e, name)),
         }
     }
 
@@ -290,7 +304,7 @@ impl<R: Files + Send + Drop> Disk for StdDisk<R> {
                     count_fault(&mut self.faults);
                     return Err(DiskFault::Present { name: to });
                 }
-                Err(absent_fault(&mut self.faults, e, from))
+                Err(absent_fault(&mut self.faults, &mut self.failures, e, from))
             }
         }
     }
@@ -300,6 +314,7 @@ impl<R: Files + Send + Drop> Disk for StdDisk<R> {
             Ok(()) => Ok(()),
             Err(_) => {
                 count_fault(&mut self.faults);
+                count_fault(&mut self.failures);
                 Err(DiskFault::Failed)
             }
         }
@@ -308,7 +323,7 @@ impl<R: Files + Send + Drop> Disk for StdDisk<R> {
     fn remove(&mut self, name: FileName) -> Result<(), DiskFault> {
         match remove_file(self.alloc, &self.files, &self.root, name) {
             Ok(()) => Ok(()),
-            Err(e) => Err(absent_fault(&mut self.faults, e, name)),
+            Err(e) => Err(absent_fault(&mut self.faults, &mut self.failures, e, name)),
         }
     }
 

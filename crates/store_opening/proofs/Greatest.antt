@@ -220,3 +220,10 @@ most_from names (Some k) is n has = is.2 n has refl
 pub none_from : (names : List FileName) (best : Option ℕ) → IsBest is_any names best → best ≡ None → (n : FileName) → Contains names n → ⊥
 none_from names None is none n has = cc (is n has)
 none_from names (Some k) is none n has = absurd (cc none)
+
+-- the newest commit file is there
+pub newest_there : (dir : Dir) (c : Image) (n : ℕ) → newest dir c ≡ Some n → c (file dir Commit n) ≢ None
+newest_there dir c n is none = clash (sym (subst (IsGreatest (λ k. is_some (c (file dir Commit k))) (2 ^ 64)) is (greatest_is (λ k. is_some (c (file dir Commit k))) (2 ^ 64))).1 ∙ ap is_some none)
+  where
+    clash : true ≡ false → ⊥
+    clash e = cc e

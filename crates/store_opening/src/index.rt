@@ -52,8 +52,10 @@ fn read_document_part<D: Disk>(
     ensures named { IfOk result (λ v. IsNamedAs config.now labels.now part v) }
     ensures err { IfErr result (λ e. e ≢ Memory → e ≢ Disk → (s : Told) → D.told disk.old ≡ Some s → AreListed s.files listed.now → segment_of config.now labels.now needs (segments_in Dir.Index s.files) part ≡ Err e) }
     ensures disk { IsErrOf result Disk → Rose (D.faults disk.old) (D.faults disk.new) }
+    ensures failed { (s : Told) → D.told disk.old ≡ Some s → AreListed s.files listed.now → IsErrOf result Disk → Rose (D.failures disk.old) (D.failures disk.new) }
     ensures sound { IfErr result IsSound }
     ensures still { IsStill (D.faults disk.old) (D.faults disk.new) result }
+    ensures unfailed { IsStill (D.failures disk.old) (D.failures disk.new) result }
     ensures quiet { IsQuiet D.told D.may_leave D.moment D.left_since D.faults disk.old disk.new }
 {
     let name = FileName {
@@ -92,8 +94,10 @@ fn read_document_parts<D: Disk>(
     ensures named { IfOk result (λ v. AllZip (IsNamedAs config.now labels.now) parts.now (map arc_value v.items)) }
     ensures err { IfErr result (λ e. e ≢ Memory → e ≢ Disk → (s : Told) → D.told disk.old ≡ Some s → AreListed s.files listed.now → segments_of config.now labels.now needs (segments_in Dir.Index s.files) parts.now ≡ Err e) }
     ensures disk { IsErrOf result Disk → Rose (D.faults disk.old) (D.faults disk.new) }
+    ensures failed { (s : Told) → D.told disk.old ≡ Some s → AreListed s.files listed.now → IsErrOf result Disk → Rose (D.failures disk.old) (D.failures disk.new) }
     ensures sound { IfErr result IsSound }
     ensures still { IsStill (D.faults disk.old) (D.faults disk.new) result }
+    ensures unfailed { IsStill (D.failures disk.old) (D.failures disk.new) result }
     ensures quiet { IsQuiet D.told D.may_leave D.moment D.left_since D.faults disk.old disk.new }
 {
     let mut segments = Vec::new(alloc);
@@ -179,8 +183,10 @@ pub(crate) fn read_index<D: Disk>(
     ensures few { IfOk result (λ r. sum_by documents_of r.parts.items ≤ 1000000) }
     ensures err { IfErr result (λ e. e ≢ Memory → e ≢ Disk → (s : Told) → D.told disk.old ≡ Some s → AreListed s.files listed.now → index_in config.now labels.now (newest_file Dir.Index s.files) (segments_in Dir.Index s.files) ≡ Err e) }
     ensures disk { IsErrOf result Disk → Rose (D.faults disk.old) (D.faults disk.new) }
+    ensures failed { (s : Told) → D.told disk.old ≡ Some s → AreListed s.files listed.now → IsErrOf result Disk → Rose (D.failures disk.old) (D.failures disk.new) }
     ensures sound { IfErr result IsSound }
     ensures still { IsStill (D.faults disk.old) (D.faults disk.new) result }
+    ensures unfailed { IsStill (D.failures disk.old) (D.failures disk.new) result }
     ensures quiet { IsQuiet D.told D.may_leave D.moment D.left_since D.faults disk.old disk.new }
 {
     let Some(found) = read_newest(alloc, disk, listed, Dir::Index)? else {

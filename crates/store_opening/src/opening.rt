@@ -53,8 +53,10 @@ pub fn read_store<D: Disk>(
     ensures ok { IfOk result (λ r. (s : Told) → D.told disk.old ≡ Some s → files config.now s.files ≡ Ok (found r)) }
     ensures err { IfErr result (λ e. e ≢ Memory → e ≢ Disk → (s : Told) → D.told disk.old ≡ Some s → files config.now s.files ≡ Err e) }
     ensures disk { IsErrOf result Disk → Rose (D.faults disk.old) (D.faults disk.new) }
+    ensures failed { (s : Told) → D.told disk.old ≡ Some s → IsErrOf result Disk → Rose (D.failures disk.old) (D.failures disk.new) }
     ensures sound { IfErr result IsSound }
     ensures still { IsStill (D.faults disk.old) (D.faults disk.new) result }
+    ensures unfailed { IsStill (D.failures disk.old) (D.failures disk.new) result }
     ensures quiet { IsQuiet D.told D.may_leave D.moment D.left_since D.faults disk.old disk.new }
 
     // Whatever the disk tells, the segments are those of their documents, which are at most 1,000,000.

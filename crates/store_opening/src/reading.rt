@@ -1,5 +1,5 @@
 //! Reading files of a disk.
-ghost use Rattle.std.specs.Prelude.{◌≡◌, ◌≢◌, ◌⊎◌, Some, Ok, Err, IfOk, IfErr, IsErrOf, option_map};
+ghost use Rattle.std.specs.Prelude.{◌≡◌, ◌≢◌, ◌⊎◌, Some, None, Ok, Err, IfOk, IfErr, IsErrOf, option_map};
 ghost use Rattle.sha2.specs.Sha256.{sha256};
 ghost use Rattle.facet_disk.specs.Images.{Told};
 ghost use Rattle.facet_disk.specs.Calls.{Lists, Rose};
@@ -29,8 +29,10 @@ fn list_dir<D: Disk>(alloc: Global, disk: &mut D, dir: Dir) -> Result<Vec<FileNa
     ensures ok { IfOk result (λ v. (s : Told) → D.told disk.old ≡ Some s → Lists dir s.files v.items) }
     ensures err { IfErr result (λ e. (e ≡ Memory) ⊎ (e ≡ Disk)) }
     ensures disk { IsErrOf result Disk → Rose (D.faults disk.old) (D.faults disk.new) }
+    ensures failed { IsErrOf result Disk → Rose (D.failures disk.old) (D.failures disk.new) }
     ensures sound { IfErr result IsSound }
     ensures still { IsStill (D.faults disk.old) (D.faults disk.new) result }
+    ensures unfailed { IsStill (D.failures disk.old) (D.failures disk.new) result }
     ensures quiet { IsQuiet D.told D.may_leave D.moment D.left_since D.faults disk.old disk.new }
 {
     let names = disk.list(alloc, dir)?;
@@ -42,8 +44,10 @@ pub(crate) fn list_all<D: Disk>(alloc: Global, disk: &mut D) -> Result<Vec<FileN
     ensures ok { IfOk result (λ v. (s : Told) → D.told disk.old ≡ Some s → AreListed s.files v.items) }
     ensures err { IfErr result (λ e. (e ≡ Memory) ⊎ (e ≡ Disk)) }
     ensures disk { IsErrOf result Disk → Rose (D.faults disk.old) (D.faults disk.new) }
+    ensures failed { IsErrOf result Disk → Rose (D.failures disk.old) (D.failures disk.new) }
     ensures sound { IfErr result IsSound }
     ensures still { IsStill (D.faults disk.old) (D.faults disk.new) result }
+    ensures unfailed { IsStill (D.failures disk.old) (D.failures disk.new) result }
     ensures quiet { IsQuiet D.told D.may_leave D.moment D.left_since D.faults disk.old disk.new }
 {
     let mut names = list_dir(alloc, disk, Dir::Taxonomy)?;
@@ -57,8 +61,10 @@ fn read_file<D: Disk>(alloc: Global, disk: &mut D, name: FileName) -> Result<Vec
     ensures ok { IfOk result (λ v. (s : Told) → D.told disk.old ≡ Some s → s.files name ≡ Some v.items) }
     ensures err { IfErr result (λ e. (e ≡ Memory) ⊎ (e ≡ Disk)) }
     ensures disk { IsErrOf result Disk → Rose (D.faults disk.old) (D.faults disk.new) }
+    ensures failed { (s : Told) → D.told disk.old ≡ Some s → s.files name ≢ None → IsErrOf result Disk → Rose (D.failures disk.old) (D.failures disk.new) }
     ensures sound { IfErr result IsSound }
     ensures still { IsStill (D.faults disk.old) (D.faults disk.new) result }
+    ensures unfailed { IsStill (D.failures disk.old) (D.failures disk.new) result }
     ensures quiet { IsQuiet D.told D.may_leave D.moment D.left_since D.faults disk.old disk.new }
 {
     let bytes = disk.read(alloc, name)?;
@@ -75,8 +81,10 @@ pub(crate) fn read_newest<D: Disk>(
     ensures ok { IfOk result (λ o. (s : Told) → D.told disk.old ≡ Some s → AreListed s.files listed.now → newest_file dir s.files ≡ option_map commit_bytes o) }
     ensures err { IfErr result (λ e. (e ≡ Memory) ⊎ (e ≡ Disk)) }
     ensures disk { IsErrOf result Disk → Rose (D.faults disk.old) (D.faults disk.new) }
+    ensures failed { (s : Told) → D.told disk.old ≡ Some s → AreListed s.files listed.now → IsErrOf result Disk → Rose (D.failures disk.old) (D.failures disk.new) }
     ensures sound { IfErr result IsSound }
     ensures still { IsStill (D.faults disk.old) (D.faults disk.new) result }
+    ensures unfailed { IsStill (D.failures disk.old) (D.failures disk.new) result }
     ensures quiet { IsQuiet D.told D.may_leave D.moment D.left_since D.faults disk.old disk.new }
 {
     let Some(number) = newest_of(listed, dir) else {
@@ -104,8 +112,10 @@ pub(crate) fn read_segment<D: Disk>(
     ensures digest { IfOk result (λ v. sha256 v.items ≡ digest) }
     ensures err { IfErr result (λ e. e ≢ Memory → e ≢ Disk → (s : Told) → D.told disk.old ≡ Some s → AreListed s.files listed.now → segment_bytes name digest (s.files name) ≡ Err e) }
     ensures disk { IsErrOf result Disk → Rose (D.faults disk.old) (D.faults disk.new) }
+    ensures failed { (s : Told) → D.told disk.old ≡ Some s → AreListed s.files listed.now → IsErrOf result Disk → Rose (D.failures disk.old) (D.failures disk.new) }
     ensures sound { IfErr result IsSound }
     ensures still { IsStill (D.faults disk.old) (D.faults disk.new) result }
+    ensures unfailed { IsStill (D.failures disk.old) (D.failures disk.new) result }
     ensures quiet { IsQuiet D.told D.may_leave D.moment D.left_since D.faults disk.old disk.new }
 {
     if !listed.contains(&name) {

@@ -43,8 +43,10 @@ fn read_label_part<D: Disk>(
     ensures count { OnOk result (length labels.new ≡ length labels.old + part.count) }
     ensures err { IfErr result (λ e. e ≢ Memory → e ≢ Disk → (s : Told) → D.told disk.old ≡ Some s → AreListed s.files listed.now → labels_behind (segments_in Dir.Taxonomy s.files) labels.old part ≡ Err e) }
     ensures disk { IsErrOf result Disk → Rose (D.faults disk.old) (D.faults disk.new) }
+    ensures failed { (s : Told) → D.told disk.old ≡ Some s → AreListed s.files listed.now → IsErrOf result Disk → Rose (D.failures disk.old) (D.failures disk.new) }
     ensures sound { IfErr result IsSound }
     ensures still { IsStill (D.faults disk.old) (D.faults disk.new) result }
+    ensures unfailed { IsStill (D.failures disk.old) (D.failures disk.new) result }
     ensures quiet { IsQuiet D.told D.may_leave D.moment D.left_since D.faults disk.old disk.new }
 {
     let name = FileName {
@@ -73,8 +75,10 @@ fn read_label_parts<D: Disk>(
     ensures count { IfOk result (λ labels. length labels ≡ total) }
     ensures err { IfErr result (λ e. e ≢ Memory → e ≢ Disk → (s : Told) → D.told disk.old ≡ Some s → AreListed s.files listed.now → labels_of (segments_in Dir.Taxonomy s.files) ([] ∷ []) parts.now ≡ Err e) }
     ensures disk { IsErrOf result Disk → Rose (D.faults disk.old) (D.faults disk.new) }
+    ensures failed { (s : Told) → D.told disk.old ≡ Some s → AreListed s.files listed.now → IsErrOf result Disk → Rose (D.failures disk.old) (D.failures disk.new) }
     ensures sound { IfErr result IsSound }
     ensures still { IsStill (D.faults disk.old) (D.faults disk.new) result }
+    ensures unfailed { IsStill (D.failures disk.old) (D.failures disk.new) result }
     ensures quiet { IsQuiet D.told D.may_leave D.moment D.left_since D.faults disk.old disk.new }
 {
     let mut labels = Taxonomy::new(alloc)?;
@@ -114,8 +118,10 @@ pub(crate) fn read_taxonomy<D: Disk>(
     ensures err { IfErr result (λ e. e ≢ Memory → e ≢ Disk → (s : Told) → D.told disk.old ≡ Some s → AreListed s.files listed.now → taxonomy_in (newest_file Dir.Taxonomy s.files) (segments_in Dir.Taxonomy s.files) ≡ Err e) }
     ensures order { IfOk result (λ r. AreInOrder (length r.labels) 1 r.parts.items) }
     ensures disk { IsErrOf result Disk → Rose (D.faults disk.old) (D.faults disk.new) }
+    ensures failed { (s : Told) → D.told disk.old ≡ Some s → AreListed s.files listed.now → IsErrOf result Disk → Rose (D.failures disk.old) (D.failures disk.new) }
     ensures sound { IfErr result IsSound }
     ensures still { IsStill (D.faults disk.old) (D.faults disk.new) result }
+    ensures unfailed { IsStill (D.failures disk.old) (D.failures disk.new) result }
     ensures quiet { IsQuiet D.told D.may_leave D.moment D.left_since D.faults disk.old disk.new }
 {
     let Some(found) = read_newest(alloc, disk, listed, Dir::Taxonomy)? else {

@@ -1,17 +1,21 @@
-use Rattle.std.proofs.Common.{◌≡◌, ◌∙◌, inl, sym, subst, List, Some}
+use Rattle.std.proofs.Common.{◌≡◌, ◌∙◌, inl, sym, subst, List, Some, ℕ}
 use Rattle.facet_disk.specs.declared.name.Dir.TheVariants.{Taxonomy, Index}
 use Rattle.facet_disk.specs.declared.name.FileName.{FileName}
 use Rattle.facet_disk.specs.Images.{Image, Told}
 use Rattle.commit_calls.specs.declared.plan.Write.{Write}
 use Rattle.commit_calls.specs.Held.{Below, CommitsBelow}
 use Rattle.commit_calls.specs.Moments.{IsOneOfThree}
-use Rattle.commit_calls.specs.Outcomes.{files_told, published_told, cleared_told, carried_told}
+use Rattle.commit_calls.specs.Outcomes.{whole_told, files_told, published_told, cleared_told, carried_told}
 use Rattle.commit_calls.specs.Plans.{Rises}
 use Rattle.commit_calls.proofs.Early.{below_on, part_high, on_err}
 use Rattle.commit_calls.proofs.Images.{leaves_three, is_after}
 use Rattle.commit_calls.proofs.Reaching.{while_writing, after_writing, while_half, after_half, while_whole, after_whole, while_clearing, after_clearing}
 use Rattle.commit_calls.proofs.Runs.{leaves_now}
 use Rattle.commit_calls.proofs.Tellings.{carried_below}
+use Rattle.facet_disk.specs.Calls.{Rose}
+use Rattle.commit_calls.specs.Plans.{AreThere}
+use Rattle.commit_calls.proofs.Names.{index_taxonomy}
+use Rattle.commit_calls.proofs.Fitting.{part_ready, still_ready, strays_there}
 use Rattle.commit_calls.proofs.calls.carry_out.Goals as goal
 
 pub returns-in_err-write_files-clause-any_moment : goal.returns-in_err-write_files-clause-any_moment
@@ -120,3 +124,33 @@ returns-in_err-publish-2-clause-cut_short g c = on_err c.from_residual-in_err-pu
     let made = c.write_files.ensures.below s p.from p.to (subst (Rises p.from p.to) (sym c.deref.ensures.value) rises) is in
     let half = below_on p.from s _ _ made (c.publish.ensures.below made.told p.from (part_high p.from p.to p.writes.items rises Taxonomy p.taxonomy c.requires.plan.taxonomy_pending) made.is) in
     inl (below_on p.from s _ _ half (c.publish-2.ensures.below half.told p.from (part_high p.from p.to p.writes.items rises Index p.index c.requires.plan.index_pending) half.is)))
+
+pub returns-in_err-publish-clause-failed : goal.returns-in_err-publish-clause-failed
+returns-in_err-publish-clause-failed g c = λ s is fits.
+    let p = c.args.plan.now in let rises = c.requires.plan.rises in
+    let made = files_told p.writes.items s in
+    let told : g.D.Disk.told c.write_files.new.disk ≡ Some made = subst (λ (ws : List Write). g.D.Disk.told c.write_files.new.disk ≡ Some (files_told ws s)) c.deref.ensures.value (c.in_ok-write_files.ensures.told s is) in
+    on_err c.from_residual-in_err-publish.result (subst (λ (n : ℕ). Rose n (g.D.Disk.failures c.publish.new.disk)) c.in_ok-write_files.ensures.unfailed
+    (c.in_err-publish.ensures.failed made told (part_ready p.from p.to p.writes.items rises s fits.fresh Taxonomy p.taxonomy c.requires.plan.taxonomy_pending)))
+
+pub returns-in_err-publish-2-clause-failed : goal.returns-in_err-publish-2-clause-failed
+returns-in_err-publish-2-clause-failed g c = λ s is fits.
+    let p = c.args.plan.now in let rises = c.requires.plan.rises in
+    let made = files_told p.writes.items s in
+    let told : g.D.Disk.told c.write_files.new.disk ≡ Some made = subst (λ (ws : List Write). g.D.Disk.told c.write_files.new.disk ≡ Some (files_told ws s)) c.deref.ensures.value (c.in_ok-write_files.ensures.told s is) in
+    let next = published_told Taxonomy p.taxonomy made in
+    on_err c.from_residual-in_err-publish-2.result (subst (λ (n : ℕ). Rose n (g.D.Disk.failures c.publish-2.new.disk)) (c.in_ok-publish.ensures.unfailed ∙ c.in_ok-write_files.ensures.unfailed)
+    (c.in_err-publish-2.ensures.failed next (c.in_ok-publish.ensures.told made told)
+    (still_ready Index Taxonomy index_taxonomy p.taxonomy p.index made (part_ready p.from p.to p.writes.items rises s fits.fresh Index p.index c.requires.plan.index_pending))))
+
+pub returns-in_err-clear-clause-failed : goal.returns-in_err-clear-clause-failed
+returns-in_err-clear-clause-failed g c = λ s is fits.
+    let p = c.args.plan.now in
+    let made = files_told p.writes.items s in
+    let told : g.D.Disk.told c.write_files.new.disk ≡ Some made = subst (λ (ws : List Write). g.D.Disk.told c.write_files.new.disk ≡ Some (files_told ws s)) c.deref.ensures.value (c.in_ok-write_files.ensures.told s is) in
+    let next = published_told Taxonomy p.taxonomy made in
+    let whole = whole_told p s in
+    let told_whole : g.D.Disk.told c.publish-2.new.disk ≡ Some whole = c.in_ok-publish-2.ensures.told next (c.in_ok-publish.ensures.told made told) in
+    let there = subst (λ (names : List FileName). AreThere names whole.files) (sym c.deref-2.ensures.value) (strays_there p c.requires.plan s fits) in
+    on_err c.from_residual-in_err-clear.result (subst (λ (n : ℕ). Rose n (g.D.Disk.failures c.clear.new.disk)) (c.in_ok-publish-2.ensures.unfailed ∙ c.in_ok-publish.ensures.unfailed ∙ c.in_ok-write_files.ensures.unfailed)
+    (c.in_err-clear.ensures.failed whole told_whole there))

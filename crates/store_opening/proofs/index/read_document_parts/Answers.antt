@@ -40,6 +40,7 @@ loop-part-preserved g c =
       named = rw (take_more parts i blank lt, c.in_ok-keep.ensures)
           (zip_push (IsNamedAs config labels) (take i parts) (map arc_value c.loop-part.segments.items) (get_or parts i blank) c.in_ok-segment.segment kept.named c.in_ok-segment.ensures.named);
       still = c.in_ok-segment.ensures.still.ok ∙ kept.still;
+      unfailed = c.in_ok-segment.ensures.unfailed.ok ∙ kept.unfailed;
       quiet = goes_on _ _ _ kept.quiet c.in_ok-segment.ensures.quiet;
     }
 

@@ -15,5 +15,6 @@ invariant-loop-part g l = record {
       → behind (map arc_value l.segments.items) (segments_of l.config l.labels l.needs (segments_in Index s.files) (drop l.part-index l.parts)) ≡ segments_of l.config l.labels l.needs (segments_in Index s.files) l.parts;
   named : AllZip (IsNamedAs l.config l.labels) (take l.part-index l.parts) (map arc_value l.segments.items);
   still : g.D.Disk.faults l.disk ≡ g.D.Disk.faults l.fn.disk;
+  unfailed : g.D.Disk.failures l.disk ≡ g.D.Disk.failures l.fn.disk;
   quiet : IsQuiet g.D.Disk.told g.D.Disk.may_leave g.D.Disk.moment g.D.Disk.left_since g.D.Disk.faults l.fn.disk l.disk;
 }

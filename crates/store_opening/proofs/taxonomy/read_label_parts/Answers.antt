@@ -43,6 +43,7 @@ loop-part-preserved g c =
           ∙ kept.read s told listed;
       order = subst (λ (n : ℕ). AreInOrder c.args.total n (drop (i + 1) parts)) longer order.1;
       still = c.in_ok-read_label_part.ensures.still.ok ∙ kept.still;
+      unfailed = c.in_ok-read_label_part.ensures.unfailed.ok ∙ kept.unfailed;
       quiet = goes_on _ _ _ kept.quiet c.in_ok-read_label_part.ensures.quiet;
     }
 

@@ -12,5 +12,6 @@ invariant-loop-part g l = record {
   read : (s : Told) → g.D.Disk.told l.fn.disk ≡ Some s → AreListed s.files l.listed → labels_of (segments_in Taxonomy s.files) l.labels (drop l.part-index l.parts) ≡ labels_of (segments_in Taxonomy s.files) ([] ∷ []) l.parts;
   order : AreInOrder l.total (length l.labels) (drop l.part-index l.parts);
   still : g.D.Disk.faults l.disk ≡ g.D.Disk.faults l.fn.disk;
+  unfailed : g.D.Disk.failures l.disk ≡ g.D.Disk.failures l.fn.disk;
   quiet : IsQuiet g.D.Disk.told g.D.Disk.may_leave g.D.Disk.moment g.D.Disk.left_since g.D.Disk.faults l.fn.disk l.disk;
 }

@@ -8,6 +8,8 @@ use Rattle.commit_store.specs.Committed.{Committed}
 use Rattle.commit_store.specs.Committing.{HasOneOfThree}
 use Rattle.commit_store.specs.Results.{committed_told}
 use Rattle.commit_store.proofs.Cleaning.{carried_is, cut_short_is, left_named}
+use Rattle.commit_calls.specs.Held.{Below}
+use Rattle.commit_store.proofs.Fitting.{plan_fits}
 use Rattle.commit_store.proofs.Listed.{are_listed}
 use Rattle.commit_store.proofs.Promises.{on_ok, on_fault, leaves_weaker, leaves_same, here_now, led, one_of_three}
 use Rattle.store_opening.proofs.Held.{stands_settled}
@@ -124,3 +126,15 @@ returns-clause-settled g c = λ s u labels segs is new at on empty.
     let laws = g.met.D.Disk g.world.𝓛 g.world.𝓜 g.world.𝓡 ((λ s x. x), (λ x. x), (λ x. x), λ x. x) in
     let after = returns-clause-acknowledged g c s labels segs is at on empty in
     stands_settled c.args.self.now.config _ after.taxonomy after.index _ after.known.files g.D.Disk.may_leave c.carry_out.new.disk u (laws.own c.carry_out.new.disk u new) after.stands
+
+pub returns-then-is_err-clause-failed : goal.returns-then-is_err-clause-failed
+returns-then-is_err-clause-failed g c = λ count e s is listed below.
+    let fault : is_err c.carry_out.result ≡ true = search rules in
+    on_fault c.carry_out.result _ (c.carry_out.ensures.failed s is
+    (plan_fits c.args.self.now.config c.args.self.now.state c.args.view.now (map arc_value c.args.segments.now) c.in_ok-planned.planned.plan c.in_ok-planned.planned.after c.in_ok-planned.ensures.plan s.files listed below)) fault
+
+pub returns-clause-fresh : goal.returns-clause-fresh
+returns-clause-fresh g c = λ s u is now below.
+    let fine : is_err c.carry_out.result ≡ false = search rules in
+    let plan = c.in_ok-planned.planned.plan in
+    subst (λ (n : ℕ). Below n u.files) c.in_ok-planned.ensures.plan.to (on_ok c.carry_out.result _ c.carry_out.ensures.names fine s u is now (subst (λ (n : ℕ). Below n s.files) (sym c.in_ok-planned.ensures.plan.from) below))

@@ -20,3 +20,9 @@ returns-clause-committed g c = λ s is settled.
     let after = at_unchanged g.D.Disk.may_leave g.D.Disk.moment g.D.Disk.left_since n.next (held_in Taxonomy s.files) (held_in Index s.files) c.args.disk c.read_store.new.disk c.in-Ok.ensures.quiet.passes at in
     subst (λ (st : Committed). IsCommittedAt g.D.Disk.may_leave config st c.read_store.new.disk labels ss) (sym state)
     (record { taxonomy = held_in Taxonomy s.files; index = held_in Index s.files; stands = after; known = known })
+
+pub returns-clause-fresh : goal.returns-clause-fresh
+returns-clause-fresh g c = λ s is.
+    let state : c.in-Ok-state_of.state ≡ committed_read c.in-Ok.read.newest c.in-Ok.read.labels (map arc_value c.in-Ok.read.segments.items) = search rules in
+    let below : Below c.in-Ok.read.newest.next s.files = λ name some. c.in-Ok.ensures.below name ((c.in-Ok.ensures.listed s is).all name some) in
+    subst (λ (st : Committed). Below st.next s.files) (sym state) below
