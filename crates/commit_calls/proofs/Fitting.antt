@@ -97,9 +97,10 @@ IsReady dir part s = IfSome part (λ n. (s.files (file dir Pending n) ≢ None) 
 pub part_ready : (from to : ℕ) (ws : List Write) → Rises from to ws → (s : Told) → Below from s.files → (dir : Dir) (part : Option ℕ) → IfSome part (λ n. IsAmong (file dir Pending n) ws)
     → IsReady dir part (files_told ws s)
 part_ready from to ws rises s below dir None among = tt
-part_ready from to ws rises s below dir (Some n) among =
-    (among_made from to ws rises s (file dir Pending n) among,
-    commit_unmade from to ws rises s dir n ∙ is_free from s.files below (file dir Commit n) (among_within from to ws rises (file dir Pending n) among).0)
+part_ready from to ws rises s below dir (Some n) among = (
+  among_made from to ws rises s (file dir Pending n) among,
+  commit_unmade from to ws rises s dir n ∙ is_free from s.files below (file dir Commit n) (among_within from to ws rises (file dir Pending n) among).0,
+)
 
 -- and so after another was published
 pub still_ready : (dir other : Dir) → dir ≢ other → (before part : Option ℕ) (s : Told) → IsReady dir part s → IsReady dir part (published_told other before s)
@@ -115,14 +116,15 @@ still_ready dir other apart before (Some n) s ready =
 -- the same files below the bound are there after all else
 pub there_still : (from : ℕ) (names : List FileName) (c d : Image) → Below from c → ((n : FileName) → n.number < from → d n ≡ c n) → AreThere names c → AreThere names d
 there_still from [] c d below same there = tt
-there_still from (name ∷ names) c d below same there =
-    (λ none. there.0 (sym (same name (below name there.0)) ∙ none),
-    there_still from names (with_at c name None) (with_at d name None)
-    (λ n some. bounded_gone (λ m. Unit {0}) from c name (λ m any other. below m other) n tt some)
-    (λ n low. by_name (λ m. with_at d name None m ≡ with_at c name None m) n name
-        (λ is. ap (with_at d name None) is ∙ with_here d name None ∙ sym (with_here c name None) ∙ sym (ap (with_at c name None) is))
-        (λ other. with_other d name None n other ∙ same n low ∙ sym (with_other c name None n other)))
-    there.1)
+there_still from (name ∷ names) c d below same there = (
+  λ none. there.0 (sym (same name (below name there.0)) ∙ none),
+  there_still from names (with_at c name None) (with_at d name None)
+      (λ n some. bounded_gone (λ m. Unit {0}) from c name (λ m any other. below m other) n tt some)
+      (λ n low. by_name (λ m. with_at d name None m ≡ with_at c name None m) n name
+      (λ is. ap (with_at d name None) is ∙ with_here d name None ∙ sym (with_here c name None) ∙ sym (ap (with_at c name None) is))
+      (λ other. with_other d name None n other ∙ same n low ∙ sym (with_other c name None n other)))
+      there.1,
+)
 
 -- files below the bound are as they were when all is made and published
 pub whole_before : (p : Plan) → IsPlan p → (s : Told) (n : FileName) → n.number < p.from → (whole_told p s).files n ≡ s.files n

@@ -22,11 +22,11 @@ use Rattle.commit_store.proofs.InOrder.{in_order_only, in_order_once}
 each_there : (names : List FileName) (c : Image) → ((n : FileName) → Contains names n → c n ≢ None) → AllPairs (λ a b. a ≢ b) names → AreThere names c
 each_there [] c all once = tt
 each_there (x ∷ xs) c all once = (
-    all x (0, omega arith, refl),
-    each_there xs (with_at c x None)
-        (λ n has none. all n (Contains-append_right (x ∷ []) xs n has) (sym (with_other c x None n (λ same. later n has (sym same))) ∙ none))
-        (λ i j d lt low. once (suc i) (suc j) d (omega (arith, lt)) (omega (arith, low))),
-  )
+  all x (0, omega arith, refl),
+  each_there xs (with_at c x None)
+      (λ n has none. all n (Contains-append_right (x ∷ []) xs n has) (sym (with_other c x None n (λ same. later n has (sym same))) ∙ none))
+      (λ i j d lt low. once (suc i) (suc j) d (omega (arith, lt)) (omega (arith, low))),
+)
   where
     later : (n : FileName) → Contains xs n → x ≢ n
     later n has = All-contains (λ y. x ≢ y) xs n (λ k d low. once 0 (suc k) d (omega arith) (omega (arith, low))) has
@@ -34,7 +34,7 @@ each_there (x ∷ xs) c all once = (
 strays_there : (listed named : List FileName) (c : Image) → ((n : FileName) → Contains listed n → c n ≢ None) → AreThere (strays listed named) c
 strays_there listed named c all = each_there (strays listed named) c
     (λ n has. all n (in_order_only listed n (All-contains (Contains (in_order listed)) (strays listed named) n
-        (All-filter (λ m. not (is_among named m)) (Contains (in_order listed)) (in_order listed) (All-contains_itself (in_order listed))) has)))
+    (All-filter (λ m. not (is_among named m)) (Contains (in_order listed)) (in_order listed) (All-contains_itself (in_order listed))) has)))
     (AllPairs-filter (λ a b. a ≢ b) (λ m. not (is_among named m)) (in_order listed) (in_order_once listed))
 
 -- the plan of a commit fits the files of which all is known

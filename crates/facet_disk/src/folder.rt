@@ -210,12 +210,7 @@ fn count_fault(faults: &mut u64)
 }
 
 // The fault of a call on a file that must be there, which is counted.
-fn absent_fault(
-    faults: &mut u64,
-    failures: &mut u64,
-    error: io::Error,
-    name: FileName,
-) -> DiskFault
+fn absent_fault(faults: &mut u64, failures: &mut u64, error: io::Error, name: FileName) -> DiskFault
     ensures rose { Rose faults.old faults.new }
     ensures later { faults.old ≤ faults.new }
     ensures kinds { IsOneOf (Failed ∷ Absent name ∷ []) result }

@@ -58,6 +58,7 @@ pub fn run<R: AllocGlobal, S: Source, K: Sink, D: Disk>(
     ensures read_failed { result.status ≡ Status.ReadFault → Rose (S.faults source.old) (S.faults source.new) }
     ensures write_failed { result.status ≡ Status.WriteFault → Rose (K.faults sink.old) (K.faults sink.new) }
     ensures disk_failed { result.status ≡ Status.DiskFault → ReadsScript (S.left source.old) (S.left source.new) × DiskRose (D.faults disk) (D.faults result.disk) }
+    ensures device_failed { result.status ≡ Status.DiskFault → (s : Told) → D.told disk ≡ Some s → DiskRose (D.failures disk) (D.failures result.disk) }
 
     // Counts of faults stay where nothing failed. That of the disk may rise in a commit, whose reply tells it.
     ensures source_still { result.status ≢ Status.ReadFault → S.faults source.new ≡ S.faults source.old }

@@ -1,5 +1,7 @@
-ghost use Rattle.std.specs.Prelude.{◌≡◌, ◌≤◌, ◌⊎◌, None, length, map};
+ghost use Rattle.std.specs.Prelude.{◌≡◌, ◌≢◌, ◌≤◌, ◌⊎◌, Some, None, length, map};
 ghost use Rattle.std.specs.Arc.{arc_value};
+ghost use Rattle.facet_disk.specs.Images.{Told};
+ghost use Rattle.facet_disk.specs.Calls.{Rose};
 ghost use Rattle.facet_model.specs.Stored.{Decodes};
 ghost use Rattle.facet_words.specs.Answers.{opened_shelf};
 ghost use Rattle.facet_words.specs.CommandViews.{script_view};
@@ -31,6 +33,7 @@ fn serve<K: Sink, D: Disk>(
     requires decodes { Decodes opened.labels script.settings.config (map arc_value opened.segments.items) (docs_in opened.labels (map arc_value opened.segments.items)) }
     requires few { length (docs_in opened.labels (map arc_value opened.segments.items)) ≤ 1000000 }
     ensures served { Served D.told D.may_leave D.moment D.left_since D.faults (script_view script) (opened_shelf opened.labels (docs_in opened.labels (map arc_value opened.segments.items)) (store_of None opened.committer.state.next (D.faults opened.committer.disk))) script.settings.config opened.committer.state opened.committer.disk result.disk (K.faults sink.old) (K.faults sink.new) (K.written sink.old) (K.written sink.new) result.status }
+    ensures opened { result.status ≢ Status.DiskFault }
 {
     let Opened {
         mut committer,
@@ -54,7 +57,8 @@ fn serve<K: Sink, D: Disk>(
 
 // Writes all lines.
 fn write<K: Sink>(sink: &mut K, lines: &[u8]) -> Status
-    ensures { IsWritten lines.now (K.faults sink.old) (K.faults sink.new) (K.written sink.old) (K.written sink.new) result }
+    ensures written { IsWritten lines.now (K.faults sink.old) (K.faults sink.new) (K.written sink.old) (K.written sink.new) result }
+    ensures status { result ≢ Status.DiskFault }
 {
     match write_all(sink, lines) {
         Ok(()) => Status::Done,
@@ -69,8 +73,9 @@ pub fn run_script<K: Sink, D: Disk>(
     disk: D,
     script: Script,
 ) -> Ended<D>
-    ensures { Serves D.told D.may_leave D.moment D.left_since D.faults (script_view script) disk result.disk (K.faults sink.old) (K.faults sink.new) (K.written sink.old) (K.written sink.new) result.status
+    ensures served { Serves D.told D.may_leave D.moment D.left_since D.faults (script_view script) disk result.disk (K.faults sink.old) (K.faults sink.new) (K.written sink.old) (K.written sink.new) result.status
         ⊎ StaysShut D.told D.may_leave D.moment D.left_since D.faults (script_view script) disk result.disk (K.faults sink.old) (K.faults sink.new) (K.written sink.old) (K.written sink.new) result.status }
+    ensures failed { result.status ≡ Status.DiskFault → (s : Told) → D.told disk ≡ Some s → Rose (D.failures disk) (D.failures result.disk) }
 {
     let Ok(config) = script.settings.config.dup() else {
         return tell(sink, Status::NoMemory, disk);

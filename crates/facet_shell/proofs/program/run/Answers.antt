@@ -7,29 +7,29 @@ use Rattle.facet_shell.proofs.program.run.Goals as goal
 pub returns-clause-done : goal.returns-clause-done
 returns-clause-done g c = done g.D.Disk.told g.D.Disk.may_leave g.D.Disk.moment g.D.Disk.left_since g.D.Disk.faults (script_view c.in-Ok-read_script.script) c.deref.result.now (g.S.Source.left c.args.source.now) (g.S.Source.left c.read_to_end.new.source) c.args.disk c.run_script.result.disk _ _ _ _ _
     (record { read = subst (λ (bytes : List ℕ). Consumes (g.S.Source.left c.args.source.now) (g.S.Source.left c.read_to_end.new.source) bytes) (sym c.deref.ensures.value) c.in-Ok.ensures.whole.0; end = c.in-Ok.ensures.whole.1; fits = omega (arith, c.in-Ok.ensures.within, ap length c.deref.ensures.value) })
-    c.in-Ok-read_script.ensures.ok c.run_script.ensures
+    c.in-Ok-read_script.ensures.ok c.run_script.ensures.served
 
 pub returns-clause-write_fault : goal.returns-clause-write_fault
 returns-clause-write_fault g c = write_fault g.D.Disk.told g.D.Disk.may_leave g.D.Disk.moment g.D.Disk.left_since g.D.Disk.faults (script_view c.in-Ok-read_script.script) c.deref.result.now (g.S.Source.left c.args.source.now) (g.S.Source.left c.read_to_end.new.source) c.args.disk c.run_script.result.disk _ _ _ _ _
     (record { read = subst (λ (bytes : List ℕ). Consumes (g.S.Source.left c.args.source.now) (g.S.Source.left c.read_to_end.new.source) bytes) (sym c.deref.ensures.value) c.in-Ok.ensures.whole.0; end = c.in-Ok.ensures.whole.1; fits = omega (arith, c.in-Ok.ensures.within, ap length c.deref.ensures.value) })
-    c.in-Ok-read_script.ensures.ok c.run_script.ensures
+    c.in-Ok-read_script.ensures.ok c.run_script.ensures.served
 
 pub returns-clause-not_opened : goal.returns-clause-not_opened
 returns-clause-not_opened g c = not_opened g.D.Disk.told g.D.Disk.may_leave g.D.Disk.moment g.D.Disk.left_since g.D.Disk.faults (script_view c.in-Ok-read_script.script) c.deref.result.now (g.S.Source.left c.args.source.now) (g.S.Source.left c.read_to_end.new.source) c.args.disk c.run_script.result.disk _ _ _ _ _
     (record { read = subst (λ (bytes : List ℕ). Consumes (g.S.Source.left c.args.source.now) (g.S.Source.left c.read_to_end.new.source) bytes) (sym c.deref.ensures.value) c.in-Ok.ensures.whole.0; end = c.in-Ok.ensures.whole.1; fits = omega (arith, c.in-Ok.ensures.within, ap length c.deref.ensures.value) })
-    c.in-Ok-read_script.ensures.ok c.run_script.ensures
+    c.in-Ok-read_script.ensures.ok c.run_script.ensures.served
 
 pub returns-clause-disk_failed : goal.returns-clause-disk_failed
 returns-clause-disk_failed g c = disk_failed g.D.Disk.told g.D.Disk.may_leave g.D.Disk.moment g.D.Disk.left_since g.D.Disk.faults (script_view c.in-Ok-read_script.script) c.deref.result.now (g.S.Source.left c.args.source.now) (g.S.Source.left c.read_to_end.new.source) c.args.disk c.run_script.result.disk _ _ _ _ _
     (record { read = subst (λ (bytes : List ℕ). Consumes (g.S.Source.left c.args.source.now) (g.S.Source.left c.read_to_end.new.source) bytes) (sym c.deref.ensures.value) c.in-Ok.ensures.whole.0; end = c.in-Ok.ensures.whole.1; fits = omega (arith, c.in-Ok.ensures.within, ap length c.deref.ensures.value) })
-    c.in-Ok-read_script.ensures.ok c.run_script.ensures
+    c.in-Ok-read_script.ensures.ok c.run_script.ensures.served
 
 pub returns-clause-disk_still : goal.returns-clause-disk_still
 returns-clause-disk_still g c = disk_still g.D.Disk.told g.D.Disk.may_leave g.D.Disk.moment g.D.Disk.left_since g.D.Disk.faults (script_view c.in-Ok-read_script.script) c.deref.result.now (g.S.Source.left c.args.source.now) (g.S.Source.left c.read_to_end.new.source) c.args.disk c.run_script.result.disk _ _ _ _ _
     (record { read = subst (λ (bytes : List ℕ). Consumes (g.S.Source.left c.args.source.now) (g.S.Source.left c.read_to_end.new.source) bytes) (sym c.deref.ensures.value) c.in-Ok.ensures.whole.0; end = c.in-Ok.ensures.whole.1; fits = omega (arith, c.in-Ok.ensures.within, ap length c.deref.ensures.value) })
-    c.in-Ok-read_script.ensures.ok c.run_script.ensures
+    c.in-Ok-read_script.ensures.ok c.run_script.ensures.served
 
 pub returns-clause-sink_still : goal.returns-clause-sink_still
 returns-clause-sink_still g c = sink_still g.D.Disk.told g.D.Disk.may_leave g.D.Disk.moment g.D.Disk.left_since g.D.Disk.faults (script_view c.in-Ok-read_script.script) c.deref.result.now (g.S.Source.left c.args.source.now) (g.S.Source.left c.read_to_end.new.source) c.args.disk c.run_script.result.disk _ _ _ _ _
     (record { read = subst (λ (bytes : List ℕ). Consumes (g.S.Source.left c.args.source.now) (g.S.Source.left c.read_to_end.new.source) bytes) (sym c.deref.ensures.value) c.in-Ok.ensures.whole.0; end = c.in-Ok.ensures.whole.1; fits = omega (arith, c.in-Ok.ensures.within, ap length c.deref.ensures.value) })
-    c.in-Ok-read_script.ensures.ok c.run_script.ensures
+    c.in-Ok-read_script.ensures.ok c.run_script.ensures.served

@@ -11,15 +11,13 @@ use Rattle.facet_shell.specs.Sessions.{State, shelf_of, store_of}
 use Rattle.facet_shell.proofs.Served.{served_none, served_some, writes_all}
 use Rattle.facet_shell.proofs.serving.serve.Goals as goal
 
-pub returns-in_default : goal.returns-in_default
-returns-in_default g c = record {
-  served =
-      served_none g.D.Disk.told g.D.Disk.may_leave g.D.Disk.moment g.D.Disk.left_since g.D.Disk.faults (script_view c.args.script) _ c.args.script.settings.config c.args.opened.committer.state c.args.opened.committer.disk c.tell.result.disk _ _ _ _ c.tell.result.status (g.met.D.Disk g.world.𝓛 g.world.𝓜 g.world.𝓡 ((λ s x. x), (λ x. x), (λ x. x), λ x. x)).own
-      (c.tell.ensures.disk ∙ c.into_disk.ensures) refl (inr (inr (c.tell.ensures.status, c.tell.ensures.line)));
-}
+pub returns-in_default-clause-served : goal.returns-in_default-clause-served
+returns-in_default-clause-served g c =
+    served_none g.D.Disk.told g.D.Disk.may_leave g.D.Disk.moment g.D.Disk.left_since g.D.Disk.faults (script_view c.args.script) _ c.args.script.settings.config c.args.opened.committer.state c.args.opened.committer.disk c.tell.result.disk _ _ _ _ c.tell.result.status (g.met.D.Disk g.world.𝓛 g.world.𝓜 g.world.𝓡 ((λ s x. x), (λ x. x), (λ x. x), λ x. x)).own
+    (c.tell.ensures.disk ∙ c.into_disk.ensures) refl (inr (inr (c.tell.ensures.status, c.tell.ensures.line)))
 
-pub returns-in-Ok-answer_all : goal.returns-in-Ok-answer_all
-returns-in-Ok-answer_all g c =
+pub returns-in-Ok-answer_all-clause-served : goal.returns-in-Ok-answer_all-clause-served
+returns-in-Ok-answer_all-clause-served g c =
     let o = c.args.opened in
     let a = c.in-Ok-answer_all.ensures.answered in
     let store = store_of c.args.opened.committer.closed c.args.opened.committer.state.next (g.D.Disk.faults c.args.opened.committer.disk) in
@@ -30,18 +28,16 @@ returns-in-Ok-answer_all g c =
     let last : Shelf = shelf_of c.answer_all.new.session (store_of c.answer_all.new.committer.closed c.answer_all.new.committer.state.next (g.D.Disk.faults c.answer_all.new.committer.disk)) in
     let right : RightReplies (script_view c.args.script).settings opened (take a.many (script_view c.args.script).orders) a.replies last =
     subst (λ (s : Settings). RightReplies s opened (take a.many (script_view c.args.script).orders) a.replies last) settings (subst (λ (shelf : Shelf). RightReplies c.in-Ok.session.settings shelf (take a.many (script_view c.args.script).orders) a.replies last) is a.right) in
-    record {
-      served = served_some g.D.Disk.told g.D.Disk.may_leave g.D.Disk.moment g.D.Disk.left_since g.D.Disk.faults (script_view c.args.script) opened c.args.script.settings.config c.args.opened.committer.state c.args.opened.committer.disk _ _ _ _ _ _ (g.met.D.Disk g.world.𝓛 g.world.𝓜 g.world.𝓡 ((λ s x. x), (λ x. x), (λ x. x), λ x. x)).own
-          a.many a.replies last c.answer_all.new.committer.state c.answer_all.new.committer.disk right refl c.into_disk-in-Ok-answer_all.ensures
-          (λ start first. subst (λ (config : Config). IsStory g.D.Disk.told g.D.Disk.may_leave g.D.Disk.moment g.D.Disk.left_since opened start last (durable (take a.many (script_view c.args.script).orders) a.replies) config c.answer_all.new.committer.state c.answer_all.new.committer.disk) c.requires.config
-          (subst (λ (shelf : Shelf). IsStory g.D.Disk.told g.D.Disk.may_leave g.D.Disk.moment g.D.Disk.left_since shelf start last (durable (take a.many (script_view c.args.script).orders) a.replies) c.args.opened.committer.config c.answer_all.new.committer.state c.answer_all.new.committer.disk) is (a.story start
-          (subst (λ (shelf : Shelf). IsStory g.D.Disk.told g.D.Disk.may_leave g.D.Disk.moment g.D.Disk.left_since shelf start shelf 0 c.args.opened.committer.config c.args.opened.committer.state c.args.opened.committer.disk) (sym is)
-          (subst (λ (config : Config). IsStory g.D.Disk.told g.D.Disk.may_leave g.D.Disk.moment g.D.Disk.left_since opened start opened 0 config c.args.opened.committer.state c.args.opened.committer.disk) (sym c.requires.config) first)))))
-          (writes_all (script_view c.args.script).orders a.many a.replies c.in-Ok-answer_all.lines.items _ _ _ _ _ a.lines.0 a.lines.1 (subst (λ (l : List ℕ). IsWritten l (g.K.Sink.faults c.args.sink.now) (g.K.Sink.faults c.write-status.new.sink) (g.K.Sink.written c.args.sink.now) (g.K.Sink.written c.write-status.new.sink) c.write-status.result) c.deref.ensures.value c.write-status.ensures));
-    }
+    served_some g.D.Disk.told g.D.Disk.may_leave g.D.Disk.moment g.D.Disk.left_since g.D.Disk.faults (script_view c.args.script) opened c.args.script.settings.config c.args.opened.committer.state c.args.opened.committer.disk _ _ _ _ _ _ (g.met.D.Disk g.world.𝓛 g.world.𝓜 g.world.𝓡 ((λ s x. x), (λ x. x), (λ x. x), λ x. x)).own
+    a.many a.replies last c.answer_all.new.committer.state c.answer_all.new.committer.disk right refl c.into_disk-in-Ok-answer_all.ensures
+    (λ start first. subst (λ (config : Config). IsStory g.D.Disk.told g.D.Disk.may_leave g.D.Disk.moment g.D.Disk.left_since opened start last (durable (take a.many (script_view c.args.script).orders) a.replies) config c.answer_all.new.committer.state c.answer_all.new.committer.disk) c.requires.config
+    (subst (λ (shelf : Shelf). IsStory g.D.Disk.told g.D.Disk.may_leave g.D.Disk.moment g.D.Disk.left_since shelf start last (durable (take a.many (script_view c.args.script).orders) a.replies) c.args.opened.committer.config c.answer_all.new.committer.state c.answer_all.new.committer.disk) is (a.story start
+    (subst (λ (shelf : Shelf). IsStory g.D.Disk.told g.D.Disk.may_leave g.D.Disk.moment g.D.Disk.left_since shelf start shelf 0 c.args.opened.committer.config c.args.opened.committer.state c.args.opened.committer.disk) (sym is)
+    (subst (λ (config : Config). IsStory g.D.Disk.told g.D.Disk.may_leave g.D.Disk.moment g.D.Disk.left_since opened start opened 0 config c.args.opened.committer.state c.args.opened.committer.disk) (sym c.requires.config) first)))))
+    (writes_all (script_view c.args.script).orders a.many a.replies c.in-Ok-answer_all.lines.items _ _ _ _ _ a.lines.0 a.lines.1 (subst (λ (l : List ℕ). IsWritten l (g.K.Sink.faults c.args.sink.now) (g.K.Sink.faults c.write-status.new.sink) (g.K.Sink.written c.args.sink.now) (g.K.Sink.written c.write-status.new.sink) c.write-status.result) c.deref.ensures.value c.write-status.ensures.written))
 
-pub returns : goal.returns
-returns g c =
+pub returns-clause-served : goal.returns-clause-served
+returns-clause-served g c =
     let o = c.args.opened in
     let a = c.in-Err.ensures.answered in
     let store = store_of c.args.opened.committer.closed c.args.opened.committer.state.next (g.D.Disk.faults c.args.opened.committer.disk) in
@@ -52,12 +48,10 @@ returns g c =
     let last : Shelf = shelf_of c.answer_all.new.session (store_of c.answer_all.new.committer.closed c.answer_all.new.committer.state.next (g.D.Disk.faults c.answer_all.new.committer.disk)) in
     let right : RightReplies (script_view c.args.script).settings opened (take a.many (script_view c.args.script).orders) a.replies last =
     subst (λ (s : Settings). RightReplies s opened (take a.many (script_view c.args.script).orders) a.replies last) settings (subst (λ (shelf : Shelf). RightReplies c.in-Ok.session.settings shelf (take a.many (script_view c.args.script).orders) a.replies last) is a.right) in
-    record {
-      served = served_some g.D.Disk.told g.D.Disk.may_leave g.D.Disk.moment g.D.Disk.left_since g.D.Disk.faults (script_view c.args.script) opened c.args.script.settings.config c.args.opened.committer.state c.args.opened.committer.disk _ _ _ _ _ _ (g.met.D.Disk g.world.𝓛 g.world.𝓜 g.world.𝓡 ((λ s x. x), (λ x. x), (λ x. x), λ x. x)).own
-          a.many a.replies last c.answer_all.new.committer.state c.answer_all.new.committer.disk right refl (c.tell-in-Err.ensures.disk ∙ c.into_disk-in-Err.ensures)
-          (λ start first. subst (λ (config : Config). IsStory g.D.Disk.told g.D.Disk.may_leave g.D.Disk.moment g.D.Disk.left_since opened start last (durable (take a.many (script_view c.args.script).orders) a.replies) config c.answer_all.new.committer.state c.answer_all.new.committer.disk) c.requires.config
-          (subst (λ (shelf : Shelf). IsStory g.D.Disk.told g.D.Disk.may_leave g.D.Disk.moment g.D.Disk.left_since shelf start last (durable (take a.many (script_view c.args.script).orders) a.replies) c.args.opened.committer.config c.answer_all.new.committer.state c.answer_all.new.committer.disk) is (a.story start
-          (subst (λ (shelf : Shelf). IsStory g.D.Disk.told g.D.Disk.may_leave g.D.Disk.moment g.D.Disk.left_since shelf start shelf 0 c.args.opened.committer.config c.args.opened.committer.state c.args.opened.committer.disk) (sym is)
-          (subst (λ (config : Config). IsStory g.D.Disk.told g.D.Disk.may_leave g.D.Disk.moment g.D.Disk.left_since opened start opened 0 config c.args.opened.committer.state c.args.opened.committer.disk) (sym c.requires.config) first)))))
-          (inr (inr (c.tell-in-Err.ensures.status, c.tell-in-Err.ensures.line)));
-    }
+    served_some g.D.Disk.told g.D.Disk.may_leave g.D.Disk.moment g.D.Disk.left_since g.D.Disk.faults (script_view c.args.script) opened c.args.script.settings.config c.args.opened.committer.state c.args.opened.committer.disk _ _ _ _ _ _ (g.met.D.Disk g.world.𝓛 g.world.𝓜 g.world.𝓡 ((λ s x. x), (λ x. x), (λ x. x), λ x. x)).own
+    a.many a.replies last c.answer_all.new.committer.state c.answer_all.new.committer.disk right refl (c.tell-in-Err.ensures.disk ∙ c.into_disk-in-Err.ensures)
+    (λ start first. subst (λ (config : Config). IsStory g.D.Disk.told g.D.Disk.may_leave g.D.Disk.moment g.D.Disk.left_since opened start last (durable (take a.many (script_view c.args.script).orders) a.replies) config c.answer_all.new.committer.state c.answer_all.new.committer.disk) c.requires.config
+    (subst (λ (shelf : Shelf). IsStory g.D.Disk.told g.D.Disk.may_leave g.D.Disk.moment g.D.Disk.left_since shelf start last (durable (take a.many (script_view c.args.script).orders) a.replies) c.args.opened.committer.config c.answer_all.new.committer.state c.answer_all.new.committer.disk) is (a.story start
+    (subst (λ (shelf : Shelf). IsStory g.D.Disk.told g.D.Disk.may_leave g.D.Disk.moment g.D.Disk.left_since shelf start shelf 0 c.args.opened.committer.config c.args.opened.committer.state c.args.opened.committer.disk) (sym is)
+    (subst (λ (config : Config). IsStory g.D.Disk.told g.D.Disk.may_leave g.D.Disk.moment g.D.Disk.left_since opened start opened 0 config c.args.opened.committer.state c.args.opened.committer.disk) (sym c.requires.config) first)))))
+    (inr (inr (c.tell-in-Err.ensures.status, c.tell-in-Err.ensures.line)))
