@@ -1,5 +1,9 @@
-ghost use Rattle.std.specs.Prelude.{◌≡◌, ◌≤◌, ℕ, Some, max};
+ghost use Rattle.std.specs.Prelude.{◌≡◌, ◌≤◌, ℕ, List, Some, max};
 ghost use Rattle.facet_disk.specs.Images.{Told};
+ghost use Rattle.facet_model.specs.Stored.{Records};
+ghost use Rattle.seg_decoding.specs.Decoding.{docs_in};
+ghost use Rattle.commit_store.specs.Drafts.{last_number};
+ghost use Rattle.facet_replies.specs.Replies.{refused, numbers_spent};
 ghost use Rattle.facet_words.specs.Answers.{RightReply, Shelf, durable_by};
 ghost use Rattle.facet_words.specs.CommandViews.{command_view};
 ghost use Rattle.facet_words.specs.Commands.{commit as commit_command};
@@ -18,6 +22,11 @@ use store_opening::laws::of_files;
 pub fn commit<D: Disk>(session: &mut Session, committer: &mut Committer<D>) -> Reply
     requires config { committer.old.config ≡ session.old.settings.config }
     ensures right { RightReply session.old.settings (shelf_of session.old (store_of committer.old.closed committer.old.state.next (D.faults committer.old.disk))) commit_command (reply_view result) (shelf_of session.new (store_of committer.new.closed committer.new.state.next (D.faults committer.new.disk))) }
+
+    // Where numbers are spent, the number told is the last one that the commit of all documents would have taken.
+    ensures spent { (number : ℕ) → reply_view result ≡ refused (numbers_spent number) → (segments : List Records) × (docs_in session.new.labels segments ≡ session.new.docs)
+        × (number ≡ last_number committer.old.config committer.old.state session.new.labels segments) }
+
     ensures same { session.new.settings ≡ session.old.settings }
     ensures config { committer.new.config ≡ committer.old.config }
     ensures story { (opened : Shelf) (start : D) (durable : ℕ)
