@@ -72,6 +72,7 @@ impl FacetsConfig {
         ensures ok { OnOk result (self.new ≡ self.old ++ (dim.now, flags) ∷ []) }
         ensures fits { IsOk result → declare_fault self.old dim.now ≡ None }
         ensures err { IfErr result (λ e. e ≢ Memory → declare_fault self.old dim.now ≡ Some e) }
+        ensures memory { IfErr result (λ e. e ≡ Memory → declare_fault self.old dim.now ≡ None) }
         ensures same { OnErr result (self.new ≡ self.old) }
     {
         if dim.is_empty() || dim.len() > 1024 {

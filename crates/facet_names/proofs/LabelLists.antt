@@ -1,7 +1,6 @@
 -- What holds in a list of labels: an ordinal names one label, and a parent stands before its child.
 use Rattle.std.proofs.Common.{◌≡◌, ℕ, ◌⊎◌, ltb, zero-add, zero, suc, ◌+◌, ◌<◌, ◌≤◌, ◌-◌, ◌==◌, Bool, true, false, not, if◌then◌else◌, List, [], ◌∷◌, ◌++◌, length, take, get_or, slice_get, Some, None, position, refl, sym, ap, ◌∙◌, arith, inl, inr}
-use Rattle.std.specs.Prelude.{option_and_then, cond, is_some, ◌||◌}
-use Rattle.std.specs.Option.{option_map}
+use Rattle.std.specs.Prelude.{option_and_then, cond, is_some}
 use Rattle.facet_names.specs.Faults.{IsPath}
 use Rattle.std.specs.List.{list_any, list_all, enumerate_from, position_or_len}
 use Rattle.std.specs.Cmp.Lexicographic.{pointwise_decides, bytes_decides}
@@ -62,33 +61,6 @@ module _ {X : Type 0} (test : X → Bool) where
       by : (b : Bool) → list_any test xs ≡ b → is_some (position test xs) ≡ list_any test xs
       by true e = ap is_some (some_place xs d e).1 ∙ sym e
       by false e = ap is_some (no_place xs d e) ∙ sym e
-
-  -- behind one that does not pass, each place is one more
-  pub position-after : (x : X) (xs : List X) → test x ≡ false → position test (x ∷ xs) ≡ option_map (λ i. i + 1) (position test xs)
-  position-after x xs fails = by (list_any test xs) refl
-    where
-      first : (i : ℕ) → position test xs ≡ Some i → position test (x ∷ xs) ≡ Some (i + 1)
-      first i at =
-          let found = position-Some test xs i x at in
-          let next : suc i ≡ i + 1 = omega arith in
-          first_place (x ∷ xs) (suc i) x (omega (arith, found.0)) found.1 below ∙ ap Some next
-        where
-          below : (k : ℕ) → k < suc i → test (get_or (x ∷ xs) k x) ≡ false
-          below zero low = fails
-          below (suc k) low = (position-Some test xs i x at).2 k (omega arith)
-
-      by : (b : Bool) → list_any test xs ≡ b → position test (x ∷ xs) ≡ option_map (λ i. i + 1) (position test xs)
-      by true e = let found = some_place xs x e in first found.0 found.1 ∙ ap (option_map (λ i. i + 1)) (sym found.1)
-      by false e = no_place (x ∷ xs) x (ap (λ b. b || list_any test xs) fails ∙ e) ∙ ap (option_map (λ i. i + 1)) (sym (no_place xs x e))
-
--- a path is not the root
-not_root : (path : List (List ℕ)) → 0 < length path → path_eq path [] ≡ false
-not_root [] some = absurd (omega arith)
-not_root (part ∷ path) some = refl
-
--- behind the root, an ordinal is one more than the place
-pub place_after_root : (labels : List (List (List ℕ))) (path : List (List ℕ)) → 0 < length path → place ([] ∷ labels) path ≡ option_map (λ i. i + 1) (position (path_eq path) labels)
-place_after_root labels path some = position-after (path_eq path) [] labels (not_root path some)
 
 pub path_has_part : (path : List (List ℕ)) → IsPath path → 0 < length path
 path_has_part [] fits = absurd cc

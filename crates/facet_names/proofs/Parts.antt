@@ -1,5 +1,5 @@
 -- Comparing texts one by one, and walking over the parts of a path.
-use Rattle.std.proofs.Common.{◌≡◌, ℕ, ◌+◌, ◌<◌, ◌≤◌, Bool, get_or, List, [], ◌∷◌, map, length, String, string_bytes, refl, ap, sym, subst, ◌∙◌, arith, rules, ◌-◌}
+use Rattle.std.proofs.Common.{◌≡◌, ◌≢◌, ℕ, ◌+◌, ◌<◌, ◌≤◌, Bool, get_or, List, [], ◌∷◌, map, length, String, string_bytes, refl, ap, sym, subst, ◌∙◌, arith, rules, ◌-◌}
 use Rattle.std.proofs.lemmas.Bool.Decides.{nat_tests}
 use Rattle.std.specs.declared.alloc.Global.{Global}
 use Rattle.std.specs.declared.cmp.Ordering.{Ordering}
@@ -8,14 +8,14 @@ use Rattle.std.specs.Prelude.{◌&&◌, ◌==◌, nat_lt, nat_le, Option, Some, 
 use Rattle.std.specs.List.{flat_map}
 use Rattle.std.specs.Hash.{slice, str, usize}
 use Rattle.std.proofs.Common.{◌++◌}
-use Rattle.std.proofs.lemmas.List.{length-map, length-take-le, take-map, get_or-map, map-append, take_more}
+use Rattle.std.proofs.lemmas.List.{length-append, length-map, length-take-le, take-map, get_or-map, map-append, take_more}
 use Rattle.std.proofs.lemmas.Option.{slice_get-get_or}
 use Rattle.std.specs.List.{starts_with}
 use Rattle.std.specs.String.{string_eq}
 use Rattle.std.proofs.Common.{nat_eq}
 use Rattle.facet_names.specs.Paths.{texts, is_under, parent_of, path_eq}
 use Rattle.std.proofs.lemmas.List.Concat.{flat_map-cons}
-use Rattle.facet_names.specs.Faults.{part_fault, IsPath}
+use Rattle.facet_names.specs.Faults.{part_fault, path_fault, IsPath}
 use Rattle.facet_names.specs.declared.fault.PathFault.{PathFault}
 use Rattle.facet_names.specs.declared.fault.PathFault.TheVariants.{NoPart, EmptyPart, PartTooLong, TooManyParts}
 use Rattle.std.specs.Cmp.Lexicographic.{slice_cmp, pointwise}
@@ -103,6 +103,29 @@ texts_more xs n s within is = ap texts (take_more xs n s within ∙ ap (λ t. ta
 
 pub length_texts : (n : ℕ) (xs : List (String Global)) → n ≤ length xs → length (texts (take n xs)) ≡ n
 length_texts n xs within = length-map (take n xs) string_bytes ∙ length-take-le n xs within
+
+-- ---- a path with one more part
+
+part_fault_more : (at : ℕ) (ps : List (List ℕ)) (p : List ℕ) → part_fault at ps ≡ None → part_fault at (ps ++ p ∷ []) ≡ part_fault (at + length ps) (p ∷ [])
+part_fault_more at [] p e = ap (λ k. part_fault k (p ∷ [])) (grind (arith))
+part_fault_more at (q ∷ ps) p e =
+    let parts = no_fault at q (part_fault (at + 1) ps) e in
+    rw (parts.1, parts.2) (part_fault_more (at + 1) ps p parts.0 ∙ ap (λ k. part_fault k (p ∷ [])) (grind (arith)))
+
+-- it has too many parts, or its last one has the fault
+pub child_fault : (ps : List (List ℕ)) (p : List ℕ) → IsPath ps → path_fault (ps ++ p ∷ []) ≡ cond (nat_lt 31 (length ps)) (Some (TooManyParts (length ps + 1))) (part_fault (length ps) (p ∷ []))
+child_fault ps p fits =
+    let size : length (ps ++ p ∷ []) ≡ length ps + 1 = length-append ps (p ∷ []) in
+    let some : (length (ps ++ p ∷ []) == 0) ≡ false = ap (λ k. k == 0) size ∙ grind (arith) in
+    let many : nat_lt 32 (length (ps ++ p ∷ [])) ≡ nat_lt 31 (length ps) = ap (nat_lt 32) size ∙ grind (arith) in
+    rw (some, many, size, part_fault_more 0 ps p (part_of_path ps fits).0) (ap (λ k. cond (nat_lt 31 (length ps)) (Some (TooManyParts (length ps + 1))) (part_fault k (p ∷ []))) (grind (arith)))
+
+-- with fewer than 32 parts before it, the last one's fault is the path's
+pub last_fault : (xs : List (String Global)) (p : List ℕ) (n : ℕ) → IsPath (texts xs) → n ≡ length xs → n ≢ 32 → path_fault (texts xs ++ p ∷ []) ≡ part_fault n (p ∷ [])
+last_fault xs p n fits is other =
+    let size : length (texts xs) ≡ n = length-map xs string_bytes ∙ sym is in
+    let few : nat_lt 31 (length (texts xs)) ≡ false = grind (arith, nat_tests, other, size, (part_of_path (texts xs) fits).1) in
+    child_fault (texts xs) p fits ∙ rw few (ap (λ k. part_fault k (p ∷ [])) size)
 
 -- ---- the parts of a path have 1 to 1,024 bytes
 

@@ -2,6 +2,7 @@ ghost use Rattle.std.specs.Prelude.{◌≡◌, ◌≢◌, ◌<◌, ◌≤◌, �
 ghost use Rattle.facet_names.specs.Paths.{texts, is_under, parent_of};
 ghost use Rattle.facet_names.specs.Faults.{IsPath, path_fault, part_fault};
 ghost use Rattle.facet_names.specs.Terms.{term_text, IsTermText};
+ghost use Rattle.facet_names.specs.declared.fault.PathFault.TheVariants.{NoMemory as Memory};
 
 use crate::fault::{NoMemory, PathFault};
 use crate::term::{joined, split};
@@ -31,20 +32,30 @@ impl Model for Path {
     ghost invariant = { λ p. IsPath (texts p.parts.items) };
 }
 
+fn check_part(at: usize, part: &str) -> Result<(), PathFault>
+    ensures ok { IsOk result → part_fault at (part.now ∷ []) ≡ None }
+    ensures err { IfErr result (λ e. part_fault at (part.now ∷ []) ≡ Some e) }
+    ensures known { IfErr result (λ e. e ≢ Memory) }
+{
+    if part.is_empty() {
+        return Err(PathFault::EmptyPart { at: at as u64 });
+    }
+    if part.len() > 1024 {
+        return Err(PathFault::PartTooLong {
+            at: at as u64,
+            len: part.len() as u64,
+        });
+    }
+    Ok(())
+}
+
 fn check_each(parts: &[String]) -> Result<(), PathFault>
     ensures ok { IsOk result → part_fault 0 (texts parts.now) ≡ None }
     ensures err { IfErr result (λ e. part_fault 0 (texts parts.now) ≡ Some e) }
+    ensures known { IfErr result (λ e. e ≢ Memory) }
 {
     for (at, part) in parts.iter().enumerate() {
-        if part.is_empty() {
-            return Err(PathFault::EmptyPart { at: at as u64 });
-        }
-        if part.len() > 1024 {
-            return Err(PathFault::PartTooLong {
-                at: at as u64,
-                len: part.len() as u64,
-            });
-        }
+        check_part(at, part.as_str())?;
     }
     Ok(())
 }
@@ -52,6 +63,7 @@ fn check_each(parts: &[String]) -> Result<(), PathFault>
 fn check(parts: &[String]) -> Result<(), PathFault>
     ensures ok { IsOk result → path_fault (texts parts.now) ≡ None }
     ensures err { IfErr result (λ e. path_fault (texts parts.now) ≡ Some e) }
+    ensures known { IfErr result (λ e. e ≢ Memory) }
 {
     if parts.is_empty() {
         return Err(PathFault::NoPart);
@@ -75,13 +87,12 @@ fn copied(alloc: Global, parts: &[String]) -> Result<Vec<String>, NoMemory>
 }
 
 impl Path {
-    ghost use Rattle.facet_names.specs.declared.fault.PathFault.TheVariants.{NoMemory as Memory};
-
     /// The path of these components. The number of components is looked at first, and then each of them in order.
     pub fn new(alloc: Global, parts: &[String]) -> Result<Path, PathFault>
         ensures ok { IfOk result (λ p. p ≡ texts parts.now) }
         ensures fits { IsOk result → path_fault (texts parts.now) ≡ None }
         ensures err { IfErr result (λ e. e ≢ Memory → path_fault (texts parts.now) ≡ Some e) }
+        ensures memory { IfErr result (λ e. e ≡ Memory → path_fault (texts parts.now) ≡ None) }
     {
         check(parts)?;
         let parts = copied(alloc, parts)?;
@@ -138,15 +149,30 @@ impl Path {
         Ok(Some(Path { parts }))
     }
 
-    /// The path with one more component. It is refused as `new` refuses the longer list.
+    #[tactic(auto, using(crate::proofs::Parts::child_fault))]
+    // Whether the path with one more component is one.
+    fn check_child(&self, part: &str) -> Result<(), PathFault>
+        ensures ok { IsOk result → path_fault (self.now ++ part.now ∷ []) ≡ None }
+        ensures err { IfErr result (λ e. path_fault (self.now ++ part.now ∷ []) ≡ Some e) }
+        ensures known { IfErr result (λ e. e ≢ Memory) }
+    {
+        let at = self.parts.len();
+        if at == 32 {
+            return Err(PathFault::TooManyParts { len: 33 });
+        }
+        check_part(at, part)
+    }
+
+    /// The path with one more component. It is refused as `new` refuses the longer list, before anything is copied.
     pub fn child(&self, alloc: Global, part: &str) -> Result<Path, PathFault>
         ensures ok { IfOk result (λ p. p ≡ self.now ++ part.now ∷ []) }
         ensures fits { IsOk result → path_fault (self.now ++ part.now ∷ []) ≡ None }
         ensures err { IfErr result (λ e. e ≢ Memory → path_fault (self.now ++ part.now ∷ []) ≡ Some e) }
+        ensures memory { IfErr result (λ e. e ≡ Memory → path_fault (self.now ++ part.now ∷ []) ≡ None) }
     {
+        self.check_child(part)?;
         let mut parts = copied(alloc, &self.parts)?;
         parts.push(String::from_str(alloc, part)?)?;
-        check(&parts)?;
         Ok(Path { parts })
     }
 

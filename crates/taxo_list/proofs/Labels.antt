@@ -5,7 +5,7 @@ use Rattle.indexmap.specs.IndexSet.{insert_key}
 use Rattle.facet_names.specs.Paths.{path_eq}
 use Rattle.facet_names.specs.Labels.{IsLabelList}
 use Rattle.facet_names.proofs.LabelLists.{fresh_after_root}
-pub use Rattle.facet_names.proofs.LabelLists.{same_path, none_at, place_of, place_at, label_at, some_label, root_first, parent_before, parent_at_front, one_more_label, stands_by_place, parent_is_above, root_above, root_stands, goes_further, is_some-position, place_after_root, path_has_part}
+pub use Rattle.facet_names.proofs.LabelLists.{same_path, none_at, place_of, place_at, label_at, some_label, root_first, parent_before, parent_at_front, one_more_label, stands_by_place, parent_is_above, root_above, root_stands, goes_further, is_some-position, path_has_part}
 
 -- to insert the next of them into a copy of the first ones makes a copy of one more
 pub inserted_next : (labels : List (List (List ℕ))) → IsLabelList ([] ∷ labels) → (i : ℕ) (d : List (List ℕ)) → i < length labels → insert_key path_eq (take i labels) (get_or labels i d) ≡ take (i + 1) labels
