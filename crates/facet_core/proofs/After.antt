@@ -13,14 +13,3 @@ use Rattle.facet_core.proofs.Kept.{map_push}
 pub valid_after : {A E : Type 0} (r : Result A E) (s t : State) (e : CoreEvent) → OnOk r (t ≡ step s e) → OnErr r (t ≡ s) → Valid s → Valid t
 valid_after (Ok x) s t e went stayed v = subst Valid (sym went) (keeps_step s e v)
 valid_after (Err x) s t e went stayed v = subst Valid (sym stayed) v
-
-ran_push : (s : State) (events : List CoreEvent) (e : CoreEvent) → ran s (events ++ e ∷ []) ≡ step (ran s events) e
-ran_push s [] e = refl
-ran_push s (x ∷ events) e = ran_push (step s x) events e
-
--- the events so far, and one more
-pub ran_more : (s : State) (events : List Event) (i : ℕ) (d : Event) → i < length events → ran s (map event_view (take (i + 1) events)) ≡ step (ran s (map event_view (take i events))) (event_view (get_or events i d))
-ran_more s events i d lt =
-    ap (λ front. ran s (map event_view front)) (take_more events i d lt)
-    ∙ ap (ran s) (map_push event_view (take i events) (get_or events i d))
-    ∙ ran_push s (map event_view (take i events)) (event_view (get_or events i d))

@@ -16,7 +16,7 @@ pub enum Event {
     Publish { session: u32 },
     /// The refresh of a session ends without a publication.
     DropRefresh { session: u32 },
-    /// A session begins a commit of the operations so far. Possible where none is in progress and no device call of an earlier one failed.
+    /// A session begins a commit of the operations so far. Possible where none is in progress and no device call has failed since the last crash.
     BeginCommit { session: u32 },
     /// The commit in progress is given up. Possible before its first device call.
     DropCommit,

@@ -1,4 +1,4 @@
-ghost use Rattle.std.specs.Prelude.{◌≡◌, ◌<◌, ◌≤◌, IfOk, length};
+ghost use Rattle.std.specs.Prelude.{◌≡◌, ◌<◌, ◌≤◌, None, IfOk, IsOk, length};
 
 use facet_names::NoMemory;
 use std::alloc::Global;
@@ -27,7 +27,8 @@ impl Word {
 
     /// The word of a text, which is copied. None exactly where the text is empty or has more than 65,536 bytes.
     pub fn new(alloc: Global, text: &str) -> Result<Option<Word>, NoMemory>
-        ensures { IfOk result (λ o. o ≡ word_of text.now) }
+        ensures ok { IfOk result (λ o. o ≡ word_of text.now) }
+        ensures none { word_of text.now ≡ None → IsOk result }
     {
         if text.is_empty() || text.len() > 65536 {
             return Ok(None);

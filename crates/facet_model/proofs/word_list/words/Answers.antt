@@ -1,4 +1,4 @@
-use Rattle.std.proofs.Common.{Bor, List, ℕ, subst, sym, ◌∙◌}
+use Rattle.std.proofs.Common.{Bor, List, ℕ, subst, sym}
 use Rattle.std.specs.List.{AllByRecursion}
 use Rattle.std.specs.Str.{IsUtf8}
 use Rattle.facet_model.proofs.Cut.{fits_at, pieces_utf8, unmapped}
