@@ -1,30 +1,29 @@
 -- The ordinals that are counted for labels, and those of the counted paths of a label list.
 use Rattle.std.proofs.Common.{◌≡◌, ℕ, zero, suc, ◌⊎◌, ◌+◌, ◌<◌, ◌≤◌, ◌-◌, ltb, eqb, nat_eq, Bool, true, false, List, [], ◌∷◌, ◌++◌, length, take, map, get_or, slice_get, Some, refl, sym, ap, subst, inl, inr, ◌∙◌, arith, append_assoc, add-one, drop, drop-cons, min}
-use Rattle.std.specs.Prelude.{filter, flat_map, ◌&&◌, ◌||◌, cond, Option, option_map, nat_lt}
+use Rattle.std.specs.Prelude.{filter, flat_map, ◌&&◌, ◌||◌, cond, Option, nat_lt}
 use Rattle.std.specs.Ordering.{nat_cmp}
-use Rattle.std.specs.declared.cmp.Ordering.{Ordering}
 use Rattle.std.specs.declared.cmp.Ordering.TheVariants.{Less, Equal, Greater}
-use Rattle.std.specs.List.{list_any, enumerate_from, zip, AllZip, AllByRecursion, range_with_len, dedup, Contains}
+use Rattle.std.specs.List.{list_any, enumerate_from, zip, AllZip, AllByRecursion, dedup, Contains}
 use Rattle.std.specs.List.Sorted.{IsStrictlySortedBy, IsPermutation, IsSorted, IsStrictlyIncreasing}
 use Rattle.std.specs.Cmp.{nat_eq_equiv, both_ways}
-use Rattle.std.proofs.lemmas.Bool.{and_parts, and_from, true≢false, eqb-true, eq-eqb, ne_eqb, ltb-true, lt-ltb}
-use Rattle.std.proofs.lemmas.List.{length-take-le, get_or-map, length-map, same_lists}
+use Rattle.std.proofs.lemmas.Bool.{and_parts, true≢false, eqb-true, eq-eqb, ne_eqb, ltb-true, lt-ltb}
+use Rattle.std.proofs.lemmas.List.{length-take-le, get_or-map, length-map}
 use Rattle.std.proofs.lemmas.List.Folds.{list_any-append}
 use Rattle.std.proofs.lemmas.List.FromFn.{get_or-map-range_with_len, length-map-range_with_len}
 use Rattle.std.proofs.lemmas.List.Concat.{flat_map-cons}
-use Rattle.std.proofs.lemmas.Option.{slice_get-get_or, get_or_from_slice_get, slice_get_within, slice_get-map}
+use Rattle.std.proofs.lemmas.Option.{slice_get-get_or, get_or_from_slice_get, slice_get_within}
 use Rattle.std.proofs.lemmas.Slice.Zip.{get_or-zip, length-zip}
 use Rattle.std.proofs.lemmas.List.Sorted.{list_any-IsPermutation}
 use Rattle.std.proofs.lemmas.List.Kept.{Contains-dedup_nat, Contains-from_dedup}
 use Rattle.std.proofs.lemmas.Map.Views.{Contains-from_any, list_any-from_Contains}
 use Rattle.std.proofs.lemmas.Map.Keys.{sorted_head, sorted_tail, IsStrictlyIncreasing-dedup}
 use Rattle.facet_names.specs.Paths.{path_eq, path_eq_equiv, is_under}
-use Rattle.facet_names.specs.Labels.{IsLabelList, prefixes, place}
+use Rattle.facet_names.specs.Labels.{IsLabelList, prefixes}
 use Rattle.facet_names.proofs.LabelLists.{same_path, place_at}
 use Rattle.facet_model.specs.declared.flags.DimFlags.{DimFlags}
 use Rattle.facet_model.specs.Flags.{Config, flags}
 use Rattle.facet_model.specs.Documents.{dim_of}
-use Rattle.facet_model.specs.CountedPaths.{is_counted_for, is_counted, places, counted_ordinals, ordinals_of_label, ordinals_of_labels, AreResolved}
+use Rattle.facet_model.specs.CountedPaths.{is_counted_for, is_counted, counted_ordinals, ordinals_of_label, ordinals_of_labels, AreResolved}
 
 -- ---- tests
 
@@ -384,21 +383,6 @@ module _ (known : List (List (List ℕ))) (is : IsLabelList known) (config : Con
 -- the ordinals that are kept of a label's, the first of which has this number
 abbrev pub kept : DimFlags → List (List ℕ) → ℕ → List ℕ → List ℕ
 kept f label n ords = map (λ e. e.1) (filter (λ e. is_counted_for f label (take (e.0 + 1) label)) (enumerate_from n ords))
-
--- one more was looked at
-pub kept_more : (f : DimFlags) (label : List (List ℕ)) (at : ℕ) (xs done all : List ℕ) (b : Bool) → at < length xs → b ≡ is_counted_for f label (take (at + 1) label) → done ++ kept f label at (drop at xs) ≡ all
-    → (done ++ cond b (get_or xs at 0 ∷ []) []) ++ kept f label (at + 1) (drop (at + 1) xs) ≡ all
-kept_more f label at xs done all b lt is e =
-    append_assoc done (cond b (get_or xs at 0 ∷ []) []) (kept f label (at + 1) (drop (at + 1) xs))
-    ∙ ap (λ ys. done ++ ys) (by b is ∙ sym (ap (kept f label at) (drop-at xs at lt)))
-    ∙ e
-  where
-    drop-at : (xs : List ℕ) (at : ℕ) → at < length xs → drop at xs ≡ get_or xs at 0 ∷ drop (at + 1) xs
-    drop-at xs at lt = rw add-one (drop-cons xs at 0 lt)
-
-    by : (b : Bool) → b ≡ is_counted_for f label (take (at + 1) label) → cond b (get_or xs at 0 ∷ []) [] ++ kept f label (at + 1) (drop (at + 1) xs) ≡ kept f label at (get_or xs at 0 ∷ drop (at + 1) xs)
-    by true is = rw (← is) refl
-    by false is = rw (← is) refl
 
 abbrev pub label_ordinals : Config → List (List ℕ) × List ℕ → List ℕ
 label_ordinals config l = ordinals_of_label config l.0 l.1

@@ -1,13 +1,13 @@
 -- The ordinals that are counted for labels stay, where a label list goes on.
-use Rattle.std.proofs.Common.{◌≡◌, ℕ, zero, suc, ◌⊎◌, ◌+◌, ◌-◌, ◌<◌, ◌≤◌, Bool, true, false, List, [], ◌∷◌, ◌++◌, length, take, drop, map, get_or, refl, sym, ap, subst, inl, inr, ◌∙◌, arith}
+use Rattle.std.proofs.Common.{◌≡◌, ℕ, zero, suc, ◌+◌, ◌-◌, ◌<◌, ◌≤◌, Bool, true, false, List, [], ◌∷◌, ◌++◌, length, take, drop, map, get_or, refl, sym, ap, subst, ◌∙◌, arith}
 use Rattle.std.specs.Prelude.{filter, ◌||◌, ◌&&◌, cond, nat_lt}
-use Rattle.std.specs.List.{list_any, list_all, enumerate_from}
+use Rattle.std.specs.List.{list_all, enumerate_from}
 use Rattle.std.proofs.lemmas.Bool.{true≢false, and_parts, and_from, false_from_ne_true}
 use Rattle.std.proofs.lemmas.List.{append-nil, get_or-append-add, length-append, take-append-drop, take-take, length-take-le}
 use Rattle.std.proofs.lemmas.List.Elements.{filter-append}
 use Rattle.std.proofs.lemmas.List.Folds.{list_any-append}
 use Rattle.std.proofs.lemmas.List.FromFn.{get_or-map-range_with_len, length-map-range_with_len}
-use Rattle.facet_names.specs.Paths.{path_eq, path_eq_equiv, is_under}
+use Rattle.facet_names.specs.Paths.{path_eq, is_under}
 use Rattle.facet_names.specs.Labels.{IsLabelList, GoesOn, prefixes, stands}
 use Rattle.facet_names.proofs.LabelLists.{same_path, fresh, root_stands}
 use Rattle.facet_model.specs.declared.flags.DimFlags.{DimFlags}

@@ -1,5 +1,5 @@
 -- What expanding a document's labels needs, and gives.
-use Rattle.std.specs.Prelude.{◌≡◌, ◌++◌, ℕ, List, length, nat_eq}
+use Rattle.std.specs.Prelude.{◌≡◌, ℕ, List, length, nat_eq}
 use Rattle.std.specs.List.{AllZip, list_any}
 use Rattle.facet_names.specs.Labels.{IsLabelList}
 use Rattle.facet_model.specs.Flags.{Config}

@@ -9,7 +9,7 @@ ghost use Rattle.facet_model.specs.Accepts.{broken_at, first_broken};
 ghost use Rattle.facet_model.specs.CountedPaths.{is_counted_for, ordinals_of_label};
 ghost use Rattle.facet_config.specs.Differences.{IsFirstDifference, first_different, is_different, nearer};
 ghost use Rattle.facet_config.specs.Expanding.{AreAsLong, AreExpanded};
-ghost use Rattle.facet_config.specs.Faults.{declare_fault, fault_view, outcome};
+ghost use Rattle.facet_config.specs.Faults.{declare_fault, outcome};
 
 use crate::fault::{DeclareFault, DocFault};
 use facet_model::{Counted, DimFlags, Document, Resolved};

@@ -1,4 +1,4 @@
-use Rattle.std.proofs.Common.{◌≡◌, List, ℕ, map, ap, ◌∙◌}
+use Rattle.std.proofs.Common.{◌≡◌, map, ap, ◌∙◌}
 use Rattle.std.specs.Prelude.{fold, option_map}
 use Rattle.facet_config.specs.Differences.{nearer}
 use Rattle.facet_config.proofs.Different.{first_of_both, when_none, when_some}

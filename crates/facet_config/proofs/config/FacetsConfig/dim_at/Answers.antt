@@ -1,4 +1,4 @@
-use Rattle.std.proofs.Common.{◌≡◌, map, slice_get, Some, ap, sym, ◌∙◌}
+use Rattle.std.proofs.Common.{map, slice_get, Some, ap, sym, ◌∙◌}
 use Rattle.std.specs.Prelude.{option_map}
 use Rattle.std.specs.Map.Iter.{deref_pair}
 use Rattle.facet_model.specs.Flags.{Config}

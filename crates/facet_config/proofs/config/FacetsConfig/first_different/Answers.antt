@@ -1,4 +1,4 @@
-use Rattle.std.proofs.Common.{◌≡◌, ◌<◌, map, take, get_or, [], List, ℕ, length, ap, sym, ◌∙◌, Option, arith}
+use Rattle.std.proofs.Common.{◌≡◌, ◌<◌, map, take, get_or, [], List, ℕ, length, ap, sym, ◌∙◌, Option}
 use Rattle.std.specs.Prelude.{fold, option_map}
 use Rattle.std.proofs.lemmas.List.Sums.{fold_more}
 use Rattle.std.proofs.lemmas.Option.{get_or_from_slice_get, slice_get_within}
