@@ -1,16 +1,15 @@
 -- One more list that is counted.
-use Rattle.std.proofs.Common.{◌≡◌, ◌≢◌, ℕ, suc, ◌+◌, ◌<◌, ◌≤◌, ◌⊎◌, Bool, true, false, ◌||◌, cond, List, [], ◌∷◌, ◌++◌, length, take, drop, get_or, set, nat_eq, refl, sym, ap, subst, ◌∙◌, arith, rules, inl, inr}
-use Rattle.std.specs.Prelude.{count_by, All}
+use Rattle.std.proofs.Common.{◌≡◌, ℕ, ◌+◌, ◌<◌, ◌≤◌, ◌⊎◌, Bool, true, false, ◌||◌, cond, List, [], ◌∷◌, ◌++◌, length, take, drop, get_or, set, nat_eq, refl, sym, ap, subst, ◌∙◌, arith, inl, inr}
+use Rattle.std.specs.Prelude.{count_by}
 use Rattle.std.specs.List.{list_any, AllPairs}
 use Rattle.std.proofs.lemmas.Bool.{cases_eq, cases_lt, eq-eqb, ne_eqb, eqb-true, false_from_ne_true}
 use Rattle.std.proofs.lemmas.List.{get_or-set_same, get_or-set_other, get_or-take, length-take-le, length_push, get_or_append_left, get_or_push, drop_more, length-drop, take_all}
 use Rattle.std.proofs.lemmas.List.Folds.{list_any_more}
 use Rattle.std.proofs.lemmas.List.Sums.{sum_by-cons}
-use Rattle.facet_counts.specs.Lists.{IsCounted, lists_at}
+use Rattle.facet_counts.specs.Lists.{IsCounted}
 use Rattle.facet_counts.specs.Tallies.{Tally, HasAdded}
 use Rattle.facet_counts.specs.Kept.{IsCounter}
 use Rattle.taxo_list.proofs.Labels.{place_of}
-use Rattle.facet_counts.proofs.Turns.{count_most}
 
 -- an ordinal of distinct ones is none of those before it
 pub not_yet : (ords : List ℕ) → AllPairs (λ a b. a ≡ b → ⊥) ords → (k : ℕ) → k < length ords → list_any (nat_eq (get_or ords k 0)) (take k ords) ≡ false
@@ -71,10 +70,6 @@ one_more_list tally own list counted plus lists has = record {
     each : (k : ℕ) (d : List ℕ) → k < length (lists ++ list ∷ []) → (k < length lists) ⊎ (length lists ≤ k) → IsCounted tally.config tally.labels (get_or (lists ++ list ∷ []) k d)
     each k d lt (inl low) = subst (IsCounted tally.config tally.labels) (sym (get_or_append_left lists (list ∷ []) d k low)) (has.each k d low)
     each k d lt (inr high) = subst (IsCounted tally.config tally.labels) (sym (get_or_push lists list d k (omega (arith, length_push lists list)))) counted
-
--- each number is at most that of the lists
-pub own_most : (tally : Tally) (rolled : List Bool) → IsCounter tally rolled → (i : ℕ) → i < length tally.labels → get_or tally.own i 0 ≤ tally.added
-own_most tally rolled counter i lt = omega (arith, counter.some.1.own i lt, counter.some.1.number, count_most (list_any (nat_eq i)) counter.some.0)
 
 pub counter_more : (tally : Tally) (rolled : List Bool) → IsCounter tally rolled → tally.added < 1000000 → (own list : List ℕ) → length own ≡ length tally.own → IsCounted tally.config tally.labels list → ((i : ℕ) → i < length tally.labels → get_or own i 0 ≡ get_or tally.own i 0 + cond (list_any (nat_eq i) list) 1 0)
     → IsCounter (record { labels = tally.labels; config = tally.config; own = own; added = tally.added + 1 }) rolled

@@ -1,5 +1,5 @@
 -- The counts below a path are those of the documents that were added.
-use Rattle.std.proofs.Common.{◌≡◌, ℕ, zero, suc, ◌+◌, ◌<◌, ◌≤◌, Bool, true, false, not, ◌&&◌, ◌||◌, ◌==◌, cond, ltb, List, [], ◌∷◌, ◌++◌, length, map, get_or, slice_get, Option, Some, None, pos, negsuc, refl, sym, ap, subst, ◌∙◌, arith, rules}
+use Rattle.std.proofs.Common.{◌≡◌, ℕ, zero, suc, ◌+◌, ◌<◌, ◌≤◌, Bool, true, false, not, ◌&&◌, ◌||◌, ◌==◌, cond, ltb, List, [], ◌∷◌, ◌++◌, length, map, get_or, slice_get, Option, Some, None, pos, negsuc, refl, sym, ap, subst, ◌∙◌, arith}
 use Rattle.std.specs.Prelude.{All, sum_by, nat_lt}
 use Rattle.std.specs.Option.{option_map_or}
 use Rattle.std.specs.List.{AllZip}
@@ -14,16 +14,15 @@ use Rattle.facet_model.specs.Flags.{Config, flags}
 use Rattle.facet_model.specs.Documents.{Doc, dim_of, count}
 use Rattle.facet_model.specs.Listing.{PartCount, IsListing, counted_child}
 use Rattle.facet_model.specs.Results.{AreChildren, value_of, specific}
-use Rattle.facet_model.specs.Asks.{AskFault, one_value, ask_fault, value_not_kept, is_kept_path, keeps_value}
+use Rattle.facet_model.specs.Asks.{one_value, ask_fault, value_not_kept, is_kept_path, keeps_value}
 use Rattle.facet_model.specs.declared.result.Child.{Child}
 use Rattle.facet_counts.specs.Lists.{IsListOf, lists_at}
 use Rattle.facet_counts.specs.Tallies.{Totals, AreCounts}
 use Rattle.facet_counts.specs.Kept.{IsTotals}
-use Rattle.facet_counts.specs.Children.{count_at}
 use Rattle.taxo_list.proofs.Labels.{label_at, root_first}
 use Rattle.facet_counts.proofs.Under.{some_part}
 use Rattle.facet_counts.proofs.Documents.{counted_at, none_counted}
-use Rattle.facet_counts.proofs.Listed.{absent_below}
+use Rattle.facet_counts.proofs.Listed.{count_at, absent_below}
 
 module _ (counts : Totals) (kept : IsTotals counts) (path : List (List ℕ)) (some : 0 < length path) where
   -- the ordinal of a path with a component is not the root's

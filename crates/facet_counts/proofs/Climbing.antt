@@ -1,9 +1,9 @@
 -- One step of the rolling up: the count of an ordinal goes to its parent.
-use Rattle.std.proofs.Common.{◌≡◌, ℕ, zero, suc, ◌+◌, ◌<◌, ◌≤◌, ◌⊎◌, Bool, true, false, not, ◌&&◌, ◌||◌, cond, List, [], ◌∷◌, length, get_or, Option, Some, None, nat_eq, refl, sym, ap, subst, ◌∙◌, arith, rules, inl, inr}
-use Rattle.std.specs.Prelude.{IfSome, nat_le, count_by, All}
+use Rattle.std.proofs.Common.{◌≡◌, ℕ, zero, suc, ◌+◌, ◌<◌, ◌≤◌, ◌⊎◌, Bool, true, false, ◌&&◌, ◌||◌, cond, List, [], ◌∷◌, Option, Some, None, nat_eq, refl, sym, ap, ◌∙◌, arith, inl, inr}
+use Rattle.std.specs.Prelude.{IfSome, nat_le, All}
 use Rattle.std.specs.Option.{option_map_or}
 use Rattle.std.specs.List.{list_any}
-use Rattle.std.proofs.lemmas.Bool.{cases_order, cases_lt, eq-eqb, ne_eqb, eqb-true, le-leb, lt-leb, true≢false, or_cases}
+use Rattle.std.proofs.lemmas.Bool.{cases_order, cases_lt, eq-eqb, ne_eqb, eqb-true, le-leb, lt-leb, true≢false}
 use Rattle.std.proofs.lemmas.List.Sums.{sum_by-cons}
 use Rattle.facet_counts.specs.Climbs.{climbs, climbed}
 
@@ -16,10 +16,6 @@ or_false false = refl
 and_false : (a : Bool) → (a && false) ≡ false
 and_false true = refl
 and_false false = refl
-
-or_assoc : (a b c : Bool) → (a || (b || c)) ≡ ((a || b) || c)
-or_assoc true b c = refl
-or_assoc false b c = refl
 
 -- two pairs, regrouped
 regrouped : (a b c d x : Bool) → ((a || (b && x)) || (c || (d && x))) ≡ ((a || c) || ((b || d) && x))
@@ -65,23 +61,6 @@ module _ (up : ℕ → Option ℕ) (small : (j : ℕ) → IfSome (up j) (λ p. p
       by : (o : Option ℕ) → IfSome o (λ p. p < 0) → option_map_or f o false ≡ false
       by None low = refl
       by (Some p) low = absurd (omega arith)
-
-  -- as many steps as the ordinal says are enough
-  pub steps_enough : (first i n m j : ℕ) → j ≤ n → j ≤ m → climbs up first n i j ≡ climbs up first m i j
-  steps_enough first i zero zero j a b = refl
-  steps_enough first i zero (suc m) j a b =
-      let none : j ≡ 0 = omega arith in
-      subst (λ j. nat_eq i j ≡ (nat_eq i j || (nat_le first j && option_map_or (climbs up first m i) (up j) false))) (sym none)
-      (sym (ap (λ b. nat_eq i 0 || (nat_le first 0 && b)) (at_zero (climbs up first m i)) ∙ ap (λ b. nat_eq i 0 || b) (and_false (nat_le first 0)) ∙ or_false (nat_eq i 0)))
-  steps_enough first i (suc n) zero j a b =
-      let none : j ≡ 0 = omega arith in
-      subst (λ j. (nat_eq i j || (nat_le first j && option_map_or (climbs up first n i) (up j) false)) ≡ nat_eq i j) (sym none)
-      (ap (λ b. nat_eq i 0 || (nat_le first 0 && b)) (at_zero (climbs up first n i)) ∙ ap (λ b. nat_eq i 0 || b) (and_false (nat_le first 0)) ∙ or_false (nat_eq i 0))
-  steps_enough first i (suc n) (suc m) j a b = ap (λ t. nat_eq i j || (nat_le first j && t)) (by (up j) (small j) (λ p low. steps_enough first i n m p (omega arith) (omega arith)))
-    where
-      by : (o : Option ℕ) → IfSome o (λ p. p < j) → ((p : ℕ) → p < j → climbs up first n i p ≡ climbs up first m i p) → option_map_or (climbs up first n i) o false ≡ option_map_or (climbs up first m i) o false
-      by None low again = refl
-      by (Some p) low again = again p low
 
   -- What reaches an ordinal by steps from k on reaches it by later steps, or reaches k so and k's count goes to the ordinal.
   pub one_step : (k i n j : ℕ) → j ≤ n → climbs up k n i j ≡ (climbs up (k + 1) n i j || (climbs up (k + 1) n k j && option_map_or (nat_eq i) (up k) false))

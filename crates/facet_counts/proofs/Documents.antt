@@ -1,6 +1,6 @@
 -- The lists that count for an ordinal are those of the documents that have its label.
 use Rattle.std.proofs.Common.{◌≡◌, ◌≢◌, ℕ, zero-add, zero, suc, ◌+◌, ◌-◌, ◌<◌, ◌≤◌, ◌⊎◌, Bool, true, false, not, ◌&&◌, ◌||◌, ◌==◌, cond, List, [], ◌∷◌, length, take, get_or, slice_get, Option, Some, None, nat_eq, refl, sym, ap, subst, ◌∙◌, arith, inl, inr}
-use Rattle.std.specs.Prelude.{nat_le, nat_lt, count_by, All, IsTrue, is_some, filter_map, if◌then◌else◌}
+use Rattle.std.specs.Prelude.{nat_le, nat_lt, All, IsTrue, is_some, filter_map, if◌then◌else◌}
 use Rattle.std.specs.Option.{option_map_or}
 use Rattle.std.specs.List.{list_any, list_all, AllZip, AllPairs, enumerate_from, cons_option}
 use Rattle.std.specs.Str.{bytes_eq}
@@ -17,7 +17,7 @@ use Rattle.facet_names.specs.Labels.{IsLabelList, place, stands, prefixes}
 use Rattle.facet_model.specs.declared.flags.DimFlags.{DimFlags}
 use Rattle.facet_model.specs.Flags.{Config, flags}
 use Rattle.facet_model.specs.Documents.{Doc, dim_of, has, count}
-use Rattle.facet_model.specs.Accepts.{Accepts, Broken, broken_at, first_broken, no_component, not_hierarchical, not_multi_valued}
+use Rattle.facet_model.specs.Accepts.{Accepts, broken_at, no_component, not_hierarchical, not_multi_valued}
 use Rattle.facet_model.specs.Asks.{is_kept_path, keeps_value}
 use Rattle.facet_model.specs.Histories.{knows}
 use Rattle.facet_model.specs.CountedPaths.{is_counted_for, is_counted, counted_ordinals}

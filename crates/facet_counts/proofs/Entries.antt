@@ -1,10 +1,10 @@
 -- The entries of a view's arrays as ordinals.
-use Rattle.std.proofs.Common.{◌≡◌, ℕ, zero, suc, ◌<◌, negsuc, List, [], length, get_or, slice_get, Option, Some, None, refl, sym, ap, subst, ◌∙◌, arith}
+use Rattle.std.proofs.Common.{◌≡◌, ℕ, zero, suc, ◌<◌, negsuc, List, [], length, get_or, slice_get, Option, Some, None, refl, ap, ◌∙◌, arith}
 use Rattle.std.proofs.lemmas.List.FromFn.{length-map-range_with_len}
 use Rattle.std.proofs.lemmas.Option.{slice_get-get_or}
 use Rattle.facet_names.specs.Labels.{IsLabelList, above}
 use Rattle.facet_names.specs.Arrays.{or_none, parent_at, child_at, sibling_at}
-use Rattle.taxo_list.specs.ArrayLists.{ArrayLists, arrays_of, by_ordinal}
+use Rattle.taxo_list.specs.ArrayLists.{ArrayLists, arrays_of}
 use Rattle.taxo_list.specs.Links.{ordinal}
 use Rattle.taxo_list.proofs.Labels.{parent_before}
 use Rattle.taxo_list.proofs.Linked.{entry}

@@ -1,26 +1,29 @@
 -- The children that are walked over, sorted, are a listing of the counts below the path.
-use Rattle.std.proofs.Common.{◌≡◌, ℕ, zero, suc, ◌+◌, ◌-◌, ◌<◌, ◌≤◌, ◌⊎◌, Bool, true, false, ◌&&◌, cond, ltb, List, [], ◌∷◌, ◌++◌, length, take, map, get_or, slice_get, Option, Some, None, nat_eq, refl, sym, ap, subst, ◌∙◌, arith, rules, inl, inr, Ordering}
-use Rattle.std.specs.Prelude.{IfSome, nat_lt, option_and_then, unwrap_or, count_by, sum_by, All}
+use Rattle.std.proofs.Common.{◌≡◌, ℕ, zero, suc, ◌+◌, ◌-◌, ◌<◌, ◌≤◌, ◌⊎◌, Bool, true, false, ◌&&◌, cond, List, [], ◌∷◌, ◌++◌, length, take, map, get_or, slice_get, Option, Some, None, nat_eq, refl, sym, ap, subst, ◌∙◌, arith, inl, inr, Ordering}
+use Rattle.std.specs.Prelude.{nat_lt, option_and_then, unwrap_or, count_by, All}
 use Rattle.std.specs.Option.{option_map_or}
 use Rattle.std.specs.Str.{bytes_eq}
 use Rattle.std.specs.Ordering.{nat_cmp, on, flip_args, then_cmp}
 use Rattle.std.specs.List.Sorted.{IsSorted, IsPermutation}
-use Rattle.std.specs.Cmp.Lexicographic.{slice_cmp, nat_list_eq_equiv, bytes_decides}
-use Rattle.std.proofs.lemmas.Bool.{true≢false, eqb-true, eq-eqb, cases_eq, cases_lt, lt-ltb, false_from_ne_true, and_parts, and_left}
-use Rattle.std.proofs.lemmas.List.{take_at, length-append, take_all, get_or-map, length-map, append-nil}
-use Rattle.std.proofs.lemmas.List.Elements.{All-nil, All-cons, All-weaker}
+use Rattle.std.specs.Cmp.Lexicographic.{slice_cmp, bytes_decides}
+use Rattle.std.proofs.lemmas.Bool.{eq-eqb, cases_eq, false_from_ne_true, and_left}
+use Rattle.std.proofs.lemmas.List.{take_at, length-append, get_or-map, length-map}
+use Rattle.std.proofs.lemmas.List.Elements.{All-nil, All-cons}
 use Rattle.std.proofs.lemmas.List.Sums.{sum_by-cons}
 use Rattle.std.proofs.lemmas.List.Sorted.{IsPermutation-map, All-permutation, sum_by-IsPermutation}
 use Rattle.std.proofs.lemmas.Option.{same_Some, none-some, slice_get-get_or, get_or_from_slice_get, slice_get_within}
-use Rattle.facet_names.specs.Paths.{path_eq}
-use Rattle.facet_names.specs.Labels.{IsLabelList, above, place, stands}
+use Rattle.facet_names.specs.Labels.{IsLabelList, above, place}
 use Rattle.facet_names.specs.Arrays.{is_child, parent_at}
 use Rattle.facet_model.specs.Listing.{PartCount, IsListing, counted_child, listing_cmp}
 use Rattle.facet_model.specs.declared.result.Child.{Child}
-use Rattle.facet_counts.specs.Children.{last_of, falling, entry_of, entries_of, children_at, count_at}
-use Rattle.taxo_list.proofs.Labels.{same_path, place_at, label_at, root_first}
+use Rattle.facet_counts.specs.Children.{last_of, falling, entry_of, entries_of, children_at}
+use Rattle.taxo_list.proofs.Labels.{place_at, label_at, root_first}
 use Rattle.facet_counts.proofs.Entries.{has_parent}
 use Rattle.facet_counts.proofs.Walk.{parent_of_child}
+
+-- the count at a path, and 0 where it is no label
+abbrev pub count_at : List (List (List ℕ)) → List ℕ → List (List ℕ) → ℕ
+count_at labels totals path = option_map_or (λ ord. get_or totals ord 0) (place labels path) 0
 
 -- ---- counting in a walk
 

@@ -1,8 +1,8 @@
 -- A label has the dimension of its parent, so both are rolled up or neither is.
-use Rattle.std.proofs.Common.{◌≡◌, ℕ, zero, suc, ◌+◌, ◌-◌, ◌<◌, ◌≤◌, ◌⊎◌, Bool, true, false, cond, List, [], ◌∷◌, length, take, get_or, slice_get, Option, Some, None, nat_eq, refl, sym, ap, subst, ◌∙◌, arith, rules, inl, inr}
+use Rattle.std.proofs.Common.{◌≡◌, ℕ, zero, suc, ◌-◌, ◌<◌, ◌≤◌, ◌⊎◌, Bool, true, false, List, [], ◌∷◌, length, take, get_or, slice_get, Option, Some, None, nat_eq, refl, sym, ap, ◌∙◌, arith, rules, inl, inr}
 use Rattle.std.specs.Option.{option_map_or}
-use Rattle.std.specs.Prelude.{◌&&◌, not, nat_le, IfSome, unwrap_or, option_and_then}
-use Rattle.std.proofs.lemmas.Bool.{eqb-true, or_cases, and_parts, cases_lt, cases_Bool, true≢false, ltb-true}
+use Rattle.std.specs.Prelude.{◌&&◌, not, nat_le, IfSome, option_and_then}
+use Rattle.std.proofs.lemmas.Bool.{eqb-true, or_cases, and_parts, cases_lt, true≢false}
 use Rattle.std.proofs.lemmas.Option.{none-some, same_Some, get_or_from_slice_get, slice_get-get_or, slice_get_past}
 use Rattle.facet_names.specs.Labels.{IsLabelList, above, place}
 use Rattle.facet_names.specs.Arrays.{parent_at}

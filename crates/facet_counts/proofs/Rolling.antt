@@ -1,11 +1,10 @@
 -- Rolling up one label's count after another gives how many lists count for each ordinal.
-use Rattle.std.proofs.Common.{◌≡◌, ◌≢◌, ℕ, zero, suc, ◌+◌, ◌<◌, ◌≤◌, ◌⊎◌, Bool, true, false, not, ◌&&◌, ◌||◌, cond, List, [], ◌∷◌, length, get_or, Option, Some, None, nat_eq, refl, sym, ap, subst, ◌∙◌, arith, rules, inl, inr}
+use Rattle.std.proofs.Common.{◌≡◌, ℕ, zero, suc, ◌+◌, ◌<◌, ◌⊎◌, Bool, true, false, not, ◌&&◌, ◌||◌, cond, List, [], ◌∷◌, length, get_or, Option, Some, None, nat_eq, refl, sym, ap, subst, ◌∙◌, arith, inl, inr}
 use Rattle.std.specs.Prelude.{IfSome, nat_le, count_by, All, option_and_then}
 use Rattle.std.specs.Option.{option_map_or}
 use Rattle.std.specs.List.{list_any}
-use Rattle.std.proofs.lemmas.Bool.{cases_order, cases_lt, cases_Bool, eq-eqb, ne_eqb, eqb-true, le-leb, lt-leb, true≢false, or_cases, and_parts, false_from_ne_true}
+use Rattle.std.proofs.lemmas.Bool.{cases_order, ne_eqb, le-leb, true≢false, and_parts}
 use Rattle.std.proofs.lemmas.List.Sums.{sum_by-cons}
-use Rattle.std.proofs.lemmas.Option.{same_Some}
 use Rattle.facet_names.specs.Labels.{IsLabelList}
 use Rattle.facet_names.specs.Arrays.{parent_at}
 use Rattle.facet_model.specs.Flags.{Config, flags}

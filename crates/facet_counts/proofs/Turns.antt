@@ -1,13 +1,11 @@
 -- One turn of the loop that rolls the counts up, and what it starts and ends with.
-use Rattle.std.proofs.Common.{◌≡◌, ℕ, suc, ◌+◌, ◌<◌, ◌≤◌, ◌^◌, ◌⊎◌, Bool, true, false, cond, List, [], ◌∷◌, length, get_or, set, Option, Some, None, nat_eq, refl, sym, ap, subst, ◌∙◌, arith, rules, inl, inr}
-use Rattle.std.specs.Prelude.{IfSome, count_by, All}
+use Rattle.std.proofs.Common.{◌≡◌, ℕ, ◌+◌, ◌<◌, ◌≤◌, ◌^◌, ◌⊎◌, Bool, true, false, cond, List, [], ◌∷◌, length, get_or, set, Option, Some, None, nat_eq, refl, sym, ap, subst, ◌∙◌, arith, rules, inl, inr}
+use Rattle.std.specs.Prelude.{IfSome, count_by}
 use Rattle.std.specs.Option.{option_map_or}
-use Rattle.std.specs.List.{list_any}
-use Rattle.std.proofs.lemmas.Bool.{cases_eq, eq-eqb, ne_eqb}
+use Rattle.std.proofs.lemmas.Bool.{cases_eq, ne_eqb}
 use Rattle.std.proofs.lemmas.List.{length-set, get_or-set_same, get_or-set_other}
 use Rattle.std.proofs.lemmas.List.Sums.{sum_by-cons}
-use Rattle.facet_model.specs.Flags.{Config}
-use Rattle.facet_counts.specs.Lists.{is_rolled, lists_at, counts_for}
+use Rattle.facet_counts.specs.Lists.{lists_at, counts_for}
 use Rattle.facet_counts.specs.Tallies.{Tally, HasAdded}
 use Rattle.facet_counts.specs.Climbs.{climbed, goes_to, next_of, IsRolledTo}
 use Rattle.facet_counts.specs.Kept.{IsCounter}

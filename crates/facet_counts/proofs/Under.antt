@@ -1,14 +1,11 @@
 -- Ancestors by ordinals are prefixes of paths.
-use Rattle.std.proofs.Common.{◌≡◌, ℕ, zero, suc, ◌+◌, ◌-◌, ◌<◌, ◌≤◌, ◌⊎◌, Bool, true, false, ◌||◌, List, [], ◌∷◌, ◌++◌, length, take, get_or, slice_get, Option, Some, None, nat_eq, refl, sym, ap, subst, ◌∙◌, arith, inl, inr}
+use Rattle.std.proofs.Common.{◌≡◌, ℕ, zero, suc, ◌-◌, ◌<◌, ◌≤◌, ◌⊎◌, Bool, true, false, ◌||◌, List, [], ◌∷◌, length, take, get_or, Some, nat_eq, refl, sym, ap, subst, ◌∙◌, arith, inl, inr}
 use Rattle.std.specs.Option.{option_map_or}
-use Rattle.std.specs.List.{list_any}
 use Rattle.std.proofs.lemmas.Bool.{cases_eq, cases_lt, eq-eqb, ne_eqb, false_from_ne_true}
-use Rattle.std.proofs.lemmas.List.{take-take, take_all, length-take-le, get_or_default}
-use Rattle.std.proofs.lemmas.List.Folds.{list_any_at}
-use Rattle.std.proofs.lemmas.Option.{same_Some, slice_get-get_or, get_or_from_slice_get, slice_get_within}
+use Rattle.std.proofs.lemmas.List.{take-take, take_all, length-take-le}
+use Rattle.std.proofs.lemmas.Option.{same_Some, slice_get-get_or, get_or_from_slice_get}
 use Rattle.facet_names.specs.Paths.{path_eq, path_eq_equiv, is_under}
-use Rattle.facet_names.specs.Labels.{IsLabelList, above, place, stands}
-use Rattle.facet_names.specs.Arrays.{parent_at}
+use Rattle.facet_names.specs.Labels.{IsLabelList, above, place}
 use Rattle.facet_model.specs.Flags.{Config}
 use Rattle.facet_counts.specs.Lists.{is_above}
 use Rattle.taxo_list.proofs.Labels.{same_path, place_at, root_first}

@@ -1,14 +1,18 @@
 -- The walk over the children of a label.
-use Rattle.std.proofs.Common.{◌≡◌, ℕ, zero, suc, ◌+◌, ◌<◌, ◌≤◌, Bool, true, false, cond, List, [], ◌∷◌, ◌++◌, length, map, get_or, Option, Some, None, nat_eq, refl, sym, ap, subst, ◌∙◌, arith, rules, ltb}
+use Rattle.std.proofs.Common.{◌≡◌, ℕ, zero, suc, ◌<◌, ◌≤◌, Bool, true, false, cond, List, [], ◌∷◌, ◌++◌, length, get_or, Option, Some, None, nat_eq, refl, sym, ap, ◌∙◌, arith, rules}
 use Rattle.std.specs.Prelude.{IfSome, nat_lt, option_and_then}
 use Rattle.std.specs.Option.{option_map_or}
 use Rattle.std.proofs.lemmas.Bool.{true≢false, eqb-true}
-use Rattle.std.proofs.lemmas.List.{append-nil, append_assoc, length-map}
+use Rattle.std.proofs.lemmas.List.{append_assoc}
 use Rattle.std.proofs.lemmas.Option.{IfSome_then}
 use Rattle.facet_names.specs.Arrays.{greatest, is_child, parent_at, child_at, sibling_at}
-use Rattle.facet_model.specs.Listing.{PartCount, counted_child}
-use Rattle.facet_model.specs.declared.result.Child.{Child}
-use Rattle.facet_counts.specs.Children.{falling, entry_of, entries_of, children_at, children_from}
+use Rattle.facet_model.specs.Listing.{PartCount}
+use Rattle.facet_counts.specs.Children.{falling, entry_of, entries_of, children_at}
+
+-- from this child on
+abbrev pub children_from : List (List (List ℕ)) → List ℕ → ℕ → Option ℕ → List PartCount
+children_from labels totals ord None = []
+children_from labels totals ord (Some c) = entries_of labels totals (c ∷ falling (is_child labels ord) c)
 
 -- the greatest that passes is below the bound, and passes
 pub greatest_passes : (passes : ℕ → Bool) (n : ℕ) → IfSome (greatest passes n) (λ c. (c < n) × (passes c ≡ true))

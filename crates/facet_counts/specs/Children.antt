@@ -1,7 +1,5 @@
 -- The children of a label with their counts, as the code walks over them.
-use Rattle.std.specs.Prelude.{◌-◌, ◌∷◌, ℕ, zero, suc, nat_lt, Bool, if◌then◌else◌, List, [], length, slice_get, slice_index_or, unwrap_or, Option, Some, None}
-use Rattle.std.specs.Option.{option_map_or}
-use Rattle.facet_names.specs.Labels.{place}
+use Rattle.std.specs.Prelude.{◌-◌, ◌∷◌, ℕ, zero, suc, nat_lt, Bool, if◌then◌else◌, List, [], length, slice_get, slice_index_or, unwrap_or}
 use Rattle.facet_names.specs.Arrays.{is_child}
 use Rattle.facet_model.specs.Listing.{PartCount}
 
@@ -26,12 +24,3 @@ entries_of labels totals (c ∷ cs) = if nat_lt 0 (slice_index_or totals c 0) th
 -- all of a label's, the one that was added last first
 abbrev pub children_at : List (List (List ℕ)) → List ℕ → ℕ → List PartCount
 children_at labels totals ord = entries_of labels totals (falling (is_child labels ord) (length labels))
-
--- from this child on
-abbrev pub children_from : List (List (List ℕ)) → List ℕ → ℕ → Option ℕ → List PartCount
-children_from labels totals ord None = []
-children_from labels totals ord (Some c) = entries_of labels totals (c ∷ falling (is_child labels ord) c)
-
--- the count at a path, and 0 where it is no label
-abbrev pub count_at : List (List (List ℕ)) → List ℕ → List (List ℕ) → ℕ
-count_at labels totals path = option_map_or (λ ord. slice_index_or totals ord 0) (place labels path) 0

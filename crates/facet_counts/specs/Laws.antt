@@ -1,5 +1,5 @@
 -- What follows from the definitions alone.
-use Rattle.std.specs.Prelude.{◌≡◌, ◌<◌, ℕ, List, length, None}
+use Rattle.std.specs.Prelude.{◌≡◌, ℕ, List, None}
 use Rattle.std.specs.List.{AllZip}
 use Rattle.facet_names.specs.Labels.{IsLabelList, place}
 use Rattle.facet_model.specs.Documents.{Doc, count}

@@ -1,7 +1,6 @@
 -- What a counter and its counts hold of the lists that were added.
-use Rattle.std.specs.Prelude.{◌≡◌, ◌<◌, ◌≤◌, ℕ, List, length, slice_index_or, count_by, nat_eq, All}
+use Rattle.std.specs.Prelude.{◌≡◌, ◌<◌, ℕ, List, length, slice_index_or, count_by, nat_eq, All}
 use Rattle.std.specs.List.{list_any}
-use Rattle.facet_names.specs.Labels.{IsLabelList}
 use Rattle.facet_model.specs.Flags.{Config}
 use Rattle.facet_counts.specs.Lists.{IsCounted, lists_at}
 

@@ -1,7 +1,7 @@
 //! The children of a label with their counts.
-ghost use Rattle.std.specs.Prelude.{◌≡◌, ◌<◌, ◌≤◌, ◌++◌, ◌*◌, ◌∷◌, [], ℕ, All, length, map, slice_index_or, sum_by, if◌then◌else◌, nat_lt, IfOk, OnOk};
+ghost use Rattle.std.specs.Prelude.{◌≡◌, ◌<◌, ◌≤◌, ◌++◌, ◌*◌, ◌∷◌, [], All, length, map, sum_by, IfOk, OnOk};
 ghost use Rattle.facet_model.specs.Listing.{counted_child};
-ghost use Rattle.facet_counts.specs.Children.{last_of, entry_of, entries_of, children_at};
+ghost use Rattle.facet_counts.specs.Children.{last_of, entries_of, children_at};
 
 use crate::links::{child_of, sibling_of};
 use facet_model::{Child, Word};

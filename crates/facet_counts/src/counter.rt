@@ -1,4 +1,4 @@
-ghost use Rattle.std.specs.Prelude.{◌≡◌, ◌<◌, ◌≤◌, ◌+◌, ◌++◌, ◌∷◌, ◌^◌, [], List, ℕ, All, nat_eq, length, slice_index_or, if◌then◌else◌, IfOk};
+ghost use Rattle.std.specs.Prelude.{◌≡◌, ◌<◌, ◌+◌, ◌++◌, ◌∷◌, ◌^◌, [], List, ℕ, All, nat_eq, length, slice_index_or, if◌then◌else◌, IfOk};
 ghost use Rattle.std.specs.List.{list_any, AllPairs};
 ghost use Rattle.facet_counts.specs.Lists.{IsCounted};
 ghost use Rattle.facet_counts.specs.Tallies.{HasAdded, AreCounts};

@@ -1,4 +1,4 @@
-ghost use Rattle.std.specs.Prelude.{◌≡◌, ◌<◌, ◌≤◌, ◌^◌, ◌∷◌, [], ℕ, List, Some, None, true, not, nat_lt, pos, negsuc, length, map, slice_index_or, option_map, if◌then◌else◌, IfOk};
+ghost use Rattle.std.specs.Prelude.{◌≡◌, ◌<◌, ◌^◌, ℕ, List, Some, None, true, not, nat_lt, pos, negsuc, length, map, slice_index_or, option_map, if◌then◌else◌, IfOk};
 ghost use Rattle.std.specs.List.{AllZip};
 ghost use Rattle.facet_names.specs.Labels.{place};
 ghost use Rattle.facet_model.specs.Asks.{one_value, ask_fault, is_kept_path};

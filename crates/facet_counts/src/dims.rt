@@ -1,5 +1,5 @@
 //! The results of dimensions, put together.
-ghost use Rattle.std.specs.Prelude.{◌≡◌, ◌||◌, ◌∷◌, [], ℕ, List, Bool, false, None, OnOk, map, option_map};
+ghost use Rattle.std.specs.Prelude.{◌≡◌, ◌||◌, ◌∷◌, [], ℕ, List, Bool, false, None, OnOk, OnErr, map, option_map};
 ghost use Rattle.std.specs.Str.{bytes_eq};
 ghost use Rattle.facet_model.specs.Documents.{Doc};
 ghost use Rattle.facet_model.specs.Flags.{Config};
@@ -11,9 +11,11 @@ use facet_model::FacetResult;
 use facet_names::NoMemory;
 use std::cmp::Ordering;
 
-/// Puts the result of one more dimension to those of others, if it has one. Each dimension may be counted over documents of its own.
+/// Puts the result of one more dimension to those of others, if it has one. Each dimension may be counted over documents of its own. After
+/// NoMemory the results are as before.
 pub fn note_dim(results: &mut Vec<FacetResult>, top: Option<FacetResult>) -> Result<(), NoMemory>
-    ensures { OnOk result ((among : List ℕ → Bool) (config : Config) (docs_of : List ℕ → List Doc) (n : ℕ) (dim : List ℕ) → among dim ≡ false → IsTop config (docs_of dim) (dim ∷ []) n (option_map result_view top) → AreDims among config docs_of n (map result_view results.old.items) → AreDims (λ d. bytes_eq d dim || among d) config docs_of n (map result_view results.new.items)) }
+    ensures noted { OnOk result ((among : List ℕ → Bool) (config : Config) (docs_of : List ℕ → List Doc) (n : ℕ) (dim : List ℕ) → among dim ≡ false → IsTop config (docs_of dim) (dim ∷ []) n (option_map result_view top) → AreDims among config docs_of n (map result_view results.old.items) → AreDims (λ d. bytes_eq d dim || among d) config docs_of n (map result_view results.new.items)) }
+    ensures same { OnErr result (results.new.items ≡ results.old.items) }
 {
     if let Some(top) = top {
         results.push(top)?;

@@ -1,4 +1,4 @@
-ghost use Rattle.std.specs.Prelude.{◌≡◌, ◌<◌, ◌≤◌, true, length, IfOk};
+ghost use Rattle.std.specs.Prelude.{◌≡◌, ◌<◌, true, length, IfOk};
 ghost use Rattle.facet_names.specs.Labels.{above, stands};
 ghost use Rattle.facet_model.specs.Flags.{flags};
 ghost use Rattle.facet_counts.specs.Lists.{IsCounted, dim_at};

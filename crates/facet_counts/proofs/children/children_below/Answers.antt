@@ -1,12 +1,12 @@
-use Rattle.std.proofs.Common.{arith, rules, ap, sym, subst, ◌≡◌, ◌<◌, ◌∙◌, ◌++◌, ◌∷◌, [], List, ℕ, Option, map, true, get_or, suc, Some, None, length}
+use Rattle.std.proofs.Common.{arith, ap, sym, subst, ◌≡◌, ◌<◌, ◌∙◌, ◌++◌, [], map, true, suc, Some, length}
 use Rattle.std.specs.Prelude.{IfSome}
 use Rattle.std.specs.Option.{option_map_or}
 use Rattle.std.proofs.lemmas.List.{append-nil, length-map}
 use Rattle.std.proofs.lemmas.Option.{IfSome_then}
-use Rattle.facet_names.specs.Arrays.{is_child, greatest, sibling_at}
-use Rattle.facet_model.specs.Listing.{PartCount, counted_child}
-use Rattle.facet_counts.specs.Children.{children_from, children_at}
-use Rattle.facet_counts.proofs.Walk.{walk_starts, walk_goes_on, greatest_passes, sibling_is, children_few, smaller_next}
+use Rattle.facet_names.specs.Arrays.{is_child, greatest}
+use Rattle.facet_model.specs.Listing.{counted_child}
+use Rattle.facet_counts.specs.Children.{children_at}
+use Rattle.facet_counts.proofs.Walk.{children_from, walk_starts, walk_goes_on, greatest_passes, sibling_is, children_few, smaller_next}
 use Rattle.facet_counts.proofs.children.children_below.Goals as goal
 
 pub loop-next-init : goal.loop-next-init

@@ -1,9 +1,10 @@
-use Rattle.std.proofs.Common.{◌≡◌, ◌<◌, ◌++◌, ℕ, suc, true, length, map}
+use Rattle.std.proofs.Common.{◌≡◌, ◌<◌, ◌++◌, suc, true, length, map}
 use Rattle.std.specs.Prelude.{IfSome}
 use Rattle.std.specs.Option.{option_map_or}
 use Rattle.facet_names.specs.Arrays.{is_child}
 use Rattle.facet_model.specs.Listing.{counted_child}
-use Rattle.facet_counts.specs.Children.{children_at, children_from}
+use Rattle.facet_counts.specs.Children.{children_at}
+use Rattle.facet_counts.proofs.Walk.{children_from}
 use Rattle.facet_counts.proofs.children.children_below.Given as goal
 
 abbrev pub invariant-loop-next : goal.invariant-loop-next

@@ -1,4 +1,4 @@
-use Rattle.std.proofs.Common.{◌≡◌, ◌≤◌, ◌*◌, ℕ, take, sum_by}
+use Rattle.std.proofs.Common.{◌≡◌, ◌≤◌, ◌*◌, take, sum_by}
 use Rattle.facet_model.specs.declared.result.Child.{Child}
 use Rattle.facet_counts.proofs.children.sum_of.Given as goal
 

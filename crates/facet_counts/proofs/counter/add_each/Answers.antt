@@ -1,4 +1,4 @@
-use Rattle.std.proofs.Common.{arith, rules, ap, sym, subst, ◌≡◌, ◌<◌, ◌≤◌, ◌+◌, ◌∙◌, ◌∷◌, ℕ, List, length, get_or, cond, take, drop, nat_eq, set}
+use Rattle.std.proofs.Common.{arith, ap, sym, subst, ◌≡◌, ◌<◌, ◌+◌, ◌∙◌, ℕ, length, get_or, cond, take, nat_eq, set}
 use Rattle.std.specs.List.{list_any}
 use Rattle.std.proofs.lemmas.List.{length-set}
 use Rattle.facet_counts.proofs.Adding.{next_left, none_left, not_yet, added_next}

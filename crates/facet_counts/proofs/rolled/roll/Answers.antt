@@ -1,8 +1,7 @@
-use Rattle.std.proofs.Common.{arith, ap, sym, subst, ◌≡◌, ◌<◌, ◌+◌, ◌-◌, ◌∙◌, ℕ, List, length}
+use Rattle.std.proofs.Common.{arith, sym, subst, ◌≡◌, ◌<◌, ◌+◌, ◌-◌, ℕ, List, length}
 use Rattle.facet_model.specs.Flags.{Config}
 use Rattle.facet_counts.specs.Tallies.{Tally}
 use Rattle.facet_counts.specs.Climbs.{IsRolledTo}
-use Rattle.facet_counts.specs.Kept.{IsCounter}
 use Rattle.taxo_list.proofs.Labels.{some_label}
 use Rattle.facet_counts.proofs.Turns.{rolled_none, fits, turned}
 use Rattle.facet_counts.proofs.rolled.roll.Goals as goal

@@ -1,4 +1,4 @@
-use Rattle.std.proofs.Common.{◌≡◌, ◌<◌, ◌≤◌, ℕ, length}
+use Rattle.std.proofs.Common.{◌<◌, ◌≤◌, ℕ, length}
 use Rattle.facet_model.specs.Flags.{Config}
 use Rattle.facet_counts.specs.Climbs.{IsRolledTo}
 use Rattle.facet_counts.specs.Kept.{IsCounter}

@@ -1,4 +1,4 @@
-use Rattle.std.proofs.Common.{◌≡◌, ◌<◌, ◌≤◌, ℕ, false, length, get_or}
+use Rattle.std.proofs.Common.{◌≡◌, ◌<◌, ℕ, false, length, get_or}
 use Rattle.facet_counts.specs.Lists.{is_rolled}
 use Rattle.facet_counts.proofs.rolled.rolled_labels.Given as goal
 

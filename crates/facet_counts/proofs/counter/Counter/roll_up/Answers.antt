@@ -1,8 +1,7 @@
-use Rattle.std.proofs.Common.{arith, rules, ap, sym, subst, ◌≡◌, ◌<◌, ◌∙◌, Bool, ℕ, List, length, get_or}
+use Rattle.std.proofs.Common.{arith, ap, sym, subst, ◌≡◌, ◌∙◌}
 use Rattle.std.specs.Vec.{with_items}
 use Rattle.std.proofs.lemmas.List.{with_items_is}
-use Rattle.facet_counts.specs.Lists.{lists_at}
-use Rattle.facet_counts.specs.Tallies.{Tally, HasAdded, Totals, AreCounts}
+use Rattle.facet_counts.specs.Tallies.{Tally, HasAdded, AreCounts}
 use Rattle.facet_counts.specs.Climbs.{IsRolledTo}
 use Rattle.facet_counts.specs.Kept.{IsCounter, IsTotals}
 use Rattle.facet_counts.proofs.Turns.{rolled_all, rolled_small}

@@ -1,6 +1,5 @@
-use Rattle.std.proofs.Common.{true, map}
+use Rattle.std.proofs.Common.{true}
 use Rattle.std.proofs.lemmas.Bool.{true≢false}
-use Rattle.facet_model.specs.ResultViews.{result_view}
 use Rattle.facet_counts.proofs.counts.Counts.all_dims.Goals as goal
 
 pub returns : goal.returns

@@ -1,4 +1,4 @@
-use Rattle.std.proofs.Common.{arith, sym, subst, ◌≡◌, ◌∙◌, List, ℕ, Some, true, length, get_or}
+use Rattle.std.proofs.Common.{arith, subst, ◌≡◌, ◌∙◌, List, ℕ, Some, true}
 use Rattle.std.specs.List.{AllZip}
 use Rattle.std.proofs.lemmas.List.{get_or_default}
 use Rattle.facet_names.specs.Labels.{place}

@@ -1,10 +1,9 @@
-use Rattle.std.proofs.Common.{arith, ap, sym, subst, refl, ◌≡◌, ◌<◌, ◌||◌, ◌∙◌, ◌∷◌, [], List, ℕ, Option, Some, None, suc, true, length, map, get_or, slice_get}
+use Rattle.std.proofs.Common.{arith, sym, subst, refl, ◌≡◌, ◌<◌, ◌∙◌, ◌∷◌, [], List, ℕ, Some, suc, true, length, map, get_or}
 use Rattle.std.specs.Prelude.{IfSome, option_map}
 use Rattle.std.specs.List.{AllZip}
 use Rattle.std.specs.Option.{option_map_or}
-use Rattle.std.specs.Str.{bytes_eq}
 use Rattle.std.proofs.lemmas.Option.{IfSome_then, get_or_from_slice_get}
-use Rattle.facet_names.specs.Arrays.{is_child, greatest, child_at, sibling_at}
+use Rattle.facet_names.specs.Arrays.{is_child, greatest, child_at}
 use Rattle.facet_model.specs.Documents.{Doc}
 use Rattle.facet_model.specs.ResultViews.{result_view}
 use Rattle.facet_model.specs.Results.{IsTop}
@@ -51,7 +50,7 @@ loop-next-preserved c =
       λ docs lists are all.
           let so_far = subst (λ o. AreDims (walked c.self.inside.view.now o) c.self.inside.config.now (λ _. docs) c.args.n (map result_view c.loop-next.results.items)) c.in-Some.is (before docs lists are all) in
           let here = subst (λ p. IsTop c.self.inside.config.now docs p c.args.n (option_map result_view c.in_ok-top.top)) (sym label ∙ dim.1) (top docs lists are all) in
-          let more = c.in_ok-note_dim.ensures (walked c.self.inside.view.now (Some c.in-Some.ord)) c.self.inside.config.now (λ _. docs) c.args.n (last_of (get_or c.self.inside.view.now c.in-Some.ord [])) (not_walked c.self.inside.view.now c.size.ensures.list c.in-Some.ord at.0 at.1) here so_far in
+          let more = c.in_ok-note_dim.ensures.noted (walked c.self.inside.view.now (Some c.in-Some.ord)) c.self.inside.config.now (λ _. docs) c.args.n (last_of (get_or c.self.inside.view.now c.in-Some.ord [])) (not_walked c.self.inside.view.now c.size.ensures.list c.in-Some.ord at.0 at.1) here so_far in
           subst (λ o. AreDims (walked c.self.inside.view.now o) c.self.inside.config.now (λ _. docs) c.args.n (map result_view c.note_dim.new.results.items)) (sym c.sibling_of-next.ensures)
           (subst (λ among. AreDims among c.self.inside.config.now (λ _. docs) c.args.n (map result_view c.note_dim.new.results.items)) (walk_goes c.self.inside.view.now c.size.ensures.list c.in-Some.ord at.0 at.1) more),
       subst (λ o. IfSome o (λ k. (k < length c.self.inside.view.now) × (is_child c.self.inside.view.now 0 k ≡ true))) (sym next) (IfSome_then (greatest (is_child c.self.inside.view.now 0) c.in-Some.ord) (greatest_passes (is_child c.self.inside.view.now 0) c.in-Some.ord) (λ s p. (omega (arith, p.0, at.0), p.1))),

@@ -1,11 +1,11 @@
-use Rattle.std.proofs.Common.{arith, rules, ap, sym, subst, ◌≡◌, ◌<◌, ◌∙◌, List, ℕ, Option, Some, None, true, length, get_or, pos, w64, to_z, of_z}
+use Rattle.std.proofs.Common.{arith, rules, ap, sym, subst, ◌≡◌, ◌<◌, ◌∙◌, List, ℕ, Some, None, length, get_or, pos, w64, to_z, of_z}
 use Rattle.std.specs.Prelude.{nat_lt}
 use Rattle.std.specs.List.{AllZip}
 use Rattle.std.specs.Option.{option_map_or}
 use Rattle.std.proofs.lemmas.List.{get_or_default}
 use Rattle.std.proofs.lemmas.Option.{slice_get_within}
 use Rattle.facet_names.specs.Labels.{place}
-use Rattle.facet_model.specs.Asks.{one_value, ask_fault, is_kept_path}
+use Rattle.facet_model.specs.Asks.{one_value, ask_fault}
 use Rattle.facet_model.specs.Documents.{Doc, count}
 use Rattle.facet_model.specs.Results.{specific}
 use Rattle.taxo_list.proofs.Labels.{label_at}

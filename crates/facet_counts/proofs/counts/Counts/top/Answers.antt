@@ -1,6 +1,5 @@
-use Rattle.std.proofs.Common.{arith, rules, ap, sym, subst, refl, ◌≡◌, ◌<◌, ◌∙◌, ◌++◌, ◌∷◌, [], List, ℕ, Some, None, false, length}
+use Rattle.std.proofs.Common.{sym, subst, refl, ◌≡◌, ◌∙◌, [], List, ℕ, None}
 use Rattle.std.specs.List.{AllZip}
-use Rattle.std.proofs.lemmas.Option.{slice_get_within}
 use Rattle.facet_names.specs.Labels.{place}
 use Rattle.facet_model.specs.Documents.{Doc}
 use Rattle.facet_model.specs.Results.{IsTop}

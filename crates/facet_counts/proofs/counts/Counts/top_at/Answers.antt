@@ -1,5 +1,5 @@
-use Rattle.std.proofs.Common.{arith, rules, ap, sym, subst, refl, ◌≡◌, ◌<◌, ◌≤◌, ◌∙◌, ◌++◌, ◌∷◌, [], List, ℕ, ℤ, Option, Some, None, false, length, map, take, get_or, slice_get, pos, negsuc, w64, to_z, of_z}
-use Rattle.std.specs.Prelude.{not, All, sum_by}
+use Rattle.std.proofs.Common.{arith, rules, ap, sym, subst, ◌≡◌, ◌<◌, ◌≤◌, ◌∙◌, ◌++◌, ◌∷◌, [], List, ℕ, Some, None, length, map, take, get_or, slice_get, w64, to_z, of_z}
+use Rattle.std.specs.Prelude.{All, sum_by}
 use Rattle.std.specs.List.{AllZip}
 use Rattle.std.proofs.lemmas.Bool.{eqb-true, eqb-false}
 use Rattle.std.proofs.lemmas.Option.{slice_get_within}
@@ -8,15 +8,15 @@ use Rattle.facet_names.specs.Labels.{place}
 use Rattle.facet_model.specs.Documents.{Doc, dim_of, count}
 use Rattle.facet_model.specs.Flags.{flags}
 use Rattle.facet_model.specs.Listing.{PartCount, IsListing, counted_child}
-use Rattle.facet_model.specs.Results.{IsTop, Listed, listed, value_of}
+use Rattle.facet_model.specs.Results.{IsTop, value_of}
 use Rattle.facet_model.specs.declared.result.Child.{Child}
 use Rattle.facet_model.proofs.Tops.{none_is, some_is}
 use Rattle.facet_counts.specs.Lists.{IsListOf}
 use Rattle.facet_counts.specs.Tallies.{Totals, AreCounts}
 use Rattle.facet_counts.specs.Kept.{IsTotals}
-use Rattle.facet_counts.specs.Children.{children_at, count_at}
+use Rattle.facet_counts.specs.Children.{children_at}
 use Rattle.taxo_list.proofs.Labels.{label_at}
-use Rattle.facet_counts.proofs.Listed.{listing_is}
+use Rattle.facet_counts.proofs.Listed.{count_at, listing_is}
 use Rattle.facet_counts.proofs.Below.{listing_of_docs, value_is, children_small, sum_of_children}
 use Rattle.facet_counts.proofs.counts.Counts.top_at.Goals as goal
 
