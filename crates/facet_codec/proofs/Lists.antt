@@ -2,7 +2,7 @@
 use Rattle.std.proofs.Common.{◌≡◌, ℕ, zero, suc, ◌+◌, ◌-◌, ◌<◌, ◌≤◌, List, [], ◌∷◌, ◌++◌, length, Result, Ok, Err, refl, sym, ap, subst, ◌∙◌, append_assoc, length-append, arith}
 use Rattle.std.specs.List.{flat_map, AllByRecursion}
 use Rattle.std.proofs.lemmas.List.{flat_map_more, append-nil}
-use Rattle.facet_codec.specs.Places.{Place, IsBytes}
+use Rattle.facet_codec.specs.Places.{Place}
 use Rattle.facet_codec.specs.Reading.{◌>>=◌}
 use Rattle.facet_codec.specs.Lists.{list_at, AreSoMany, offsets}
 use Rattle.facet_codec.specs.Laws.{Takes, IsSpelled, ReadsBack}
@@ -48,10 +48,6 @@ pub record IsPart {A F : Type 0} (read total : Result (List A × Place) F) : Typ
   pub front : List A
   pub is : with_front front read ≡ total
 
-pub part_starts : {A F : Type 0} (read : Result (List A × Place) F) → IsPart read read
-part_starts (Ok x) = record { front = []; is = refl }
-part_starts (Err e) = record { front = []; is = refl }
-
 pub regroup : {A F : Type 0} (front : List A) (x : A) (read : Result (List A × Place) F) → with_front front (one_more x read) ≡ with_front (front ++ x ∷ []) read
 regroup front x (Ok y) = ap (λ (xs : List _). Ok (xs, y.1)) (simp append_assoc)
 regroup front x (Err e) = refl
@@ -66,11 +62,6 @@ pub part_done : {A F : Type 0} (p : Place) (read total : Result (List A × Place
 part_done p read total k h = (h.front ++ [], sym (rw k at h.is))
 
 -- the same for so many values by one reader; i of them were read
-pub list_starts : {A F : Type 0} (read : Place → Result (A × Place) F) (n : ℕ) (p : Place) → IsPart (list_at read (n - 0) p) (list_at read n p)
-list_starts read n p =
-    let k : n - 0 ≡ n = omega arith in
-    rw k (part_starts (list_at read n p))
-
 pub list_more : {A F : Type 0} (read : Place → Result (A × Place) F) (n i : ℕ) (p q : Place) (x : A) (total : Result (List A × Place) F) → i < n → read p ≡ Ok (x, q) → IsPart (list_at read (n - i) p) total → IsPart (list_at read (n - (i + 1)) q) total
 unfolding list_at
 list_more read n i p q x total lt e h =
@@ -104,13 +95,6 @@ offsets_push spell at (y ∷ xs) x =
     let n : at + length (spell y) + length (flat_map spell xs) ≡ at + length (spell y ++ flat_map spell xs) = omega (arith, length-append (spell y) (flat_map spell xs)) in
     ap (λ (ns : List ℕ). at ∷ ns) (offsets_push spell (at + length (spell y)) xs x ∙ ap (λ (m : ℕ). offsets spell (at + length (spell y)) xs ++ m ∷ []) n)
 
-marked_first : {A F : Type 0} (spell : A → List ℕ) (p : Place) (read : Result (List A × Place) F) → IsBytes p.rest → IsMarked spell p p [] read read
-marked_first spell p (Ok x) fits = record { front = []; is = refl; marks_are = refl; taken = Takes-none p fits }
-marked_first spell p (Err e) fits = record { front = []; is = refl; marks_are = refl; taken = Takes-none p fits }
-
-pub marked_starts : {A F : Type 0} (spell : A → List ℕ) (p : Place) (marks : List ℕ) (read total : Result (List A × Place) F) → marks ≡ [] → read ≡ total → IsBytes p.rest → IsMarked spell p p marks read total
-marked_starts spell p marks read total e k fits = rw (e, k) (marked_first spell p total fits)
-
 pub marked_more : {A F : Type 0} (spell : A → List ℕ) (start p q : Place) (marks : List ℕ) (x : A) (read more total : Result (List A × Place) F) → read ≡ one_more x more → Takes p (spell x) q → IsMarked spell start p marks read total → IsMarked spell start q (marks ++ p.at ∷ []) more total
 marked_more spell start p q marks x read more total e t h =
     record {
@@ -119,9 +103,6 @@ marked_more spell start p q marks x read more total e t h =
       marks_are = rw (h.marks_are, h.taken.at) (sym (offsets_push spell start.at h.front x));
       taken = rw (← flat_map_more spell [] h.front x) (Takes-then start (flat_map spell h.front) p (spell x) q h.taken t);
     }
-
-pub marked_fails : {A F : Type 0} (spell : A → List ℕ) (start p : Place) (marks : List ℕ) (e : F) (read total : Result (List A × Place) F) → read ≡ Err e → IsMarked spell start p marks read total → total ≡ Err e
-marked_fails spell start p marks e read total k h = sym (rw k at h.is)
 
 pub marked_done : {A F : Type 0} (spell : A → List ℕ) (start p : Place) (marks : List ℕ) (read total : Result (List A × Place) F) → read ≡ Ok ([], p) → IsMarked spell start p marks read total → (xs : List A) × (total ≡ Ok (xs, p)) × (marks ≡ offsets spell start.at xs)
 marked_done spell start p marks read total k h = (h.front, sym (rw (k, append-nil) at h.is), h.marks_are)

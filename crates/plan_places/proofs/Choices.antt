@@ -8,7 +8,7 @@ use Rattle.seg_postings.specs.Rising.{IsRising, is_in, from_place, first_of}
 use Rattle.seg_postings.proofs.Order.{rising_from, rising_filter}
 use Rattle.seg_postings.proofs.Members.{is_in-either}
 use Rattle.plan_places.specs.Planned.{Planned, all_nodes, moved_to, any_of, all_have, is_chosen, chosen_of}
-use Rattle.plan_places.specs.Steps.{IsSameFrom, AreSameFrom, AreNoneBefore, IsMeeting}
+use Rattle.plan_places.specs.Steps.{IsSameFrom, AreSameFrom, AreNoneBefore}
 use Rattle.plan_places.proofs.Walks.{from_twice, all_from, is_in_from, is_in_same, first_some, first_none, first_from, before_first, from_first, is_first}
 use Rattle.plan_places.proofs.Unions.{any_moved, rising_any, nodes_below}
 
@@ -239,19 +239,9 @@ ahead_shorter first next lead lead1 f e head lt head1 = shorter first next lead.
 
 -- ---- the choice at one place
 
-false_and : (b c : Bool) → b ≡ false → (b && c) ≡ false
-false_and b c e = rw e refl
-
 and_not : (b c : Bool) → c ≡ true → (b && not c) ≡ false
 and_not true c e = rw e refl
 and_not false c e = refl
-
-pub none_chosen : (others excluded : List Planned) (first : ℕ) → IsMeeting (λ n. all_have n others) first None → IsMeeting (is_chosen others excluded) first None
-none_chosen others excluded first h = λ n le. false_and (all_have n others) (not (is_in n (any_of excluded))) (h n le)
-
-pub chosen_later : (others excluded : List Planned) (first next : ℕ) → AreNoneBefore (λ n. all_have n others) first next → first < next → AreNoneBefore (is_chosen others excluded) first next
-chosen_later others excluded first next h lt =
-    record { from = h.from; none = λ n le lt2. false_and (all_have n others) (not (is_in n (any_of excluded))) (h.none n le lt2); found = λ e. absurd (omega arith) }
 
 excluded_is : (excluded excluded1 : List Planned) (first : ℕ) (r : Option ℕ) → AllByRecursion (λ p. IsRising p.left) excluded → r ≡ first_of (any_of excluded1) → excluded1 ≡ map (moved_to first) excluded
     → option_eq eqb r (Some first) ≡ is_in first (any_of excluded)

@@ -2,7 +2,7 @@
 use Rattle.std.proofs.Common.{◌≡◌, ℕ, zero, suc, ◌+◌, ◌-◌, ◌<◌, ◌≤◌, List, [], ◌∷◌, length, get_or, set, take, drop, map, Option, Some, None, refl, sym, ap, subst, ◌∙◌, arith, inl, inr}
 use Rattle.std.specs.List.{AllByRecursion}
 use Rattle.std.proofs.lemmas.Bool.{le-ltb, lt-ltb, cases_lt}
-use Rattle.std.proofs.lemmas.List.{drop-set, take-set, take-take, drop_more, get_or-take, length-set, drop_all}
+use Rattle.std.proofs.lemmas.List.{drop-set, take-set, take-take, drop_more, get_or-take, length-set}
 use Rattle.seg_postings.specs.Rising.{IsBelowAll, IsRising, from_place, first_of}
 use Rattle.seg_postings.specs.Sets.{put_in, either}
 use Rattle.seg_postings.specs.Steps.{least_of}
@@ -50,11 +50,6 @@ pub record AreMoved (place i : ℕ) (now old : List Planned) (first : Option ℕ
   pub first_is : first ≡ first_of (any_of (drop i now))
   pub rises : AllByRecursion (λ p. IsRising p.left) (drop i old)
 
-pub moved_starts : (place i : ℕ) (old : List Planned) → i ≡ length old → AreMoved place i old old None
-moved_starts place i old e =
-    let none : drop i old ≡ [] = drop_all i old (omega arith) in
-    record { within = omega arith; long = refl; kept = refl; moved = rw none refl; first_is = rw none refl; rises = rw none tt }
-
 pub moved_more : (place j : ℕ) (now old : List Planned) (first next : Option ℕ) (child d : Planned) → AreMoved place (j + 1) now old first
     → child ≡ moved_to place (get_or now j d) → IsRising (get_or now j d).left → next ≡ first_of child.left → AreMoved place j (set now j child) old (least_of next first)
 moved_more place j now old first next child d h e r n =
@@ -74,9 +69,6 @@ moved_more place j now old first next child d h e r n =
       first_is = rw rest (sym (first_either child.left (any_of (drop (j + 1) now)) child_rises ∙ ap (λ (o : Option ℕ). least_of o (first_of (any_of (drop (j + 1) now)))) (sym n) ∙ ap (λ (o : Option ℕ). least_of next o) (sym h.first_is)));
       rises = rw old_rest (subst (λ (p : Planned). IsRising p.left) same r, h.rises);
     }
-
-pub moved_all : (place : ℕ) (now old : List Planned) (first : Option ℕ) → AreMoved place 0 now old first → AllByRecursion (λ p. IsRising p.left) old × (first ≡ first_of (any_of now)) × (now ≡ map (moved_to place) old)
-moved_all place now old first h = (h.rises, h.first_is, h.moved)
 
 pub rising_any : (ps : List Planned) → AllByRecursion (λ p. IsRising p.left) ps → IsRising (any_of ps)
 rising_any [] h = tt

@@ -1,10 +1,10 @@
 ghost use Rattle.std.specs.Prelude.{◌≡◌, ◌≤◌, map};
 ghost use Rattle.std.specs.List.{AllByRecursion};
 ghost use Rattle.seg_postings.specs.Rising.{IsRising, first_of};
-ghost use Rattle.seg_postings.specs.Steps.{least_of};
 ghost use Rattle.plan_places.specs.Planned.{moved_to, any_of};
 
 use crate::node::PlanNode;
+use seg_postings::least;
 
 /// The first place that any child has from `place` on. Each child passes all before it.
 #[cycle(at_least)]
@@ -23,16 +23,4 @@ pub(crate) fn any_at_least(children: &mut Vec<PlanNode<'_>>, place: u64) -> Opti
         first = least(next, first);
     }
     first
-}
-
-// The lesser of two places.
-fn least(a: Option<u32>, b: Option<u32>) -> Option<u32>
-    ensures { result ≡ least_of a b }
-{
-    match (a, b) {
-        (None, None) => None,
-        (None, Some(b)) => Some(b),
-        (Some(a), None) => Some(a),
-        (Some(a), Some(b)) => { if b < a { Some(b) } else { Some(a) } }
-    }
 }

@@ -5,18 +5,13 @@ use Rattle.facet_codec.specs.declared.fault.CodecFault.{CodecFault}
 use Rattle.facet_codec.specs.Places.{Place}
 use Rattle.facet_codec.specs.Faults.{fault_at}
 use Rattle.facet_codec.specs.Reading.{u32_at}
-use Rattle.facet_codec.proofs.Lists.{IsPart, part_starts, part_more, part_fails, part_done}
+use Rattle.facet_codec.proofs.Lists.{IsPart, part_more, part_fails, part_done}
 use Rattle.seg_grammar.specs.declared.fault.SegFault.{SegFault}
 use Rattle.seg_grammar.specs.declared.fault.SegFault.TheVariants.{Codec, Disorder}
 use Rattle.seg_grammar.specs.Reading.{rising_at}
 
 abbrev Numbers : Type 0
 Numbers = Result (List ℕ × Place) SegFault
-
-pub rising_starts : (n low high : ℕ) (p : Place) → IsPart (rising_at (n - 0) low high p) (rising_at n low high p)
-rising_starts n low high p =
-    let k : n - 0 ≡ n = omega arith in
-    rw k (part_starts (rising_at n low high p))
 
 pub rising_more : (n i low high : ℕ) (p q : Place) (x : ℕ) (total : Numbers) → i < n → u32_at p ≡ Ok (x, q) → low ≤ x → x < high → IsPart (rising_at (n - i) low high p) total → IsPart (rising_at (n - (i + 1)) (x + 1) high q) total
 unfolding rising_at

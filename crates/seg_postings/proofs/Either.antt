@@ -3,7 +3,7 @@ use Rattle.std.proofs.Common.{◌≡◌, ℕ, ◌+◌, ◌<◌, ◌≤◌, List,
 use Rattle.std.proofs.lemmas.Bool.{le-leb, lt-leb, le-ltb, lt-ltb, ne_eqb, eq-eqb, cases_lt}
 use Rattle.seg_postings.specs.Rising.{IsBelowAll, IsRising, from_place, first_of}
 use Rattle.seg_postings.specs.Sets.{put_in, either}
-use Rattle.seg_postings.specs.Steps.{AreFrom, least_of}
+use Rattle.seg_postings.specs.Steps.{least_of}
 use Rattle.seg_postings.proofs.Order.{IsFrom, below_weaker, from_all, from_below, rising_from}
 
 pub put_less : (x y : ℕ) (ys : List ℕ) → x < y → put_in x (y ∷ ys) ≡ x ∷ y ∷ ys
@@ -172,14 +172,4 @@ either_ends (x ∷ xs) [] e = absurd cc
 either_ends (x ∷ xs) (y ∷ ys) e = elim (cases_lt y x) [
   | inl less ↦ let e1 : some y ≡ None = rw (lt-ltb y x less) at e in absurd cc
   | inr ge ↦ let e1 : some x ≡ None = rw (le-ltb y x ge) at e in absurd cc
-]
-
--- the least of two is below neither
-pub least_from : (xs ys : List ℕ) (p : ℕ) → least_of (first_of xs) (first_of ys) ≡ Some p → AreFrom p xs × AreFrom p ys
-least_from [] [] p e = absurd cc
-least_from [] (y ∷ ys) p e = let is : y ≡ p = cc in (tt, omega arith)
-least_from (x ∷ xs) [] p e = let is : x ≡ p = cc in (omega arith, tt)
-least_from (x ∷ xs) (y ∷ ys) p e = elim (cases_lt y x) [
-  | inl less ↦ let e1 : some y ≡ Some p = rw (lt-ltb y x less) at e in let is : y ≡ p = cc in (omega arith, omega arith)
-  | inr ge ↦ let e1 : some x ≡ Some p = rw (le-ltb y x ge) at e in let is : x ≡ p = cc in (omega arith, omega arith)
 ]

@@ -1,11 +1,11 @@
 -- Places that are written one after the other.
-use Rattle.std.proofs.Common.{ℕ, ◌+◌, ◌<◌, ◌≤◌, ◌^◌, List, [], ◌∷◌, ◌++◌, refl, ap, ◌∙◌, arith}
+use Rattle.std.proofs.Common.{ℕ, ◌+◌, ◌<◌, ◌≤◌, ◌^◌, List, [], ◌∷◌, ◌++◌, ap, ◌∙◌, arith}
 use Rattle.std.specs.List.{AllByRecursion}
 use Rattle.std.proofs.lemmas.List.{flat_map_more}
 use Rattle.facet_codec.specs.Spelling.{be32}
 use Rattle.facet_codec.specs.Laws.{IsBelow}
 use Rattle.seg_postings.specs.Rising.{IsBelowAll, IsRising}
-use Rattle.seg_postings.specs.Bytes.{ArePlaces, AreRisingPlaces}
+use Rattle.seg_postings.specs.Bytes.{ArePlaces}
 
 -- The bytes are rising places below a number.
 pub record AreWritten (bytes : List ℕ) (least : ℕ) : Type 0 where
@@ -29,9 +29,6 @@ pub rising_push : (xs : List ℕ) (x : ℕ) → IsRising xs → AllByRecursion (
 rising_push [] x h k = (tt, tt)
 rising_push (y ∷ ys) x h k = (below_push y x ys k.0 h.0, rising_push ys x h.1 k.1)
 
-pub written_none : AreWritten [] 0
-written_none = record { places = []; are = record { spelled = refl; fit = tt; rise = tt }; below = tt }
-
 pub written_push : (bytes : List ℕ) (least p : ℕ) → AreWritten bytes least → least ≤ p → p < 2 ^ 32 → AreWritten (bytes ++ be32 p) (p + 1)
 written_push bytes least p h le fits = record {
   places = h.places ++ p ∷ [];
@@ -42,6 +39,3 @@ written_push bytes least p h le fits = record {
   };
   below = all_push (IsBelow (p + 1)) h.places p (below_later least (p + 1) h.places (omega arith) h.below) (omega arith);
 }
-
-pub written_are : (bytes : List ℕ) (least : ℕ) → AreWritten bytes least → AreRisingPlaces bytes
-written_are bytes least h = (h.places, h.are)

@@ -17,6 +17,6 @@ mod union;
 pub use difference::Difference;
 pub use intersection::Intersection;
 pub use ords::Ords;
-pub use places::Places;
+pub use places::{Places, least};
 pub use postings::{Postings, PostingsCursor};
 pub use union::Union;

@@ -1,10 +1,9 @@
 ghost use Rattle.std.specs.Prelude.{◌≡◌};
 ghost use Rattle.seg_postings.specs.Rising.{IsRising, IsNext, from_place};
 ghost use Rattle.seg_postings.specs.Sets.{either};
-ghost use Rattle.seg_postings.specs.Steps.{least_of};
 
 use crate::peek::Peek;
-use crate::places::Places;
+use crate::places::{Places, least};
 
 /// The places that the left or the right has, or both, each once.
 ///
@@ -43,17 +42,5 @@ impl<A: Places, B: Places> Places for Union<A, B> {
         self.left.go_to(place);
         self.right.go_to(place);
         self.next()
-    }
-}
-
-// The lesser of two places.
-fn least(a: Option<u32>, b: Option<u32>) -> Option<u32>
-    ensures { result ≡ least_of a b }
-{
-    match (a, b) {
-        (None, None) => None,
-        (None, Some(b)) => Some(b),
-        (Some(a), None) => Some(a),
-        (Some(a), Some(b)) => { if b < a { Some(b) } else { Some(a) } }
     }
 }
