@@ -1,10 +1,10 @@
 -- Reading term texts, byte by byte: what a text was joined of is read back from it, and from nothing else.
 use Rattle.std.proofs.Common.{◌≡◌, ℕ, ◌+◌, ◌*◌, ◌<◌, ◌≤◌, Bool, true, false, List, [], ◌∷◌, ◌++◌, length, Option, Some, None, refl, sym, ap, subst, ◌∙◌, append_assoc, arith, get_or, suc}
-use Rattle.std.specs.Prelude.{◌==◌, if◌then◌else◌}
-use Rattle.std.proofs.lemmas.Bool.{or_parts, false≢true}
+use Rattle.std.specs.Prelude.{◌==◌, if◌then◌else◌, nat_eq, cond, ◌||◌}
+use Rattle.std.proofs.lemmas.Bool.{or_parts, false≢true, eqb-true, eqb-false}
 use Rattle.std.proofs.lemmas.List.{append-nil, length-append}
 use Rattle.std.proofs.lemmas.Grind.{flat_map-append}
-use Rattle.std.specs.List.{flat_map}
+use Rattle.std.specs.List.{flat_map, list_any}
 use Rattle.std.proofs.Common.{rules}
 use Rattle.std.proofs.Math.Utf8.{encode}
 use Rattle.std.proofs.lemmas.Str.{encode_ascii, inside_one, length-encode, len_utf8_bounds}
@@ -217,6 +217,14 @@ joined_more (p ∷ ps) q some = after p ps
     after p [] = refl
     after p (r ∷ rs) = ap (λ bs. escaped p ++ 31 ∷ bs) (after r rs) ∙ sym (append_assoc (escaped p) (31 ∷ term_text (r ∷ rs)) (31 ∷ escaped q))
 
+-- one component more
+pub longer_text : (ps : List (List ℕ)) (q : List ℕ) (at : ℕ) → length ps ≡ at → term_text ps ++ cond (nat_eq at 0) (escaped q) (31 ∷ escaped q) ≡ term_text (ps ++ q ∷ [])
+longer_text ps q at size = by at (nat_eq at 0) refl size
+  where
+    by : (n : ℕ) (b : Bool) → nat_eq n 0 ≡ b → length ps ≡ n → term_text ps ++ cond b (escaped q) (31 ∷ escaped q) ≡ term_text (ps ++ q ∷ [])
+    by n true e size = sym (joined_first ps q (omega (arith, size, eqb-true n 0 e)))
+    by n false e size = sym (joined_more ps q (omega (arith, size, eqb-false n 0 e)))
+
 -- ---- characters
 
 -- no byte is special
@@ -308,3 +316,13 @@ pub all_written : (rest old : List ℕ) → length rest ≡ 0 → old ≡ old ++
 unfolding escaped
 all_written [] old none = sym (append-nil old)
 all_written (b ∷ bs) old none = absurd (omega (arith, none))
+
+-- a component with no special byte stands as it is
+pub escaped_as_is : (part : List ℕ) → list_any is_special part ≡ false → escaped part ≡ part
+unfolding escaped
+escaped_as_is [] e = refl
+escaped_as_is (b ∷ bs) e = by (is_special b) refl e (escaped_as_is bs)
+  where
+    by : (t : Bool) → is_special b ≡ t → (t || list_any is_special bs) ≡ false → (list_any is_special bs ≡ false → escaped bs ≡ bs) → escaped (b ∷ bs) ≡ b ∷ bs
+    by true h e rest = absurd cc
+    by false h e rest = (λ i. cond (h i) (30 ∷ b ∷ []) (b ∷ []) ++ escaped bs) ∙ ap (λ xs. b ∷ xs) (rest e)

@@ -11,3 +11,4 @@ mod tests;
 pub use fault::{NoMemory, PathFault};
 pub use laws::{one_term_text, term_text_is_short};
 pub use path::Path;
+pub use term::push_part;

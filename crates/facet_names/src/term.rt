@@ -1,4 +1,5 @@
-ghost use Rattle.std.specs.Prelude.{◌≡◌, ◌<◌, ◌++◌, length, List, ℕ, string_bytes, IfOk, OnOk, MatchOption};
+ghost use Rattle.std.specs.Prelude.{◌≡◌, ◌==◌, ◌<◌, ◌++◌, ◌∷◌, length, List, ℕ, string_bytes, if◌then◌else◌, IfOk, OnOk, MatchOption};
+ghost use Rattle.std.specs.List.{list_any};
 ghost use Rattle.facet_names.specs.Paths.{texts};
 ghost use Rattle.facet_names.specs.Terms.{escaped, is_special, term_text};
 
@@ -16,7 +17,15 @@ fn is_special(ch: char) -> bool
     ch == ESCAPE || ch == SEPARATOR
 }
 
-fn push_escaped(text: &mut String, part: &str) -> Result<(), NoMemory>
+fn has_special(part: &str) -> bool
+    ensures { result ≡ list_any is_special part.now }
+{
+    part.as_bytes()
+        .iter()
+        .any(|byte| *byte == 30 || *byte == 31)
+}
+
+fn push_each(text: &mut String, part: &str) -> Result<(), NoMemory>
     ensures { OnOk result (string_bytes text.new ≡ string_bytes text.old ++ escaped part.now) }
 {
     for ch in part.chars() {
@@ -28,15 +37,33 @@ fn push_escaped(text: &mut String, part: &str) -> Result<(), NoMemory>
     Ok(())
 }
 
+fn push_escaped(text: &mut String, part: &str) -> Result<(), NoMemory>
+    ensures { OnOk result (string_bytes text.new ≡ string_bytes text.old ++ escaped part.now) }
+{
+    if has_special(part) {
+        return push_each(text, part);
+    }
+    text.push_str(part)?;
+    Ok(())
+}
+
+/// Appends the component at a place of a path, escaped, behind a separator where it isn't the first: so a term text is made component by
+/// component. Few components have a character to escape, so most are copied as they are.
+pub fn push_part(text: &mut String, at: usize, part: &str) -> Result<(), NoMemory>
+    ensures { OnOk result (string_bytes text.new ≡ string_bytes text.old ++ (if at == 0 then escaped part.now else 31 ∷ escaped part.now)) }
+{
+    if at > 0 {
+        text.push(SEPARATOR)?;
+    }
+    push_escaped(text, part)
+}
+
 pub fn joined(alloc: Global, parts: &[String]) -> Result<String, NoMemory>
     ensures { IfOk result (λ text. string_bytes text ≡ term_text (texts parts.now)) }
 {
     let mut text = String::new(alloc);
     for (at, part) in parts.iter().enumerate() {
-        if at > 0 {
-            text.push(SEPARATOR)?;
-        }
-        push_escaped(&mut text, part.as_str())?;
+        push_part(&mut text, at, part.as_str())?;
     }
     Ok(text)
 }

@@ -1,8 +1,8 @@
 -- The terms of a text's pieces and of a label's prefixes.
-use Rattle.std.proofs.Common.{◌≡◌, ℕ, ◌<◌, ◌+◌, Bool, true, false, cond, ◌||◌, List, [], ◌∷◌, ◌++◌, length, map, take, drop, Some, None, refl, sym, ap, ◌∙◌, arith, inl, inr}
-use Rattle.std.specs.Prelude.{filter, position, nat_lt, nat_eq, codes, flat_map}
-use Rattle.std.specs.List.{list_any, slice_split, range_with_len, position_or_len}
-use Rattle.std.proofs.lemmas.Bool.{cases_lt, ltb-true, lt-ltb, eqb-true, eqb-false}
+use Rattle.std.proofs.Common.{◌≡◌, ℕ, ◌<◌, ◌+◌, Bool, true, false, cond, List, [], ◌∷◌, ◌++◌, length, map, take, drop, Some, None, refl, ap, ◌∙◌, arith, inl, inr}
+use Rattle.std.specs.Prelude.{filter, position, nat_lt, codes, flat_map}
+use Rattle.std.specs.List.{slice_split, range_with_len, position_or_len}
+use Rattle.std.proofs.lemmas.Bool.{cases_lt, ltb-true, lt-ltb}
 use Rattle.std.proofs.lemmas.List.{map-append, append-nil}
 use Rattle.std.proofs.lemmas.List.Concat.{flat_map-append}
 use Rattle.std.proofs.lemmas.List.Elements.{All-from_get_or}
@@ -10,8 +10,7 @@ use Rattle.std.proofs.lemmas.List.FromFn.{map-range_with_len_more}
 use Rattle.std.proofs.lemmas.List.Splits.{slice_split_first, slice_split_none}
 use Rattle.std.proofs.lemmas.List.Sums.{fails_before_first}
 use Rattle.facet_names.specs.Labels.{prefixes}
-use Rattle.facet_names.specs.Terms.{escaped, is_special, term_text}
-use Rattle.facet_names.proofs.TermTexts.{joined_first, joined_more}
+use Rattle.facet_names.specs.Terms.{term_text}
 use Rattle.facet_model.specs.Words.{is_blank}
 use Rattle.seg_terms.specs.Noting.{piece_terms, path_terms}
 
@@ -51,26 +50,6 @@ last_word text e = elim (cases_lt (position_or_len is_blank text) (length text))
         by : (b : Bool) → b ≡ true → cond b (Some (position_or_len is_blank text)) None ≡ None → ⊥
         by true h e = absurd cc
         by false h e = absurd cc
-
--- ---- components
-
--- a component with no special byte stands as it is
-pub escaped_as_is : (part : List ℕ) → list_any is_special part ≡ false → escaped part ≡ part
-unfolding escaped
-escaped_as_is [] e = refl
-escaped_as_is (b ∷ bs) e = by (is_special b) refl e (escaped_as_is bs)
-  where
-    by : (t : Bool) → is_special b ≡ t → (t || list_any is_special bs) ≡ false → (list_any is_special bs ≡ false → escaped bs ≡ bs) → escaped (b ∷ bs) ≡ b ∷ bs
-    by true h e rest = absurd cc
-    by false h e rest = (λ i. cond (h i) (30 ∷ b ∷ []) (b ∷ []) ++ escaped bs) ∙ ap (λ xs. b ∷ xs) (rest e)
-
--- one component more
-pub longer_text : (ps : List (List ℕ)) (q : List ℕ) (at : ℕ) → length ps ≡ at → term_text ps ++ cond (nat_eq at 0) (escaped q) (31 ∷ escaped q) ≡ term_text (ps ++ q ∷ [])
-longer_text ps q at size = by at (nat_eq at 0) refl size
-  where
-    by : (n : ℕ) (b : Bool) → nat_eq n 0 ≡ b → length ps ≡ n → term_text ps ++ cond b (escaped q) (31 ∷ escaped q) ≡ term_text (ps ++ q ∷ [])
-    by n true e size = sym (joined_first ps q (omega (arith, size, eqb-true n 0 e)))
-    by n false e size = sym (joined_more ps q (omega (arith, size, eqb-false n 0 e)))
 
 -- ---- prefixes
 

@@ -9,11 +9,10 @@ ghost use Rattle.facet_model.specs.Terms.{doc_terms};
 ghost use Rattle.seg_terms.specs.Noting.{found, AreNoted, piece_terms, path_terms};
 ghost use Rattle.seg_terms.specs.Places.{term_view};
 
-use crate::escaping::push_part;
 use crate::table::TermTable;
 use crate::term_places::TermPlaces;
 use facet_model::Document;
-use facet_names::{NoMemory, Path};
+use facet_names::{NoMemory, Path, push_part};
 use std::alloc::Global;
 
 /// Collects the terms of documents. The text of each term is made in one buffer, so a term that is known takes no memory.

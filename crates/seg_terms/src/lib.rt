@@ -3,7 +3,6 @@
 
 mod collector;
 mod entry;
-mod escaping;
 mod laws;
 mod table;
 mod term_places;

@@ -6,7 +6,8 @@ use Rattle.std.proofs.lemmas.Option.{get_or_from_slice_get}
 use Rattle.facet_names.specs.Terms.{term_text, escaped}
 use Rattle.seg_terms.specs.Noting.{Table, AreNoted, path_terms}
 use Rattle.seg_terms.proofs.Noted.{noted_more, noted_none}
-use Rattle.seg_terms.proofs.Pieces.{one_more_prefix, longer_text}
+use Rattle.facet_names.proofs.TermTexts.{longer_text}
+use Rattle.seg_terms.proofs.Pieces.{one_more_prefix}
 use Rattle.seg_terms.proofs.collector.TermCollector.note_label.Goals as goal
 
 pub loop-at-init : goal.loop-at-init

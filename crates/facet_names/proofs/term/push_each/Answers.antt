@@ -3,8 +3,8 @@ use Rattle.std.proofs.lemmas.Str.{encode_ascii}
 use Rattle.std.proofs.Math.Utf8.{encode}
 use Rattle.facet_names.specs.Terms.{escaped}
 use Rattle.facet_names.proofs.TermTexts.{all_written, written_plain, written_special}
-use Rattle.seg_terms.proofs.escaping.push_each.Goals as goal
-use Rattle.seg_terms.proofs.escaping.push_each.Goals.{then-is_special+in_ok-push, else-is_special}
+use Rattle.facet_names.proofs.term.push_each.Goals as goal
+use Rattle.facet_names.proofs.term.push_each.Goals.{then-is_special+in_ok-push, else-is_special}
 
 pub loop-ch-preserved : goal.loop-ch-preserved
 loop-ch-preserved c =

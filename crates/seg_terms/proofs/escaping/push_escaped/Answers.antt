@@ -1,6 +1,0 @@
-use Rattle.std.proofs.Common.{◌++◌, ap, sym, ◌∙◌, string_bytes}
-use Rattle.seg_terms.proofs.Pieces.{escaped_as_is}
-use Rattle.seg_terms.proofs.escaping.push_escaped.Goals as goal
-
-pub returns : goal.returns
-returns c = c.in_ok-push_str.ensures.bytes ∙ ap (λ t. string_bytes c.args.text.now ++ t) (sym (escaped_as_is c.args.part.now (sym c.has_special.ensures ∙ c.if-has_special.false)))
