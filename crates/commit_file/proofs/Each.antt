@@ -1,5 +1,5 @@
 -- Loops that read one value after the other.
-use Rattle.std.proofs.Common.{◌≡◌, ℕ, zero, suc, ◌+◌, ◌-◌, ◌<◌, ◌≤◌, List, [], ◌∷◌, ◌++◌, length, take, Result, Ok, Err, refl, sym, ap, ◌∙◌, arith, nat_lt}
+use Rattle.std.proofs.Common.{◌≡◌, ℕ, zero, suc, ◌+◌, ◌-◌, ◌<◌, ◌≤◌, List, [], ◌∷◌, ◌++◌, length, take, Result, Ok, refl, sym, ap, ◌∙◌, arith, nat_lt}
 use Rattle.std.proofs.lemmas.List.{append-nil, length-take}
 use Rattle.std.proofs.lemmas.Bool.{ltb-false}
 use Rattle.facet_codec.specs.Places.{Place}
@@ -29,15 +29,6 @@ fails_bind NoMemory r f h = tt
 -- ---- so many values, of which i were read
 
 module _ {A S : Type 0} (read : ℕ → S → Place → Result (A × Place) FileFault) (next : S → A → S) where
-  pub each_starts : (n : ℕ) (s : S) (p : Place) → with_front [] (each_at read next (n - 0) s p) ≡ each_at read next n s p
-  each_starts n s p =
-      let k : n - 0 ≡ n = omega arith in
-      rw k (by (each_at read next n s p))
-    where
-      by : (r : Result (List A × Place) FileFault) → with_front [] r ≡ r
-      by (Ok x) = refl
-      by (Err e) = refl
-
   pub each_more : (n i : ℕ) (s : S) (p q : Place) (front : List A) (x : A) (total : Result (List A × Place) FileFault) → i < n → read (n - (i + 1)) s p ≡ Ok (x, q) → with_front front (each_at read next (n - i) s p) ≡ total → with_front (front ++ x ∷ []) (each_at read next (n - (i + 1)) (next s x) q) ≡ total
   unfolding each_at
   each_more n i s p q front x total lt e h =

@@ -35,9 +35,6 @@ number_front p q n m rest lt e f =
     let same : (n, q) ≡ (m, place (p.at + 4) rest) = let a = number_is p m rest lt e in cc in
     (ap (λ (x : ℕ × Place). x.0) same, ap (λ (x : ℕ × Place). x.1.rest) same)
 
-pub no_number_fault : (p : Place) (f : CodecFault) (m : ℕ) (rest : List ℕ) → m < 2 ^ 32 → p.rest ≡ be32 m ++ rest → u32_at p ≡ Err f → ⊥
-no_number_fault p f m rest lt e h = let a = number_is p m rest lt e in cc
-
 pub bytes_front : (p q : Place) (n : ℕ) (bytes front tail : List ℕ) → n ≡ length front → p.rest ≡ front ++ tail → bytes_at n p ≡ Ok (bytes, q) → (bytes ≡ front) × (q.rest ≡ tail)
 bytes_front p q n bytes front tail k e f =
     let same : (bytes, q) ≡ (front, place (p.at + length front) tail) = let a = bytes_are p n front tail k e in cc in

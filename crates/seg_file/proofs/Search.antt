@@ -65,9 +65,6 @@ rising_between previous (t ∷ ts) (suc i) (suc j) h le lt = rising_between (Som
 
 -- ---- the bounds of a search
 
-pub first_of_all : (text : List ℕ) (ts : List (List ℕ × List ℕ)) (n : ℕ) → n ≡ length ts → IsFirstFrom text ts 0 n
-first_of_all text ts n e = record { below = λ k lt. absurd (omega arith); from = λ k le lt. absurd (omega arith) }
-
 pub first_low : (text : List ℕ) (ts : List (List ℕ × List ℕ)) (low high m : ℕ) → TermsRise None ts → IsFirstFrom text ts low high → m < length ts → is_lt (order (term_of ts m).0 text) ≡ true → IsFirstFrom text ts (m + 1) high
 first_low text ts low high m rise h lt e =
     let here : order (term_of ts m).0 text ≡ Less = less_is (order (term_of ts m).0 text) e in
