@@ -9,7 +9,8 @@ use Rattle.seg_terms.specs.declared.entry.Entry.{Entry}
 use Rattle.facet_words.specs.Answers.{RightReply, Store}
 use Rattle.facet_words.specs.Commands.{Settings, refresh}
 use Rattle.facet_replies.specs.Replies.{numbered}
-use Rattle.seg_decoding.specs.Decoding.{docs_in, flushed, segment_of}
+use Rattle.seg_terms.specs.Entries.{segment_of}
+use Rattle.seg_decoding.specs.Decoding.{docs_in, flushed}
 use Rattle.seg_decoding.specs.Entries.{AreEntries, docs_of}
 use Rattle.facet_shell.specs.Kept.{IsKept}
 use Rattle.seg_decoding.proofs.Decoded.{decoded, decodes_stay, flushed_decodes}

@@ -13,9 +13,9 @@ use Rattle.facet_model.specs.Histories.{knows}
 use Rattle.facet_model.specs.Stored.{Stored, Records, AreLabelsAt, IsRecordOf, IsSegmentOf, Decodes}
 use Rattle.facet_model.proofs.Fronts.{knows_its_labels}
 use Rattle.facet_config.proofs.Staying.{counted_stay, known_stay}
-use Rattle.seg_terms.specs.Entries.{stored_of}
+use Rattle.seg_terms.specs.Entries.{stored_of, segment_of}
 use Rattle.seg_terms.specs.declared.entry.Entry.{Entry}
-use Rattle.seg_decoding.specs.Decoding.{doc_in, records_in, docs_in, segment_of, flushed}
+use Rattle.seg_decoding.specs.Decoding.{doc_in, records_in, docs_in, flushed}
 use Rattle.seg_decoding.specs.Entries.{AreEntries, docs_of}
 use Rattle.seg_decoding.proofs.Ordinals.{all_stay, all_zip_push, known_at}
 

@@ -23,9 +23,6 @@ one_stays a b on o p at =
     let lt : o < length a = slice_get_within a o p at in
     slice_get-get_or b o p (omega (arith, on.0)) ∙ ap Some (sym (get_or-take (length a) b o p lt) ∙ ap (λ (l : Labels). get_or l o p) on.1 ∙ get_or_from_slice_get a o p p at)
 
-first_of : {X : Type 0} (x y : X) (xs ys : List X) → x ∷ xs ≡ y ∷ ys → x ≡ y
-first_of x y xs ys e = ap (λ l. get_or l 0 x) e
-
 pub all_stay : (a b : Labels) → GoesOn a b → (ords : List ℕ) (paths : Labels) → AreAt a ords paths → AreAt b ords paths
 all_stay a b on [] [] at = refl
 all_stay a b on [] (p ∷ ps) at = absurd cc

@@ -27,9 +27,6 @@ numbers_size (n ∷ ns) = omega (arith, numbers_size ns)
 list_size : (ns : List ℕ) → length (list_bytes ns) ≡ length (vint (length ns)) + 4 * length ns
 list_size ns = omega (arith, length-append (vint (length ns)) (flat_map be32 ns), numbers_size ns)
 
-pub text_size : (bytes : List ℕ) → length (text bytes) ≡ length (vint (length bytes)) + length bytes
-text_size bytes = length-append (vint (length bytes)) bytes
-
 pub record_size : (at : ℕ) (r : Stored) → leaves_place at r + 4 * length r.leaves + length (vint (length r.counted)) + 4 * length r.counted ≡ at + length (record_bytes r)
 unfolding record_bytes front_bytes
 record_size at r = omega (arith, list_size r.leaves, list_size r.counted, length-append (front_bytes r) (list_bytes r.counted), length-append (text r.id) (text r.text ++ list_bytes r.leaves), length-append (text r.text) (list_bytes r.leaves))

@@ -2,10 +2,8 @@
 use Rattle.std.specs.Prelude.{ℕ, List, [], ◌∷◌, ◌++◌, map, flat_map, slice_index_or}
 use Rattle.facet_model.specs.Documents.{Doc}
 use Rattle.facet_model.specs.Stored.{Stored, Records}
-use Rattle.facet_model.specs.Terms.{terms_of}
-use Rattle.seg_terms.specs.Entries.{stored_of}
+use Rattle.seg_terms.specs.Entries.{segment_of}
 use Rattle.seg_terms.specs.declared.entry.Entry.{Entry}
-use Rattle.seg_decoding.specs.Entries.{docs_of}
 
 -- the document of a record: its labels are those at the leaves
 abbrev pub doc_in : List (List (List ℕ)) → Stored → Doc
@@ -22,10 +20,6 @@ record_at segments at = slice_index_or (records_in segments) at (record { id = [
 -- the documents of all records, in order
 abbrev pub docs_in : List (List (List ℕ)) → List Records → List Doc
 docs_in known segments = map (doc_in known) (records_in segments)
-
--- the segment of these entries
-abbrev pub segment_of : List Entry → Records
-segment_of entries = record { records = map stored_of entries; terms = terms_of (docs_of entries) }
 
 -- the segments with one more, of these entries, if there are any
 abbrev pub flushed : List Records → List Entry → List Records

@@ -16,9 +16,6 @@ four o a b c d = simp append_assoc
 three : (o a b c : List ℕ) → ((o ++ a) ++ b) ++ c ≡ o ++ (a ++ (b ++ c))
 three o a b c = simp append_assoc
 
-two : (o a b : List ℕ) → (o ++ a) ++ b ≡ o ++ (a ++ b)
-two o a b = append_assoc o a b
-
 -- ---- records
 
 pub front_put : (r : Stored) (o a b c d : List ℕ) → a ≡ o ++ text r.id → b ≡ a ++ text r.text → c ≡ b ++ vint (length r.leaves) → d ≡ c ++ flat_map be32 r.leaves → d ≡ o ++ front_bytes r

@@ -4,7 +4,7 @@ ghost use Rattle.facet_model.specs.Terms.{terms_of};
 ghost use Rattle.seg_grammar.specs.Spelling.{IsSegment};
 ghost use Rattle.seg_grammar.specs.Index.{IsIndexOf};
 ghost use Rattle.seg_terms.specs.Places.{term_view};
-ghost use Rattle.seg_writing.specs.Segments.{segment_of};
+ghost use Rattle.seg_terms.specs.Entries.{segment_of};
 
 use crate::records::put_records;
 use crate::terms::put_terms;
