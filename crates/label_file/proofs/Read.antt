@@ -39,6 +39,16 @@ labels_done n i labels p le =
     let k : n - i ≡ 0 = omega arith in
     rw k refl
 
+pub labels_push : (i : ℕ) (known : List (List (List ℕ))) (start : Place) (labels : List (List (List ℕ))) (p : Place) (path : List (List ℕ)) (q : Place) → labels_at i known start ≡ Ok (labels, p) → label_at labels p ≡ Ok (path, q) → labels_at (i + 1) known start ≡ Ok (labels ++ path ∷ [], q)
+unfolding labels_at
+labels_push zero known start labels p path q before e =
+    let same : (known, start) ≡ (labels, p) = done_is ℕ (known, start) (labels, p) before in
+    subst (λ (x : List (List (List ℕ)) × Place). labels_at 1 x.0 x.1 ≡ Ok (labels ++ path ∷ [], q)) (sym same) (rw e refl)
+labels_push (suc i) known start labels p path q before e =
+    let a = bind_ok (label_at known start) (λ first. labels_at i (known ++ first.0 ∷ []) first.1) (labels, p) before in
+    let k : suc i + 1 ≡ suc (i + 1) = omega arith in
+    rw (k, a.1) (labels_push i (known ++ a.0.0 ∷ []) a.0.1 labels p path q a.2 e)
+
 -- ---- what was read
 
 -- a label that was read: its parent's ordinal, its last component, and where it ends

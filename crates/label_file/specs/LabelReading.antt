@@ -1,5 +1,5 @@
 -- Reading the labels of a taxonomy segment from left to right. A fault is told by its place.
-use Rattle.std.specs.Prelude.{◌≡◌, ℕ, zero, suc, ◌||◌, List, [], ◌∷◌, ◌++◌, length, Option, Some, None, is_some, slice_get, option_and_then, Result, Ok, Err, ◌==◌, if◌then◌else◌}
+use Rattle.std.specs.Prelude.{◌≡◌, ◌≤◌, ◌⊎◌, ℕ, zero, suc, ◌||◌, List, [], ◌∷◌, ◌++◌, length, Option, Some, None, is_some, slice_get, option_and_then, Result, Ok, Err, ◌==◌, if◌then◌else◌}
 use Rattle.std.specs.Option.{option_map}
 use Rattle.facet_names.specs.Faults.{path_fault}
 use Rattle.facet_names.specs.Labels.{stands}
@@ -62,6 +62,13 @@ labels_at (suc n) labels p = do
   first ← label_at labels p
   labels_at n (labels ++ first.0 ∷ []) first.1
 
+-- These labels are the known ones with the first that are read from a place on, at most so many.
+pub record AreFirst (count : ℕ) (known : List (List (List ℕ))) (start : Place) (labels : List (List (List ℕ))) : Type 0 where
+  pub number : ℕ
+  pub few : number ≤ count
+  pub end : Place
+  pub read : labels_at number known start ≡ Ok (labels, end)
+
 -- ---- all of it
 
 -- `FTAX`, the version, the ordinal of the first label, and how many there are, which is not 0
@@ -80,3 +87,7 @@ stored_labels known first count bytes = do
   start ← head_at first count (record { at = 0; rest = bytes })
   labels ← labels_at count known start
   if length labels.1.rest == 0 then Ok labels.0 else Err labels.1.at
+
+-- What stands after a fault: the known labels, with those of the segment's that were read before it.
+abbrev pub StandBefore : List (List (List ℕ)) → ℕ → ℕ → List ℕ → List (List (List ℕ)) → Type 0
+StandBefore known first count bytes labels = (labels ≡ known) ⊎ ((start : Place) × (head_at first count (record { at = 0; rest = bytes }) ≡ Ok start) × AreFirst count known start labels)

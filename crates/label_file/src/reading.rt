@@ -1,8 +1,8 @@
-ghost use Rattle.std.specs.Prelude.{◌≡◌, ◌≢◌, ◌≤◌, ◌<◌, ◌+◌, ◌++◌, [], ◌∷◌, ℕ, List, Some, None, Ok, length, option_and_then, IfOk, IfErr, OnOk};
+ghost use Rattle.std.specs.Prelude.{◌≡◌, ◌≢◌, ◌≤◌, ◌<◌, ◌+◌, ◌++◌, [], ◌∷◌, ℕ, List, Some, None, Ok, length, option_and_then, IfOk, IfErr, OnOk, OnErr};
 ghost use Rattle.facet_names.specs.declared.fault.PathFault.TheVariants.{NoMemory as Memory};
 ghost use Rattle.facet_names.specs.Faults.{path_fault};
 ghost use Rattle.facet_names.specs.Labels.{GoesOn};
-ghost use Rattle.label_file.specs.LabelReading.{Fails, behind, head_at, joined, path_below, label_at, labels_at, stored_labels};
+ghost use Rattle.label_file.specs.LabelReading.{Fails, behind, head_at, joined, path_below, label_at, labels_at, AreFirst, stored_labels, StandBefore};
 
 use crate::fault::LabelsFault;
 use facet_codec::Cursor;
@@ -84,6 +84,7 @@ fn label(labels: &mut Taxonomy, alloc: Global, cursor: &mut Cursor<'_>) -> Resul
     requires { length labels.old < 1000000 }
     ensures ok { OnOk result ((path : List (List ℕ)) × (label_at labels.old cursor.old ≡ Ok (path, cursor.new)) × (labels.new ≡ labels.old ++ path ∷ [])) }
     ensures err { IfErr result (λ e. Fails e (label_at labels.old cursor.old)) }
+    ensures unchanged { OnErr result (labels.new ≡ labels.old) }
     ensures goes_on { GoesOn labels.old labels.new }
 {
     let at = cursor.at() as u64;
@@ -109,6 +110,7 @@ fn labels_after(
     requires { length labels.old + count ≤ 1000000 }
     ensures ok { OnOk result (labels_at count labels.old cursor.old ≡ Ok (labels.new, cursor.new)) }
     ensures err { IfErr result (λ e. Fails e (labels_at count labels.old cursor.old)) }
+    ensures some { OnErr result (AreFirst count labels.old cursor.old labels.new) }
     ensures goes_on { GoesOn labels.old labels.new }
 {
     for _ in 0..count {
@@ -120,7 +122,7 @@ fn labels_after(
 /// Puts the labels of a taxonomy segment behind these. The segment, which is all of the bytes, has to be one of `count` labels, the first of which has
 /// the ordinal `first`; `count` is at least 1. Each label's parent stands before it, and no label stands twice, also among the labels before.
 ///
-/// After a fault some of the segment's labels may stand behind the others. It reads the bytes once from left to right, and takes memory for each label
+/// After a fault the first of the segment's labels may stand behind the others, and no others do. It reads the bytes once from left to right, and takes memory for each label
 /// when that was read, whatever the count says.
 #[tactic(auto, unfolding(crate::specs::LabelReading::stored_labels))]
 pub fn read_labels(
@@ -134,6 +136,7 @@ pub fn read_labels(
     requires few { first + count ≤ 1000000 }
     ensures ok { OnOk result (stored_labels labels.old first count bytes.now ≡ Ok labels.new) }
     ensures err { IfErr result (λ e. Fails e (stored_labels labels.old first count bytes.now)) }
+    ensures some { OnErr result (StandBefore labels.old first count bytes.now labels.new) }
     ensures goes_on { GoesOn labels.old labels.new }
 {
     let mut cursor = Cursor::new(bytes);
