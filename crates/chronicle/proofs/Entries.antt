@@ -1,5 +1,5 @@
 -- Histories that grow, and what a number has entered in them.
-use Rattle.std.proofs.Common.{◌≡◌, ◌≢◌, ◌⊎◌, inl, inr, ℕ, ◌<◌, ◌≤◌, Bool, true, false, List, [], ◌∷◌, ◌++◌, length, refl, ap, sym, ◌∙◌, subst, arith, eqb, eq-eqb, ne_eqb, append-nil, length-append}
+use Rattle.std.proofs.Common.{◌≡◌, ◌≢◌, ◌⊎◌, inl, inr, ℕ, ◌<◌, ◌≤◌, Bool, true, false, List, [], ◌∷◌, ◌++◌, length, refl, ap, sym, ◌∙◌, subst, arith, eqb, ne_eqb, append-nil, length-append}
 use Rattle.std.proofs.lemmas.Bool.{lt-ltb, le-ltb}
 use Rattle.std.proofs.lemmas.List.{nil_from_length, get_or_append_left, length-map, map-append}
 use Rattle.std.proofs.lemmas.List.Elements.{All-head, All-tail, All-map, filter-append}
@@ -10,16 +10,9 @@ use Rattle.chronicle.specs.History.{entries, numbered, entered_by, own_of, Numbe
 use Rattle.chronicle.proofs.Prefixes.{prefix_self, prefix_shorter}
 
 module _ {E : Type 0} where
-  pub entries-push : (log : List (ℕ × E)) (x : ℕ × E) → entries (log ++ x ∷ []) ≡ entries log ++ x.1 ∷ []
-  entries-push [] x = refl
-  entries-push (y ∷ log) x = ap (λ es. y.1 ∷ es) (entries-push log x)
-
   -- what was seen before is in what is seen later, entry by entry
   pub entries-prefix : (xs ys : List (ℕ × E)) → IsPrefix xs ys → IsPrefix (entries xs) (entries ys)
   entries-prefix xs ys p = (entries p.0, sym (map-append (λ (x : ℕ × E). x.1) xs p.0) ∙ ap entries p.1)
-
-  pub entered_by-push : (n : ℕ) (log : List (ℕ × E)) (e : E) → entered_by n (log ++ (n, e) ∷ []) ≡ entered_by n log ++ (n, e) ∷ []
-  entered_by-push n log e = filter-append (λ x. eqb x.0 n) log ((n, e) ∷ []) ∙ rw (eq-eqb n n refl) refl
 
   -- an entry of another
   pub own_of-other : (b : Bool) (n : ℕ) (log : List (ℕ × E)) (x : ℕ × E) → (b ≡ false → x.0 ≢ n) → own_of b n (log ++ x ∷ []) ≡ own_of b n log

@@ -1,8 +1,6 @@
 -- Places stay as more titles are seen.
 use Rattle.std.proofs.Common.{ℕ, ◌<◌, List, [], ◌∷◌, ◌++◌, length, arith}
-use Rattle.std.proofs.lemmas.List.{length-map}
 use Rattle.std.proofs.lemmas.List.Elements.{All-push, All-weaker}
-use Rattle.std.proofs.lemmas.Option.{slice_get_within}
 use mathlib.Core.List.{IsPrefix}
 use Rattle.chronicle.specs.History.{entries}
 use Rattle.chronicle.proofs.Entries.{entries-prefix}
@@ -19,6 +17,3 @@ covers_push xs loans loan covers low = All-push (λ (l : Loan). l.place < length
 
 pub stands_more : (xs ys : List (ℕ × Title)) (title : Title) (place : ℕ) → IsPrefix xs ys → StandsAt xs title place → StandsAt ys title place
 stands_more xs ys title place p there = prefix_get (entries xs) (entries ys) place title (entries-prefix xs ys p) there
-
-pub stands_within : (xs : List (ℕ × Title)) (title : Title) (place : ℕ) → StandsAt xs title place → place < length xs
-stands_within xs title place there = let low = slice_get_within (entries xs) place title there in omega (arith, length-map xs (λ (x : ℕ × Title). x.1))

@@ -8,7 +8,7 @@ use Rattle.seg_grammar.specs.Lookups.{record_of}
 use Rattle.std.proofs.lemmas.List.Sums.{sum_by-cons}
 use Rattle.facet_counts.specs.Tallies.{Tally}
 use Rattle.sideways.specs.Counted.{PartLeft, AreCountable, IsGrown, IsReady, IsTaking, lists_at, lists_of, placed}
-use Rattle.sideways.proofs.Walked.{grown_more, grown_none}
+use Rattle.sideways.proofs.Walked.{grown_more}
 
 sum_to : {A : Type 0} (f : A → ℕ) (xs : List A) (i : ℕ) (d : A) → i < length xs → sum_by f (take i xs) + f (get_or xs i d) ≤ sum_by f xs
 sum_to f [] i d lt = absurd (omega arith)
@@ -77,9 +77,6 @@ pub record AreCountedTo (i : ℕ) (now all : List PartLeft) (before after : Tall
   pub same : (k : ℕ) (d : PartLeft) → i ≤ k → get_or now k d ≡ get_or all k d
   pub grown : IsGrown before after (lists_of (take i all))
 
-pub counted_start : (all : List PartLeft) (tally : Tally) → AreCountedTo 0 all all tally tally
-counted_start all tally = record { long = refl; same = λ k d le. refl; grown = grown_none tally }
-
 pub counted_more : (i : ℕ) (now new all : List PartLeft) (before mid after : Tally) (p q : PartLeft) → AreCountedTo i now all before mid → i < length all → p ≡ get_or now i p → new ≡ set now i q → IsGrown mid after (lists_at p.segment p.left) → AreCountedTo (i + 1) new all before after
 counted_more i now new all before mid after p q counted lt here is grown = record {
   long = ap length is ∙ length-set now i q ∙ counted.long;
@@ -110,10 +107,6 @@ base_room i now all before mid p base counted ready lt here is =
     let there : get_or all i p ≡ p = sym (counted.same i p (omega arith)) ∙ sym here in
     omega (arith, is, sum_to records_in all i p lt, ap records_in there, ready.few)
 
--- at the end all parts are counted
-pub counted_all : (i : ℕ) (now all : List PartLeft) (before after : Tally) → AreCountedTo i now all before after → length all ≤ i → IsGrown before after (lists_of all)
-counted_all i now all before after counted le = subst (λ ps. IsGrown before after (lists_of ps)) (take_all i all le) counted.grown
-
 -- ---- the hits
 
 pub base_more : (i : ℕ) (now all : List PartLeft) (before mid : Tally) (p : PartLeft) (base : ℕ) → AreCountedTo i now all before mid → i < length all → p ≡ get_or now i p → base ≡ sum_by records_in (take i all) → base + length p.segment.records ≡ sum_by records_in (take (i + 1) all)
@@ -140,9 +133,6 @@ places_more i now all before mid p base limit hits new first rest counted lt her
     over (inr h) = inr (ap (map (λ n. base + n)) h)
 
 -- ---- taking hits
-
-pub taking_start : (part : PartLeft) (tally : Tally) (base limit : ℕ) (hits : List ℕ) → length hits ≤ limit → IsTaking part part tally tally base limit hits hits 0
-taking_start part tally base limit hits few = record { first = []; left = refl; segment = refl; grown = grown_none tally; noted = sym (append-nil hits); as_many = refl; few = few }
 
 pub taking_more : (old now next : PartLeft) (c0 c1 c2 : Tally) (base limit : ℕ) (h0 h1 h2 : List ℕ) (n place : ℕ) → IsTaking old now c0 c1 base limit h0 h1 n → now.left ≡ place ∷ next.left → next.segment ≡ now.segment → IsGrown c1 c2 (lists_at now.segment (place ∷ [])) → h2 ≡ h1 ++ (base + place) ∷ [] → length h1 < limit
     → IsTaking old next c0 c2 base limit h0 h2 (n + 1)

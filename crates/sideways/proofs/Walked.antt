@@ -1,9 +1,9 @@
 -- Counting records one after the other.
-use Rattle.std.proofs.Common.{◌≡◌, ℕ, suc, ◌+◌, ◌-◌, ◌<◌, ◌≤◌, true, List, [], ◌∷◌, ◌++◌, length, Option, Some, None, refl, sym, ap, subst, ◌∙◌, arith, append_assoc}
+use Rattle.std.proofs.Common.{◌≡◌, ℕ, suc, ◌+◌, ◌-◌, ◌<◌, ◌≤◌, true, List, [], ◌∷◌, ◌++◌, length, Option, Some, None, sym, ap, subst, ◌∙◌, arith, append_assoc}
 use Rattle.std.specs.Prelude.{◌||◌, ◌==◌, IfSome}
 use Rattle.std.specs.List.{range_with_len}
 use Rattle.std.proofs.Math.Bool.{or-true}
-use Rattle.std.proofs.lemmas.List.{append-nil, length-append, length-map, map_push}
+use Rattle.std.proofs.lemmas.List.{length-append, length-map, map_push}
 use Rattle.std.proofs.lemmas.List.FromFn.{map-range_with_len_more, length-range_with_len}
 use Rattle.facet_model.specs.Stored.{Records}
 use Rattle.facet_counts.specs.Lists.{IsCounted}
@@ -24,10 +24,6 @@ within_first segment x xs within = within.within x (here_is_in x xs)
 
 pub within_rest : (segment : Records) (x : ℕ) (xs : List ℕ) → AreWithin segment (x ∷ xs) → AreWithin segment xs
 within_rest segment x xs within = record { rising = within.rising.1; within = λ n among. within.within n (there_is_in n x xs among) }
-
--- nothing was counted yet
-pub grown_none : (tally : Tally) → IsGrown tally tally []
-grown_none tally = record { added = λ before has. subst (HasAdded tally) (sym (append-nil before)) has; number = omega arith; labels = refl; config = refl }
 
 pub grown_more : (a b c : Tally) (xs ys : List (List ℕ)) → IsGrown a b xs → IsGrown b c ys → IsGrown a c (xs ++ ys)
 grown_more a b c xs ys first second = record {
@@ -53,9 +49,6 @@ pub record IsWalked (segment : Records) (all left : List ℕ) (before now : Tall
   pub as_many : number ≡ length done
   pub within : AreWithin segment left
 
-pub walked_start : (segment : Records) (all : List ℕ) (tally : Tally) → AreWithin segment all → IsWalked segment all all tally tally 0
-walked_start segment all tally within = record { done = []; split = refl; grown = grown_none tally; as_many = refl; within = within }
-
 pub walked_more : (segment : Records) (all left rest : List ℕ) (before now next : Tally) (number place : ℕ) → IsWalked segment all left before now number → left ≡ place ∷ rest
     → IsGrown now next ((record_of segment place).counted ∷ []) → IsWalked segment all rest before next (number + 1)
 walked_more segment all left rest before now next number place walked is grown = record {
@@ -70,15 +63,6 @@ walked_more segment all left rest before now next number place walked is grown =
 pub walked_record : (segment : Records) (all left rest : List ℕ) (before now : Tally) (number place : ℕ) → IsWalked segment all left before now number → left ≡ place ∷ rest → place < length segment.records
 walked_record segment all left rest before now number place walked is = within_first segment place rest (subst (AreWithin segment) is walked.within)
 
-pub walked_room : (segment : Records) (all left rest : List ℕ) (before now : Tally) (number place most : ℕ) → IsWalked segment all left before now number → left ≡ place ∷ rest → before.added + length all ≤ most → now.added < most
-walked_room segment all left rest before now number place most walked is room =
-    omega (arith, room, ap length walked.split, length-append walked.done left, ap length is, walked.grown.number, length-map walked.done (λ p. (record_of segment p).counted))
-
-pub walked_all : (segment : Records) (all left : List ℕ) (before now : Tally) (number : ℕ) → IsWalked segment all left before now number → left ≡ [] → IsGrown before now (lists_at segment all) × (number ≡ length all)
-walked_all segment all left before now number walked none =
-    let same : all ≡ walked.done = walked.split ∙ ap (λ xs. walked.done ++ xs) none ∙ append-nil walked.done in
-    (subst (λ ps. IsGrown before now (lists_at segment ps)) (sym same) walked.grown, walked.as_many ∙ ap length (sym same))
-
 -- ---- records in a row
 
 pub row_more : (segment : Records) (before now new : Tally) (next place : ℕ) → next ≤ place → IsGrown before now (lists_at segment (range_with_len next (place - next))) → IsGrown now new ((record_of segment place).counted ∷ [])
@@ -88,9 +72,6 @@ row_more segment before now new next place le walked grown =
     let there : next + (place - next) ≡ place = omega arith in
     subst (IsGrown before new) (sym (ap (λ n. lists_at segment (range_with_len next n)) longer ∙ map-range_with_len_more (λ p. (record_of segment p).counted) next (place - next) place there))
     (grown_more before now new (lists_at segment (range_with_len next (place - next))) ((record_of segment place).counted ∷ []) walked grown)
-
-pub row_start : (segment : Records) (tally : Tally) (next : ℕ) → IsGrown tally tally (lists_at segment (range_with_len next (next - next)))
-row_start segment tally next = let none : next - next ≡ 0 = omega arith in subst (λ n. IsGrown tally tally (lists_at segment (range_with_len next n))) (sym none) (grown_none tally)
 
 pub row_room : (segment : Records) (before now : Tally) (next place end most : ℕ) → next ≤ place → place < end → before.added + (end - next) ≤ most → IsGrown before now (lists_at segment (range_with_len next (place - next))) → now.added < most
 row_room segment before now next place end most le lt room walked =
@@ -109,6 +90,3 @@ next_within segment (Some x) old new within next = within_rest segment x new (su
 pub next_record : (segment : Records) (r : Option ℕ) (old new : List ℕ) → AreWithin segment old → IsNext r old new → IfSome r (λ place. place < length segment.records)
 next_record segment None old new within next = tt
 next_record segment (Some x) old new within next = within_first segment x new (subst (AreWithin segment) next within)
-
-pub none_within : (segment : Records) (left : List ℕ) → left ≡ [] → AreWithin segment left
-none_within segment left none = subst (AreWithin segment) (sym none) (record { rising = tt; within = λ n among. absurd cc })
