@@ -14,7 +14,7 @@ use Rattle.seg_terms.specs.Entries.{stored_of}
 use Rattle.facet_config.specs.Expanding.{AreAsLong, AreExpanded}
 use Rattle.seg_terms.specs.declared.entry.Entry.{Entry}
 use Rattle.seg_decoding.specs.Entries.{AreEntries}
-use Rattle.facet_shell.specs.Entries.{IsShort}
+use Rattle.seg_decoding.specs.Entries.{IsShort}
 use Rattle.facet_shell.specs.Growing.{leaf_of}
 use Rattle.seg_decoding.proofs.Ordinals.{resolved_known}
 

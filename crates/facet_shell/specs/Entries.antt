@@ -9,7 +9,3 @@ IsPlaced most before doc now reply =
     ((most ≤ length before) × (now ≡ before) × (reply ≡ refused (docs_full (length before))))
     ⊎ ((length before < most) × (now ≡ before ++ doc ∷ []) × (reply ≡ placed (length before)))
     ⊎ ((now ≡ before) × (reply ≡ refused no_memory))
-
--- a path has a component, and at most 32
-abbrev pub IsShort : List (List ℕ) → Type 0
-IsShort path = (0 < length path) × (length path ≤ 32)

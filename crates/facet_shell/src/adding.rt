@@ -10,8 +10,8 @@ ghost use Rattle.facet_words.specs.CommandViews.{settings_view};
 ghost use Rattle.facet_words.specs.Commands.{add as add_command};
 ghost use Rattle.facet_replies.specs.Replies.{broken, placed, refused, no_memory};
 ghost use Rattle.facet_replies.specs.ReplyViews.{refusal_view, reply_view};
-ghost use Rattle.seg_decoding.specs.Entries.{AreEntries, docs_of};
-ghost use Rattle.facet_shell.specs.Entries.{IsPlaced, IsShort};
+ghost use Rattle.seg_decoding.specs.Entries.{AreEntries, IsShort, docs_of};
+ghost use Rattle.facet_shell.specs.Entries.{IsPlaced};
 ghost use Rattle.facet_shell.specs.Growing.{leaf_of};
 
 use crate::labels::add_labels;

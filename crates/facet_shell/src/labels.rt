@@ -2,7 +2,7 @@ ghost use Rattle.std.specs.Prelude.{◌≡◌, ◌≢◌, ◌≤◌, Some, lengt
 ghost use Rattle.facet_names.specs.Labels.{prefixes, with_label};
 ghost use Rattle.facet_model.specs.CountedPaths.{AreResolved};
 ghost use Rattle.taxo_list.specs.declared.fault.TaxoFault.TheVariants.{NoMemory as Memory};
-ghost use Rattle.facet_shell.specs.Entries.{IsShort};
+ghost use Rattle.seg_decoding.specs.Entries.{IsShort};
 ghost use Rattle.facet_shell.specs.Growing.{IsBetween, IsFull};
 
 use facet_model::Resolved;

@@ -8,7 +8,8 @@ ghost use Rattle.facet_shell.specs.Searching.{IsShownFrom};
 use facet_model::Document;
 use facet_names::{NoMemory, Path};
 use facet_words::{Refusal, Reply};
-use seg_file::{Ords, Segment};
+use seg_decoding::ordinals_of;
+use seg_file::Segment;
 use std::alloc::Global;
 use std::sync::Arc;
 use taxo_list::{TaxoView, Taxonomy};
@@ -58,16 +59,6 @@ pub fn count(segments: &[Arc<Segment>]) -> usize
         count += segment.docs() as usize;
     }
     count
-}
-
-fn ordinals_of(alloc: Global, mut leaves: Ords<'_>) -> Result<Vec<u32>, NoMemory>
-    ensures { IfOk result (λ v. v.items ≡ leaves.entry) }
-{
-    let mut ordinals = Vec::with_capacity(alloc, leaves.len())?;
-    while let Some(leaf) = leaves.next() {
-        ordinals.push(leaf)?;
-    }
-    Ok(ordinals)
 }
 
 // The labels at these ordinals.

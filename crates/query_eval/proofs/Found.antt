@@ -13,7 +13,7 @@ use Rattle.facet_model.specs.Documents.{Doc}
 use Rattle.facet_model.specs.CountedPaths.{places}
 use Rattle.facet_model.specs.Terms.{doc_terms, put_term, terms_of}
 use Rattle.seg_grammar.specs.Lookups.{places_of_term}
-use Rattle.query_eval.specs.Segments.{has_term}
+use Rattle.seg_terms.specs.Laws.{has_term}
 use Rattle.query_eval.proofs.Marks.{none_from_place, length_from_place}
 
 or_again : (b r : Bool) → (b || r) ≡ (b || (b || r))

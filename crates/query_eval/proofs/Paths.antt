@@ -15,7 +15,7 @@ use Rattle.facet_model.specs.Documents.{Doc, has, dim_of, count}
 use Rattle.facet_model.specs.Words.{words}
 use Rattle.facet_model.specs.Hits.{passes}
 use Rattle.facet_model.specs.CountedPaths.{places}
-use Rattle.query_eval.specs.Segments.{has_term}
+use Rattle.seg_terms.specs.Laws.{has_term}
 use Rattle.query_eval.proofs.Marks.{same_places}
 use Rattle.query_eval.proofs.Chosen.{some_of}
 

@@ -12,7 +12,7 @@ use Rattle.facet_model.specs.Queries.{matches, all_match, any_matches, queries, 
 use Rattle.facet_model.specs.QueryViews.{query_view}
 use Rattle.facet_model.specs.declared.query.Query.{Query}
 use Rattle.facet_model.specs.CountedPaths.{places}
-use Rattle.query_eval.specs.Segments.{has_term}
+use Rattle.seg_terms.specs.Laws.{has_term}
 use Rattle.query_eval.proofs.Marks.{same_places}
 use Rattle.query_eval.proofs.Chosen.{some_of, all_of}
 

@@ -1,21 +1,15 @@
 -- The documents of a segment, as its terms tell them apart.
 use Rattle.std.specs.Prelude.{◌≡◌, ℕ, Bool, List, length, map}
-use Rattle.std.specs.List.{list_any}
-use Rattle.std.specs.Str.{bytes_eq}
 use Rattle.facet_model.specs.Documents.{Doc}
 use Rattle.facet_model.specs.CountedPaths.{places}
 use Rattle.facet_model.specs.Stored.{Records}
-use Rattle.facet_model.specs.Terms.{doc_terms, terms_of}
+use Rattle.facet_model.specs.Terms.{terms_of}
 use Rattle.plan_places.specs.Planned.{Planned}
 
 -- The segment has the documents' terms, and a record for each of them.
 pub record HasTermsOf (segment : Records) (docs : List Doc) : Type 0 where
   pub terms : segment.terms ≡ terms_of docs
   pub records : length segment.records ≡ length docs
-
--- the term is one of the document's
-abbrev pub has_term : List ℕ → Doc → Bool
-has_term term doc = list_any (bytes_eq term) (doc_terms doc)
 
 -- the nodes have the places of the documents that pass these tests, one test each
 abbrev pub AreTests : List Doc → List (Doc → Bool) → List Planned → Type 0

@@ -3,7 +3,8 @@ ghost use Rattle.std.specs.Prelude.{◌≡◌, ◌<◌, ◌++◌, List, IfOk, co
 ghost use Rattle.facet_model.specs.Documents.{Doc};
 ghost use Rattle.facet_model.specs.CountedPaths.{places};
 ghost use Rattle.facet_names.specs.Terms.{term_text};
-ghost use Rattle.query_eval.specs.Segments.{HasTermsOf, has_term};
+ghost use Rattle.seg_terms.specs.Laws.{has_term};
+ghost use Rattle.query_eval.specs.Segments.{HasTermsOf};
 
 use facet_names::{NoMemory, Path};
 use plan_places::PlanNode;

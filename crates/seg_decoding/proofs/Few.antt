@@ -15,13 +15,10 @@ use Rattle.facet_model.specs.CountedPaths.{is_counted_for, ordinals_of_label, or
 use Rattle.facet_model.specs.Documents.{dim_of}
 use Rattle.facet_model.specs.Flags.{Config, flags}
 use Rattle.facet_config.specs.Expanding.{AreAsLong, AreExpanded}
+use Rattle.seg_decoding.specs.Entries.{IsShort}
 
 abbrev Labels : Type 0
 Labels = List (List (List ℕ))
-
--- a path has a component, and at most 32
-abbrev pub IsShort : List (List ℕ) → Type 0
-IsShort path = (0 < length path) × (length path ≤ 32)
 
 all_tail : {X : Type 0} (P : X → Type 0) (x : X) (xs : List X) → All P (x ∷ xs) → All P xs
 all_tail P x xs all = λ i d lt. all (suc i) d (omega arith)

@@ -1,5 +1,5 @@
 -- Documents with their ordinals, as they are kept before they are stored.
-use Rattle.std.specs.Prelude.{ℕ, List, map, IsTrue}
+use Rattle.std.specs.Prelude.{ℕ, ◌<◌, ◌≤◌, List, length, map, IsTrue}
 use Rattle.std.specs.List.{AllByRecursion}
 use Rattle.facet_model.specs.Documents.{Doc}
 use Rattle.facet_model.specs.Flags.{Config}
@@ -7,6 +7,10 @@ use Rattle.facet_model.specs.Histories.{knows}
 use Rattle.facet_model.specs.Stored.{IsRecordOf}
 use Rattle.seg_terms.specs.Entries.{stored_of}
 use Rattle.seg_terms.specs.declared.entry.Entry.{Entry}
+
+-- a path has a component, and at most 32
+abbrev pub IsShort : List (List ℕ) → Type 0
+IsShort path = (0 < length path) × (length path ≤ 32)
 
 -- the documents
 abbrev pub docs_of : List Entry → List Doc

@@ -21,7 +21,8 @@ use seg_file::{Entry, Ords, Segment};
 use std::alloc::Global;
 use taxo_list::Taxonomy;
 
-fn ordinals_of(alloc: Global, mut leaves: Ords<'_>) -> Result<Vec<u32>, NoMemory>
+/// These ordinals, in their order.
+pub fn ordinals_of(alloc: Global, mut leaves: Ords<'_>) -> Result<Vec<u32>, NoMemory>
     ensures { IfOk result (λ v. v.items ≡ leaves.entry) }
 {
     let mut ordinals = Vec::with_capacity(alloc, leaves.len())?;

@@ -1,8 +1,9 @@
 //! The ordinals of labels that stand in a list of labels.
-ghost use Rattle.std.specs.Prelude.{◌≡◌, ◌<◌, ◌≤◌, Some, IsTrue, All, IfOk, OnOk, length, map, slice_get};
+ghost use Rattle.std.specs.Prelude.{◌≡◌, Some, IsTrue, All, IfOk, OnOk, map, slice_get};
 ghost use Rattle.std.specs.List.{list_all};
 ghost use Rattle.facet_names.specs.Labels.{prefixes, stands};
 ghost use Rattle.facet_model.specs.CountedPaths.{AreResolved};
+ghost use Rattle.seg_decoding.specs.Entries.{IsShort};
 
 use facet_model::Resolved;
 use facet_names::{NoMemory, Path};
@@ -13,7 +14,7 @@ use taxo_list::Taxonomy;
 fn resolve(alloc: Global, labels: &Taxonomy, path: &Path) -> Result<Resolved, NoMemory>
     requires { IsTrue (list_all (stands labels.now) (prefixes path.now)) }
     ensures ordinals { IfOk result (λ r. map (slice_get labels.now) r ≡ map Some (prefixes path.now)) }
-    ensures short { (0 < length path.now) × (length path.now ≤ 32) }
+    ensures short { IsShort path.now }
 {
     let mut ords = Vec::with_capacity(alloc, path.len())?;
     for n in 0..path.len() {
@@ -32,7 +33,7 @@ pub(crate) fn resolve_all(
 ) -> Result<Vec<Resolved>, NoMemory>
     requires { IsTrue (list_all (λ path. list_all (stands labels.now) (prefixes path)) paths.now) }
     ensures ordinals { IfOk result (λ v. AreResolved labels.now paths.now v.items) }
-    ensures short { OnOk result (All (λ path. (0 < length path) × (length path ≤ 32)) paths.now) }
+    ensures short { OnOk result (All IsShort paths.now) }
 {
     let mut resolved = Vec::with_capacity(alloc, paths.len())?;
     for path in paths {

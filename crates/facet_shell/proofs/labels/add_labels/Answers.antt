@@ -4,7 +4,7 @@ use Rattle.facet_names.specs.Labels.{prefixes, with_label}
 use Rattle.facet_shell.specs.Growing.{IsBetween}
 use Rattle.facet_shell.proofs.Grown.{between_more, first_paths_go_on, all_go_on, one_path_more}
 use Rattle.seg_decoding.proofs.Prefixes.{stays}
-use Rattle.facet_shell.specs.Entries.{IsShort}
+use Rattle.seg_decoding.specs.Entries.{IsShort}
 use Rattle.seg_decoding.proofs.Ordinals.{one_path_resolved}
 use Rattle.std.proofs.lemmas.List.Elements.{All-more}
 use Rattle.facet_shell.proofs.labels.add_labels.Goals as goal

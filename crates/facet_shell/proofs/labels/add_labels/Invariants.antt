@@ -2,7 +2,7 @@ use Rattle.std.proofs.Common.{◌≡◌, ◌≤◌, take, length}
 use Rattle.std.specs.Prelude.{fold, flat_map, All}
 use Rattle.facet_names.specs.Labels.{prefixes, with_label}
 use Rattle.facet_model.specs.CountedPaths.{AreResolved}
-use Rattle.facet_shell.specs.Entries.{IsShort}
+use Rattle.seg_decoding.specs.Entries.{IsShort}
 use Rattle.facet_shell.proofs.labels.add_labels.Given as goal
 
 abbrev pub invariant-loop-path : goal.invariant-loop-path

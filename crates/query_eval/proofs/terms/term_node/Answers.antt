@@ -1,5 +1,5 @@
 use Rattle.std.proofs.Common.{◌∙◌, sym}
-use Rattle.query_eval.specs.Segments.{has_term}
+use Rattle.seg_terms.specs.Laws.{has_term}
 use Rattle.query_eval.proofs.Found.{found_some, found_none}
 use Rattle.query_eval.proofs.Marks.{none_from_place}
 use Rattle.query_eval.proofs.terms.term_node.Goals as goal

@@ -1,6 +1,6 @@
 use Rattle.std.proofs.Common.{sym, subst}
 use Rattle.std.proofs.lemmas.List.Elements.{All-more}
-use Rattle.seg_decoding.proofs.Few.{IsShort}
+use Rattle.seg_decoding.specs.Entries.{IsShort}
 use Rattle.seg_decoding.proofs.Ordinals.{one_path_resolved}
 use Rattle.seg_decoding.proofs.Prefixes.{stays}
 use Rattle.seg_decoding.proofs.resolving.resolve_all.Goals as goal
