@@ -27,8 +27,8 @@ use Rattle.commit_calls.proofs.Tellings.{published_files}
 -- ---- one call
 
 -- a call on a file that is there fails only as the device does
-pub rose_there : {T : Type 0} (before now : ℕ) (name : FileName) (s : Told) (e : DiskFault) → s.files name ≢ None → IsAsDue {T = T} (file_due s name) (Err e) → HasFailed {T = T} before now (Err e) → IsOneOf (Failed ∷ Absent name ∷ []) e → Rose before now
-rose_there before now name s e there due failure kinds = ⊎_elim failure.failed (λ more. ⊎_elim (λ absent. absurd (there (gone absent (s.files name) refl))) (λ none. absurd none) more) kinds
+pub rose_there : {T : Type 0} (before now : ℕ) (name : FileName) (s : Told) (e : DiskFault) → s.files name ≢ None → IsAsDue {T = T} (file_due s name) (Err e) → HasFailed {T = T} before now (Err e) → IsOneOf (Failed ∷ Absent name ∷ []) e → (e ≡ Failed) × Rose before now
+rose_there before now name s e there due failure kinds = ⊎_elim (λ is. (is, failure.failed is)) (λ more. ⊎_elim (λ absent. absurd (there (gone absent (s.files name) refl))) (λ none. absurd none) more) kinds
   where
     not_failed : Absent name ≢ Failed
     not_failed e = cc e

@@ -1,5 +1,5 @@
 ghost use Rattle.std.specs.Prelude.{◌≡◌, ◌≢◌, ◌≤◌, ℕ, Some, IfSome, IfErr, OnOk, OnErr, take, None, false};
-ghost use Rattle.facet_disk.specs.declared.fault.DiskFault.TheVariants.{NoMemory};
+ghost use Rattle.facet_disk.specs.declared.fault.DiskFault.TheVariants.{Failed, NoMemory};
 ghost use Rattle.facet_disk.specs.declared.name.Kind.TheVariants.{Pending, Commit};
 ghost use Rattle.facet_disk.specs.Images.{Image, Told};
 ghost use Rattle.facet_disk.specs.Crashes.{PutOf};
@@ -20,7 +20,7 @@ fn write_file<D: Disk>(disk: &mut D, name: FileName, bytes: &[u8]) -> Result<(),
     ensures told { OnOk result ((s : Told) → D.told disk.old ≡ Some s → D.told disk.new ≡ Some (file_told s name bytes.now)) }
     ensures below { (s : Told) (next : ℕ) → next ≤ name.number → D.told disk.old ≡ Some s → IsToldBelow next s (D.told disk.new) }
     ensures cause { HasCause (D.faults disk.old) (D.faults disk.new) result }
-    ensures failed { (s : Told) → D.told disk.old ≡ Some s → s.files name ≡ None → OnErr result (Rose (D.failures disk.old) (D.failures disk.new)) }
+    ensures failed { (s : Told) → D.told disk.old ≡ Some s → s.files name ≡ None → IfErr result (λ e. (e ≡ Failed) × Rose (D.failures disk.old) (D.failures disk.new)) }
     ensures unfailed { OnOk result (D.failures disk.new ≡ D.failures disk.old) }
     ensures memory { IfErr result (λ e. e ≢ NoMemory) }
 {
@@ -36,7 +36,7 @@ fn write_files<D: Disk>(disk: &mut D, files: &[Write]) -> Result<(), DiskFault>
     ensures told { OnOk result ((s : Told) → D.told disk.old ≡ Some s → D.told disk.new ≡ Some (files_told files.now s)) }
     ensures below { (s : Told) (from to : ℕ) → Rises from to files.now → D.told disk.old ≡ Some s → IsToldBelow from s (D.told disk.new) }
     ensures cause { HasCause (D.faults disk.old) (D.faults disk.new) result }
-    ensures failed { (s : Told) (from to : ℕ) → Rises from to files.now → D.told disk.old ≡ Some s → Below from s.files → OnErr result (Rose (D.failures disk.old) (D.failures disk.new)) }
+    ensures failed { (s : Told) (from to : ℕ) → Rises from to files.now → D.told disk.old ≡ Some s → Below from s.files → IfErr result (λ e. (e ≡ Failed) × Rose (D.failures disk.old) (D.failures disk.new)) }
     ensures unfailed { OnOk result (D.failures disk.new ≡ D.failures disk.old) }
     ensures memory { IfErr result (λ e. e ≢ NoMemory) }
 {
@@ -59,7 +59,7 @@ fn publish<D: Disk>(disk: &mut D, dir: Dir, part: Option<u64>) -> Result<(), Dis
     ensures told { OnOk result ((s : Told) → D.told disk.old ≡ Some s → D.told disk.new ≡ Some (published_told dir part s)) }
     ensures below { (s : Told) (next : ℕ) → IfSome part (λ n. next ≤ n) → D.told disk.old ≡ Some s → IsToldBelow next s (D.told disk.new) }
     ensures cause { HasCause (D.faults disk.old) (D.faults disk.new) result }
-    ensures failed { (s : Told) → D.told disk.old ≡ Some s → IfSome part (λ n. (s.files (file dir Pending n) ≢ None) × (s.files (file dir Commit n) ≡ None)) → OnErr result (Rose (D.failures disk.old) (D.failures disk.new)) }
+    ensures failed { (s : Told) → D.told disk.old ≡ Some s → IfSome part (λ n. (s.files (file dir Pending n) ≢ None) × (s.files (file dir Commit n) ≡ None)) → IfErr result (λ e. (e ≡ Failed) × Rose (D.failures disk.old) (D.failures disk.new)) }
     ensures unfailed { OnOk result (D.failures disk.new ≡ D.failures disk.old) }
     ensures memory { IfErr result (λ e. e ≢ NoMemory) }
 {
@@ -87,7 +87,7 @@ fn clear<D: Disk>(disk: &mut D, names: &[FileName]) -> Result<(), DiskFault>
     ensures told { OnOk result ((s : Told) → D.told disk.old ≡ Some s → D.told disk.new ≡ Some (cleared_told names.now s)) }
     ensures partly { (s : Told) → D.told disk.old ≡ Some s → (k : ℕ) × (D.told disk.new ≡ Some (cleared_told (take k names.now) s)) }
     ensures cause { HasCause (D.faults disk.old) (D.faults disk.new) result }
-    ensures failed { (s : Told) → D.told disk.old ≡ Some s → AreThere names.now s.files → OnErr result (Rose (D.failures disk.old) (D.failures disk.new)) }
+    ensures failed { (s : Told) → D.told disk.old ≡ Some s → AreThere names.now s.files → IfErr result (λ e. (e ≡ Failed) × Rose (D.failures disk.old) (D.failures disk.new)) }
     ensures unfailed { OnOk result (D.failures disk.new ≡ D.failures disk.old) }
     ensures memory { IfErr result (λ e. e ≢ NoMemory) }
 {
@@ -136,7 +136,7 @@ pub fn carry_out<D: Disk>(disk: &mut D, plan: &Plan) -> Result<(), DiskFault>
     ensures cause { HasCause (D.faults disk.old) (D.faults disk.new) result }
 
     // Where the plan fits the files, no fault is due, and it fails only where the device does.
-    ensures failed { (s : Told) → D.told disk.old ≡ Some s → Fits plan.now s.files → OnErr result (Rose (D.failures disk.old) (D.failures disk.new)) }
+    ensures failed { (s : Told) → D.told disk.old ≡ Some s → Fits plan.now s.files → IfErr result (λ e. (e ≡ Failed) × Rose (D.failures disk.old) (D.failures disk.new)) }
     ensures unfailed { OnOk result (D.failures disk.new ≡ D.failures disk.old) }
     ensures memory { IfErr result (λ e. e ≢ NoMemory) }
     ensures later { D.faults disk.old ≤ D.faults disk.new }

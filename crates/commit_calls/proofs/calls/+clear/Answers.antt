@@ -1,8 +1,10 @@
-use Rattle.std.proofs.Common.{subst, ℕ, List}
+use Rattle.std.proofs.Common.{◌≡◌, subst, ℕ, List}
 use Rattle.facet_disk.specs.declared.name.FileName.{FileName}
+use Rattle.std.proofs.lemmas.Result.{err_from_is_err_and}
+use Rattle.facet_disk.specs.declared.fault.DiskFault.TheVariants.{Failed}
 use Rattle.facet_disk.specs.Calls.{Rose}
 use Rattle.commit_calls.specs.Plans.{AreThere}
-use Rattle.commit_calls.proofs.Early.{cleared_behind, on_err}
+use Rattle.commit_calls.proofs.Early.{cleared_behind}
 use Rattle.commit_calls.proofs.Fitting.{rose_there}
 use Rattle.commit_calls.proofs.Lists.{split_at_first}
 use Rattle.commit_calls.proofs.Runs.{cleared_one, cleared_more}
@@ -31,10 +33,12 @@ returns-in_ok-clear-in-len1-up-clause-partly g t c = λ s is.
 pub returns-in_err-remove-in-len1-up-clause-failed : goal.returns-in_err-remove-in-len1-up-clause-failed
 returns-in_err-remove-in-len1-up-clause-failed g t c = λ s is there.
     let all = subst (λ (names : List FileName). AreThere names s.files) (split_at_first c.args.names.now _ c.in-len1-up.len_at_least) there in
-    on_err c.from_residual.result (rose_there _ _ _ s _ all.0 (c.in_err-remove-in-len1-up.ensures.due s is) c.in_err-remove-in-len1-up.ensures.failure c.in_err-remove-in-len1-up.ensures.kinds)
+    let q = err_from_is_err_and c.from_residual.result c.from_residual.ensures.1 in
+    rw (q.1, q.2) (rose_there _ _ _ s _ all.0 (c.in_err-remove-in-len1-up.ensures.due s is) c.in_err-remove-in-len1-up.ensures.failure c.in_err-remove-in-len1-up.ensures.kinds)
 
 pub returns-in_err-clear-in-len1-up-clause-failed : goal.returns-in_err-clear-in-len1-up-clause-failed
 returns-in_err-clear-in-len1-up-clause-failed g t c = λ s is there.
     let all = subst (λ (names : List FileName). AreThere names s.files) (split_at_first c.args.names.now _ c.in-len1-up.len_at_least) there in
-    on_err c.from_residual-in_err-clear-in-len1-up.result (subst (λ (n : ℕ). Rose n (g.D.Disk.failures c.clear.new.disk)) c.in_ok-remove-in-len1-up.ensures.failure.still
+    let q = err_from_is_err_and c.from_residual-in_err-clear-in-len1-up.result c.from_residual-in_err-clear-in-len1-up.ensures.1 in
+    rw (q.1, q.2) (subst (λ (n : ℕ). (c.in_err-clear-in-len1-up.field-0.0 ≡ Failed) × Rose n (g.D.Disk.failures c.clear.new.disk)) c.in_ok-remove-in-len1-up.ensures.failure.still
     (c.in_err-clear-in-len1-up.ensures.failed _ (c.in_ok-remove-in-len1-up.ensures.told.ok s is) all.1))

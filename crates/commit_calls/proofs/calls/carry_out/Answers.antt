@@ -12,6 +12,8 @@ use Rattle.commit_calls.proofs.Images.{leaves_three, is_after}
 use Rattle.commit_calls.proofs.Reaching.{while_writing, after_writing, while_half, after_half, while_whole, after_whole, while_clearing, after_clearing}
 use Rattle.commit_calls.proofs.Runs.{leaves_now}
 use Rattle.commit_calls.proofs.Tellings.{carried_below}
+use Rattle.std.proofs.lemmas.Result.{err_from_is_err_and}
+use Rattle.facet_disk.specs.declared.fault.DiskFault.TheVariants.{Failed}
 use Rattle.facet_disk.specs.Calls.{Rose}
 use Rattle.commit_calls.specs.Plans.{AreThere}
 use Rattle.commit_calls.proofs.Names.{index_taxonomy}
@@ -130,7 +132,8 @@ returns-in_err-publish-clause-failed g c = λ s is fits.
     let p = c.args.plan.now in let rises = c.requires.plan.rises in
     let made = files_told p.writes.items s in
     let told : g.D.Disk.told c.write_files.new.disk ≡ Some made = subst (λ (ws : List Write). g.D.Disk.told c.write_files.new.disk ≡ Some (files_told ws s)) c.deref.ensures.value (c.in_ok-write_files.ensures.told s is) in
-    on_err c.from_residual-in_err-publish.result (subst (λ (n : ℕ). Rose n (g.D.Disk.failures c.publish.new.disk)) c.in_ok-write_files.ensures.unfailed
+    let q = err_from_is_err_and c.from_residual-in_err-publish.result c.from_residual-in_err-publish.ensures.1 in
+    rw (q.1, q.2) (subst (λ (n : ℕ). (c.in_err-publish.field-0.0 ≡ Failed) × Rose n (g.D.Disk.failures c.publish.new.disk)) c.in_ok-write_files.ensures.unfailed
     (c.in_err-publish.ensures.failed made told (part_ready p.from p.to p.writes.items rises s fits.fresh Taxonomy p.taxonomy c.requires.plan.taxonomy_pending)))
 
 pub returns-in_err-publish-2-clause-failed : goal.returns-in_err-publish-2-clause-failed
@@ -139,7 +142,8 @@ returns-in_err-publish-2-clause-failed g c = λ s is fits.
     let made = files_told p.writes.items s in
     let told : g.D.Disk.told c.write_files.new.disk ≡ Some made = subst (λ (ws : List Write). g.D.Disk.told c.write_files.new.disk ≡ Some (files_told ws s)) c.deref.ensures.value (c.in_ok-write_files.ensures.told s is) in
     let next = published_told Taxonomy p.taxonomy made in
-    on_err c.from_residual-in_err-publish-2.result (subst (λ (n : ℕ). Rose n (g.D.Disk.failures c.publish-2.new.disk)) (c.in_ok-publish.ensures.unfailed ∙ c.in_ok-write_files.ensures.unfailed)
+    let q = err_from_is_err_and c.from_residual-in_err-publish-2.result c.from_residual-in_err-publish-2.ensures.1 in
+    rw (q.1, q.2) (subst (λ (n : ℕ). (c.in_err-publish-2.field-0.0 ≡ Failed) × Rose n (g.D.Disk.failures c.publish-2.new.disk)) (c.in_ok-publish.ensures.unfailed ∙ c.in_ok-write_files.ensures.unfailed)
     (c.in_err-publish-2.ensures.failed next (c.in_ok-publish.ensures.told made told)
     (still_ready Index Taxonomy index_taxonomy p.taxonomy p.index made (part_ready p.from p.to p.writes.items rises s fits.fresh Index p.index c.requires.plan.index_pending))))
 
@@ -152,5 +156,6 @@ returns-in_err-clear-clause-failed g c = λ s is fits.
     let whole = whole_told p s in
     let told_whole : g.D.Disk.told c.publish-2.new.disk ≡ Some whole = c.in_ok-publish-2.ensures.told next (c.in_ok-publish.ensures.told made told) in
     let there = subst (λ (names : List FileName). AreThere names whole.files) (sym c.deref-2.ensures.value) (strays_there p c.requires.plan s fits) in
-    on_err c.from_residual-in_err-clear.result (subst (λ (n : ℕ). Rose n (g.D.Disk.failures c.clear.new.disk)) (c.in_ok-publish-2.ensures.unfailed ∙ c.in_ok-publish.ensures.unfailed ∙ c.in_ok-write_files.ensures.unfailed)
+    let q = err_from_is_err_and c.from_residual-in_err-clear.result c.from_residual-in_err-clear.ensures.1 in
+    rw (q.1, q.2) (subst (λ (n : ℕ). (c.in_err-clear.field-0.0 ≡ Failed) × Rose n (g.D.Disk.failures c.clear.new.disk)) (c.in_ok-publish-2.ensures.unfailed ∙ c.in_ok-publish.ensures.unfailed ∙ c.in_ok-write_files.ensures.unfailed)
     (c.in_err-clear.ensures.failed whole told_whole there))
