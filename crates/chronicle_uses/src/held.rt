@@ -25,7 +25,9 @@ impl Held {
 }
 
 /// The count, read in two threads through a reference.
-pub fn lent_in_both<R: Threads>(rt: &R, held: &Held) -> (u64, u64) {
+pub fn lent_in_both<R: Threads>(rt: &R, held: &Held) -> (u64, u64)
+    ensures { (result.0 ≡ length held.now.loans.seen) × (result.1 ≡ length held.now.loans.seen) }
+{
     join(rt, || held.count(), || held.count())
 }
 

@@ -1,6 +1,7 @@
-ghost use Rattle.std.specs.Prelude.{◌≡◌, ◌≤◌, ◌<◌, ◌+◌, ◌-◌, ◌^◌, false, [], All, IfOk, IfSome, IfNone, OnErr};
+ghost use Rattle.std.specs.Prelude.{◌≡◌, ◌≤◌, ◌<◌, ◌+◌, ◌-◌, ◌^◌, ◌++◌, ◌∷◌, ◌⊎◌, false, [], All, IfOk, IfErr, IfSome, IfNone, OnErr, IsErrOf};
 ghost use Rattle.chronicle.specs.Shown.{mine, MayTake};
 ghost use Rattle.chronicle_uses.specs.Places.{StandsAt};
+ghost use Rattle.chronicle_uses.specs.declared.library.RunFault.TheVariants.{NoMemory as Memory};
 
 use crate::archive::{Archive, Archived, Disk, end_archive};
 use crate::loans::{Loan, LoanBook};
@@ -27,6 +28,11 @@ pub enum RunFault {
 }
 
 impl From<AllocError> for RunFault {
+    ghost use Rattle.std.specs.Prelude.{◌≡◌};
+    ghost use Rattle.chronicle_uses.specs.declared.library.RunFault.TheVariants.{NoMemory as Memory};
+
+    ghost from_gives = { λ _ e. e ≡ Memory };
+
     fn from(_: AllocError) -> RunFault {
         RunFault::NoMemory
     }
@@ -71,7 +77,10 @@ pub(crate) fn open_titles<D: Disk>(
     alloc: Global,
     title: Title,
     disk: D,
-) -> Result<Opened<D>, RunFault> {
+) -> Result<Opened<D>, RunFault>
+    ensures opened { IfOk result (λ o. (o.title ≡ title) × (o.disk ≡ disk)) }
+    ensures memory { IfErr result (λ e. e ≡ Memory) }
+{
     let mut titles = Vec::new(alloc);
     if titles.push(title).is_err() {
         return Err(RunFault::NoMemory);
@@ -104,7 +113,7 @@ impl<N: Name> Library<N> {
         requires room { (first.old.titles.made < 2 ^ 64 - 1) × (first.old.loans.made < 2 ^ 64 - 1) }
         ensures first { (first.new.titles.identity ≡ self.now.titles) × (first.new.loans.identity ≡ self.now.loans) }
         ensures made { (result.titles.identity ≡ self.now.titles) × (result.loans.identity ≡ self.now.loans) }
-        ensures numbers { (result.loans.number ≡ first.old.loans.made + 1) × (mine result.loans ≡ []) }
+        ensures numbers { (result.titles.number ≡ first.old.titles.made + 1) × (result.loans.number ≡ first.old.loans.made + 1) × (mine result.loans ≡ []) }
     {
         Visit {
             titles: self.titles.token(&mut first.titles),
@@ -123,6 +132,7 @@ pub fn lend_title<N: Name, R: Wait>(
     requires own { (visit.old.titles.identity ≡ library.now.titles) × (visit.old.loans.identity ≡ library.now.loans) }
     ensures own { (visit.new.titles.identity ≡ library.now.titles) × (visit.new.loans.identity ≡ library.now.loans) }
     ensures place { IfOk result (λ o. IfSome o (StandsAt visit.new.titles.seen title)) }
+    ensures lent { IfOk result (λ o. IfSome o (λ place. mine visit.new.loans ≡ mine visit.old.loans ++ (visit.old.loans.number, record { reader = 1; place = place }) ∷ [])) }
     ensures none { IfOk result (λ o. IfNone o (mine visit.new.loans ≡ mine visit.old.loans)) }
     ensures refused { OnErr result (mine visit.new.loans ≡ mine visit.old.loans) }
 {
@@ -183,6 +193,7 @@ fn lend_from<N: Name, R: Wait, S: Source, K: Sink>(
     requires own { (visit.old.titles.identity ≡ library.now.titles) × (visit.old.loans.identity ≡ library.now.loans) }
     ensures source { S.faults source.old ≤ S.faults source.new }
     ensures sink { K.faults sink.old ≤ K.faults sink.new }
+    ensures cause { IsErrOf result RunFault.Failed → (S.faults source.old < S.faults source.new) ⊎ (K.faults sink.old < K.faults sink.new) }
 {
     for _ in 0..u64::MAX {
         let Ok(asked) = source.read() else {
@@ -209,6 +220,7 @@ pub(crate) fn set_up<N: Name, D: Disk>(
     ensures visit { IfOk result (λ r. (r.1.titles.identity ≡ r.0.titles) × (r.1.loans.identity ≡ r.0.loans)) }
     ensures first { IfOk result (λ r. (r.1.titles.number ≡ 0) × (r.1.titles.made ≡ 0) × (r.1.loans.number ≡ 0) × (r.1.loans.made ≡ 0)) }
     ensures archive { IfOk result (λ r. (r.3.identity ≡ r.2) × MayTake r.3) }
+    ensures memory { IfErr result (λ e. e ≡ Memory) }
 {
     let Opened {
         titles,
@@ -255,6 +267,7 @@ fn run_over<N: Name + Send + Sync, R: Threads + Wait + Sync, S: Source, K: Sink,
     requires name { opened.titles ≡ N.titles }
     ensures source { S.faults source.old ≤ S.faults source.new }
     ensures sink { K.faults sink.old ≤ K.faults sink.new }
+    ensures cause { IsErrOf result RunFault.Failed → (S.faults source.old < S.faults source.new) ⊎ (K.faults sink.old < K.faults sink.new) }
 {
     let (library, mut visit, archive, mut token) = set_up::<N, D>(alloc, opened)?;
     lend_from(rt, &library, &mut visit, source, sink)?;
@@ -272,6 +285,7 @@ pub fn run<R: Threads + Wait + Sync, S: Source, K: Sink, D: Disk>(
 ) -> Result<D, RunFault>
     ensures source { S.faults source.old ≤ S.faults source.new }
     ensures sink { K.faults sink.old ≤ K.faults sink.new }
+    ensures cause { IsErrOf result RunFault.Failed → (S.faults source.old < S.faults source.new) ⊎ (K.faults sink.old < K.faults sink.new) }
 {
     let opened = open_titles(alloc, title, disk)?;
     run_over::<Brand, R, S, K, D>(rt, alloc, opened, source, sink)

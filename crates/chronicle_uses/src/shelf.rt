@@ -1,4 +1,4 @@
-ghost use Rattle.std.specs.Prelude.{◌≡◌, true, false, IfSome};
+ghost use Rattle.std.specs.Prelude.{◌≡◌, ◌==◌, if◌then◌else◌, true, false, Some, None, IfSome};
 ghost use Rattle.chronicle.specs.Shown.{SeesOn, SameToken, MayTake};
 ghost use Rattle.chronicle_uses.specs.Places.{StandsAt};
 
@@ -29,7 +29,8 @@ impl<N: Name> Shelf<N> {
         place: u64,
     ) -> Shelf<N>
         requires { (token.old.identity ≡ titles.now) × (titles.now ≡ N.titles) × StandsAt token.old.seen title place }
-        ensures { token.new ≡ token.old }
+        ensures token { token.new ≡ token.old }
+        ensures shelf { (result.title ≡ title) × (result.place ≡ place) }
     {
         Shelf {
             title,
@@ -49,6 +50,8 @@ impl<N: Name> Shelf<N> {
         requires { (token.old.identity ≡ titles.now) × (titles.now ≡ N.titles) × MayTake token.old }
         ensures token { SeesOn token.old token.new × SameToken token.old token.new × (token.new.holds_turn ≡ false) }
         ensures found { IfSome result (λ place. StandsAt token.new.seen title place) }
+        ensures sought { result ≡ (if self.old.title.number == title.number then Some self.old.place else None) }
+        ensures same { (self.new.title ≡ self.old.title) × (self.new.place ≡ self.old.place) }
     {
         if self.title.number != title.number {
             return None;
