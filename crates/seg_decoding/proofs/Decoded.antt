@@ -3,7 +3,6 @@ use Rattle.std.proofs.Common.{◌≡◌, ℕ, true, List, [], ◌∷◌, ◌++�
 use Rattle.std.specs.Prelude.{flat_map}
 use Rattle.std.specs.List.{AllZip}
 use Rattle.std.proofs.lemmas.List.{append-nil, map-append, flat_map_more}
-use Rattle.std.proofs.lemmas.Grind.{flat_map-append}
 use Rattle.std.proofs.lemmas.List.Concat.{flat_map-cons}
 use Rattle.std.proofs.lemmas.Option.{get_or_from_slice_get}
 use Rattle.facet_names.specs.Labels.{GoesOn, IsLabelList}
@@ -109,12 +108,6 @@ decodes_push known config segments docs s piece d one = (
   all_zip_push (IsSegmentOf known config) segments d.0 s piece d.1 one,
   ap (λ (ds : List Doc). ds ++ piece) d.2 ∙ flat_map_more (λ (x : List Doc). x) [] d.0 piece,
 )
-
--- the documents of one segment more come behind the others
-pub docs_push : (known : Labels) (segments : List Records) (s : Records) → docs_in known (segments ++ s ∷ []) ≡ docs_in known segments ++ map (doc_in known) s.records
-docs_push known segments s =
-    let own : records_in (s ∷ []) ≡ s.records = flat_map-cons (λ (x : Records). x.records) s [] ∙ append-nil s.records in
-    ap (map (doc_in known)) (flat_map-append (λ (x : Records). x.records) segments (s ∷ []) ∙ ap (λ (rs : List Stored). records_in segments ++ rs) own) ∙ map-append (doc_in known) (records_in segments) s.records
 
 -- the entries become a segment
 pub flushed_decodes : (config : Config) (known : Labels) (segments : List Records) (docs : List Doc) (entries : List Entry) → Decodes known config segments docs → AreEntries config known entries → Decodes known config (flushed segments entries) (docs ++ docs_of entries)
