@@ -6,7 +6,7 @@ ghost use Rattle.facet_disk.specs.Crashes.{PutOf};
 ghost use Rattle.facet_disk.specs.Calls.{HasCause, Rose};
 ghost use Rattle.commit_calls.specs.Held.{Held, Below, file};
 ghost use Rattle.commit_calls.specs.Moments.{Passes, LeavesOnly, IsAt, IsOneOfThree};
-ghost use Rattle.commit_calls.specs.Plans.{Rises, IsPlan, Leads, AreThere, Fits};
+ghost use Rattle.commit_calls.specs.Plans.{Rises, IsPlan, Leads, IsReady, AreThere, Fits};
 ghost use Rattle.commit_calls.specs.Stages.{Beside, AreWritten, IsPublished, Without};
 ghost use Rattle.commit_calls.specs.Outcomes.{file_told, files_told, published_told, cleared_told, carried_told, IsToldBelow, IsCutShort};
 
@@ -59,7 +59,7 @@ fn publish<D: Disk>(disk: &mut D, dir: Dir, part: Option<u64>) -> Result<(), Dis
     ensures told { OnOk result ((s : Told) → D.told disk.old ≡ Some s → D.told disk.new ≡ Some (published_told dir part s)) }
     ensures below { (s : Told) (next : ℕ) → IfSome part (λ n. next ≤ n) → D.told disk.old ≡ Some s → IsToldBelow next s (D.told disk.new) }
     ensures cause { HasCause (D.faults disk.old) (D.faults disk.new) result }
-    ensures failed { (s : Told) → D.told disk.old ≡ Some s → IfSome part (λ n. (s.files (file dir Pending n) ≢ None) × (s.files (file dir Commit n) ≡ None)) → IfErr result (λ e. (e ≡ Failed) × Rose (D.failures disk.old) (D.failures disk.new)) }
+    ensures failed { (s : Told) → D.told disk.old ≡ Some s → IsReady dir part s.files → IfErr result (λ e. (e ≡ Failed) × Rose (D.failures disk.old) (D.failures disk.new)) }
     ensures unfailed { OnOk result (D.failures disk.new ≡ D.failures disk.old) }
     ensures memory { IfErr result (λ e. e ≢ NoMemory) }
 {

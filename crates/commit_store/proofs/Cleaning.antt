@@ -1,5 +1,5 @@
 -- What a commit leaves of the files of a disk.
-use Rattle.std.proofs.Common.{◌≡◌, ◌≢◌, ◌⊎◌, ◌+◌, inl, inr, refl, sym, ap, subst, ◌∙◌, ⊎_elim, arith, ℕ, Bool, true, false, not, if◌then◌else◌, List, [], ◌∷◌, ◌++◌, map, length, take, Option, Some, None, Contains}
+use Rattle.std.proofs.Common.{◌≡◌, ◌≢◌, ◌⊎◌, ◌+◌, inl, inr, refl, sym, ap, subst, ◌∙◌, ⊎_elim, arith, ℕ, Bool, true, false, not, if◌then◌else◌, List, [], ◌∷◌, ◌++◌, map, length, Option, Some, None, Contains}
 use Rattle.std.specs.Prelude.{fold}
 use Rattle.std.specs.Option.{option_or}
 use Rattle.std.specs.List.{All, AllByRecursion, filter}
@@ -14,18 +14,17 @@ use Rattle.facet_disk.specs.SameNames.{with_here, with_other}
 use Rattle.facet_model.specs.Flags.{Config}
 use Rattle.facet_model.specs.Stored.{Records}
 use Rattle.commit_calls.specs.declared.plan.Plan.{Plan}
-use Rattle.commit_calls.specs.declared.plan.Write.{Write}
 use Rattle.commit_calls.specs.Held.{file}
-use Rattle.commit_calls.specs.Outcomes.{file_told, files_told, published_told, cleared_told, whole_told, carried_told, IsToldBelow, IsCutShort as PlanCutShort}
+use Rattle.commit_calls.specs.Outcomes.{file_told, made_told, published_told, parts_told, cleared_told, whole_told, carried_told, EndsEarly, IsCutShort as PlanCutShort}
 use Rattle.commit_calls.proofs.Names.{by_name}
 use Rattle.commit_file.specs.declared.taxonomy.LabelPart.{LabelPart}
 use Rattle.commit_file.specs.declared.index.DocumentPart.{DocumentPart}
 use Rattle.seg_grammar.specs.Spelling.{seg_bytes}
 use Rattle.commit_store.specs.Committed.{Committed, Kept}
-use Rattle.commit_store.specs.Drafts.{Drafted, Placed, file_view, taken, placed_by, place, placed, new_part, new_label_part, index_drafted, kept_from, index_number_from, nothing_drafted, with_labels, with_index, label_parts_with, labels_first, drafted, is_longer, is_index_left_out, labels_number, label_parts_after, index_number, kept_after, commit_names, named_files, strays_after}
+use Rattle.commit_store.specs.Drafts.{Drafted, Placed, taken, placed_by, place, placed, new_part, new_label_part, index_drafted, kept_from, index_number_from, nothing_drafted, with_labels, with_index, label_parts_with, labels_first, drafted, is_longer, is_index_left_out, labels_number, label_parts_after, index_number, kept_after, commit_names, named_files, strays_after}
 use Rattle.commit_store.specs.Strays.{in_order, is_among, strays}
 use Rattle.commit_store.specs.Plannings.{IsPlanOf}
-use Rattle.commit_store.specs.Results.{made_told, published_by, committed_told, IsCutShort}
+use Rattle.commit_store.specs.Results.{published_by, committed_told, IsCutShort}
 use Rattle.commit_store.proofs.InOrder.{in_order_has, among_has, has_among}
 use Rattle.commit_store.proofs.Held.{Labels}
 use Rattle.commit_store.proofs.Keeping.{all_push, all_weaker}
@@ -263,19 +262,12 @@ module _ (config : Config) (old : Committed) (view : Labels) (ss : List Records)
 
 -- ---- a plan's calls
 
-made_by : (ws : List Write) (s : Told) → files_told ws s ≡ made_told (map file_view ws) s
-made_by [] s = refl
-made_by (w ∷ ws) s = made_by ws (file_told s w.name w.bytes.items)
-
 module _ (config : Config) (old : Committed) (view : Labels) (ss : List Records) (p : Plan) (new : Committed) (is : IsPlanOf config old view ss p new) (s : Told) where
   pub whole_is : whole_told p s ≡ published_by config old view ss s
-  whole_is = λ i. published_told Index (is.index i) (published_told Taxonomy (is.taxonomy i) ((made_by p.writes.items s ∙ ap (λ fs. made_told fs s) is.files) i))
+  whole_is = λ i. parts_told (is.files i) (is.taxonomy i) (is.index i) s
 
   pub carried_is : carried_told p s ≡ committed_told config old view ss s
   carried_is = λ i. cleared_told (is.strays i) (whole_is i)
 
   pub cut_short_is : (now : Option Told) → PlanCutShort p s now → IsCutShort config old view ss s now
-  cut_short_is now cut = ⊎_elim
-      (λ below. inl (subst (λ (next : ℕ). IsToldBelow next s now) is.from below))
-      (λ some. inr (some.0, some.1 ∙ (λ i. Some (cleared_told (take some.0 (is.strays i)) (whole_is i)))))
-      cut
+  cut_short_is now cut = subst (λ (T : Type 0). T) (λ i. EndsEarly (is.from i) (is.strays i) (whole_is i) s now) cut

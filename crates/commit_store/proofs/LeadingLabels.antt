@@ -12,6 +12,7 @@ use Rattle.facet_disk.specs.declared.name.FileName.{FileName}
 use Rattle.facet_names.specs.Labels.{GoesOn}
 use Rattle.commit_calls.specs.declared.plan.Write.{Write}
 use Rattle.commit_calls.specs.Held.{Held, NamedBelow, file}
+use Rattle.commit_calls.specs.Outcomes.{file_view}
 use Rattle.commit_calls.specs.Plans.{Makes, PartLeads}
 use Rattle.commit_file.specs.declared.taxonomy.LabelPart.{LabelPart}
 use Rattle.commit_file.specs.Commits.{labels_listed}
@@ -20,7 +21,7 @@ use Rattle.label_file.specs.LabelBytes.{labels_bytes}
 use Rattle.label_file.specs.LabelReading.{stored_labels}
 use Rattle.store_opening.specs.Files.{labels_of, taxonomy_in, held_segments}
 use Rattle.commit_store.specs.Committed.{Committed}
-use Rattle.commit_store.specs.Drafts.{file_view, new_label_part, label_parts_with, labels_first, is_longer, with_labels, nothing_drafted, AreLabelsAgain}
+use Rattle.commit_store.specs.Drafts.{new_label_part, label_parts_with, labels_first, is_longer, with_labels, nothing_drafted, AreLabelsAgain}
 use Rattle.commit_store.proofs.Held.{Labels, held, held_front, held_new, held_below, held_one, labels_more, labels_and, labels_one}
 
 -- a file that was drafted is made

@@ -10,7 +10,6 @@ use Rattle.facet_disk.specs.declared.name.Kind.TheVariants.{Segment, Pending, Co
 use Rattle.facet_disk.specs.declared.name.FileName.{FileName}
 use Rattle.facet_model.specs.Flags.{Config}
 use Rattle.facet_model.specs.Stored.{Records}
-use Rattle.commit_calls.specs.declared.plan.Write.{Write}
 use Rattle.commit_calls.specs.Held.{file}
 use Rattle.commit_file.specs.declared.taxonomy.LabelPart.{LabelPart}
 use Rattle.commit_file.specs.declared.index.DocumentPart.{DocumentPart}
@@ -28,10 +27,6 @@ pub record Drafted : Type 0 where
   pub from : ℕ
   pub next : ℕ
   pub files : List (FileName × List ℕ)
-
--- a file to be made, as plain data
-abbrev pub file_view : Write → FileName × List ℕ
-file_view w = (w.name, w.bytes.items)
 
 -- one more file, under the next number
 abbrev pub with_file : Drafted → Dir → Kind → List ℕ → Drafted

@@ -9,11 +9,12 @@ use Rattle.commit_calls.specs.declared.plan.Plan.{Plan}
 use Rattle.facet_names.specs.Labels.{GoesOn}
 use Rattle.commit_calls.specs.Held.{Held, NamedBelow}
 use Rattle.commit_calls.specs.Moments.{IsAt}
+use Rattle.commit_calls.specs.Outcomes.{file_view}
 use Rattle.commit_calls.specs.Plans.{Rises, Leads}
 use Rattle.seg_grammar.specs.Spelling.{seg_bytes}
 use Rattle.store_opening.specs.Files.{labels_of, held_segments, files_of}
 use Rattle.commit_store.specs.Committed.{Committed, segments_in}
-use Rattle.commit_store.specs.Drafts.{file_view, drafted, committed_after, strays_after, labels_number, index_number, is_longer, is_index_left_out, segments_next, AreLabelsAgain, IsIndexAgain}
+use Rattle.commit_store.specs.Drafts.{drafted, committed_after, strays_after, labels_number, index_number, is_longer, is_index_left_out, segments_next, AreLabelsAgain, IsIndexAgain}
 
 -- Two directories hold the files of these labels and segments, and what is known of the newest commits is what they say.
 pub record IsKnown (config : Config) (s : Committed) (t i : Held) (labels : List (List (List ℕ))) (segments : List Records) : Type 0 where

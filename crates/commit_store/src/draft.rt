@@ -1,7 +1,8 @@
 ghost use Rattle.std.specs.Prelude.{◌≡◌, ◌≢◌, ◌≤◌, ◌<◌, ◌-◌, ◌^◌, map, OnOk};
 ghost use Rattle.facet_disk.specs.declared.name.Kind.TheVariants.{Commit};
 ghost use Rattle.commit_calls.specs.Plans.{Rises};
-ghost use Rattle.commit_store.specs.Drafts.{file_view, with_file, nothing_drafted};
+ghost use Rattle.commit_calls.specs.Outcomes.{file_view};
+ghost use Rattle.commit_store.specs.Drafts.{with_file, nothing_drafted};
 
 use commit_calls::{Plan, Write};
 use facet_disk::{Dir, FileName, Kind};
@@ -20,7 +21,8 @@ pub(crate) struct Draft {
 impl Model for Draft {
     ghost use Rattle.std.specs.Prelude.{◌≤◌, map};
     ghost use Rattle.commit_calls.specs.Plans.{Rises};
-    ghost use Rattle.commit_store.specs.Drafts.{Drafted, file_view};
+    ghost use Rattle.commit_calls.specs.Outcomes.{file_view};
+    ghost use Rattle.commit_store.specs.Drafts.{Drafted};
 
     ghost Value = { Drafted };
 

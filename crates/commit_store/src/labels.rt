@@ -10,7 +10,7 @@ use facet_disk::{Dir, Kind};
 use facet_names::NoMemory;
 use label_file::write_labels;
 use std::alloc::Global;
-use taxo_list::TaxoView;
+use taxo_list::{Labelled, TaxoView};
 
 /// The number of a new commit of the taxonomy, where there is one, how many labels there are, and the segments that hold them.
 #[derive(Drop)]

@@ -17,7 +17,7 @@ use seg_file::Segment;
 use std::alloc::Global;
 use std::sync::Arc;
 use store_opening::{Newest, OpenFault};
-use taxo_list::Taxonomy;
+use taxo_list::{Labelled, Taxonomy};
 
 /// A disk that was opened, with the labels and the segments of its store.
 #[derive(Drop)]

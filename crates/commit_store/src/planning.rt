@@ -2,13 +2,14 @@ ghost use Rattle.std.specs.Prelude.{◌≡◌, ◌⊎◌, ◌<◌, ◌≤◌, �
 ghost use Rattle.std.specs.Arc.{arc_value};
 ghost use Rattle.std.specs.List.{AllByRecursion};
 ghost use Rattle.std.specs.Option.{option_or};
+ghost use Rattle.commit_calls.specs.Outcomes.{file_view};
 ghost use Rattle.commit_calls.specs.Plans.{IsPlan, Rises};
 ghost use Rattle.facet_model.specs.Stored.{Decodes};
 ghost use Rattle.commit_file.specs.Commits.{AreInOrder};
 ghost use Rattle.seg_decoding.specs.Decoding.{records_in, docs_in};
 ghost use Rattle.commit_store.specs.declared.fault.CommitFault.TheVariants.{NumbersSpent, NoMemory as Memory};
 ghost use Rattle.commit_store.specs.Committed.{IsKept, kept_view};
-ghost use Rattle.commit_store.specs.Drafts.{file_view, last_number, committed_by};
+ghost use Rattle.commit_store.specs.Drafts.{last_number, committed_by};
 ghost use Rattle.commit_store.specs.Strays.{strays};
 ghost use Rattle.commit_store.specs.Plannings.{IsPlanOf, IsReadAgain, LeadsOn};
 
@@ -26,7 +27,7 @@ use facet_names::NoMemory;
 use seg_file::Segment;
 use std::alloc::Global;
 use std::sync::Arc;
-use taxo_list::TaxoView;
+use taxo_list::{Labelled, TaxoView};
 
 // The numbers of files are below this one.
 const LIMIT: u64 = 0x8000_0000_0000_0000;

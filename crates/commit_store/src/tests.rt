@@ -11,7 +11,7 @@ use seg_file::Segment;
 use std::alloc::Global;
 use std::sync::Arc;
 use std::test::Fail;
-use taxo_list::TaxoView;
+use taxo_list::{Labelled, TaxoView};
 
 // Author and Author/Bob, from ordinal 1.
 const LABELS: &[u8] = b"FTAX\x00\x00\x00\x01\x00\x00\x00\x01\x00\x00\x00\x02\

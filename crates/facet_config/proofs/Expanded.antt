@@ -6,7 +6,7 @@ use Rattle.std.specs.declared.cmp.Ordering.TheVariants.{Less, Equal, Greater}
 use Rattle.std.specs.List.{list_any, enumerate_from, zip, AllZip, AllByRecursion, dedup, Contains}
 use Rattle.std.specs.List.Sorted.{IsStrictlySortedBy, IsPermutation, IsSorted, IsStrictlyIncreasing}
 use Rattle.std.specs.Cmp.{nat_eq_equiv, both_ways}
-use Rattle.std.proofs.lemmas.Bool.{and_parts, true≢false, eqb-true, eq-eqb, ne_eqb, ltb-true, lt-ltb}
+use Rattle.std.proofs.lemmas.Bool.{or_cases, or_left, or_right, and_parts, true≢false, eqb-true, eq-eqb, ne_eqb, ltb-true, lt-ltb}
 use Rattle.std.proofs.lemmas.List.{length-take-le, get_or-map, length-map}
 use Rattle.std.proofs.lemmas.List.Folds.{list_any-append}
 use Rattle.std.proofs.lemmas.List.FromFn.{get_or-map-range_with_len, length-map-range_with_len}
@@ -20,23 +20,11 @@ use Rattle.std.proofs.lemmas.Map.Keys.{sorted_head, sorted_tail, IsStrictlyIncre
 use Rattle.facet_names.specs.Paths.{path_eq, path_eq_equiv, is_under}
 use Rattle.facet_names.specs.Labels.{IsLabelList, prefixes}
 use Rattle.facet_names.proofs.LabelLists.{same_path, place_at}
+use Rattle.facet_names.proofs.Places.{place_goes, place_comes, places_rise}
 use Rattle.facet_model.specs.declared.flags.DimFlags.{DimFlags}
 use Rattle.facet_model.specs.Flags.{Config, flags}
 use Rattle.facet_model.specs.Documents.{dim_of}
 use Rattle.facet_model.specs.CountedPaths.{is_counted_for, is_counted, counted_ordinals, ordinals_of_label, ordinals_of_labels, AreResolved}
-
--- ---- tests
-
-either_test : (a b : Bool) → (a || b) ≡ true → (a ≡ true) ⊎ (b ≡ true)
-either_test true b e = inl refl
-either_test false b e = inr e
-
-left_test : (a b : Bool) → a ≡ true → (a || b) ≡ true
-left_test a b e = ap (λ c. c || b) e
-
-right_test : (a b : Bool) → b ≡ true → (a || b) ≡ true
-right_test true b e = refl
-right_test false b e = e
 
 -- ---- numbers that rise
 
@@ -48,9 +36,6 @@ less_below x y e = by (ltb x y) (eqb x y) refl e
     by false true h e = absurd cc
     by false false h e = absurd cc
 
-below_less : (x y : ℕ) → x < y → nat_cmp x y ≡ Less
-below_less x y lt = ap (λ a. cond a Less (cond (eqb x y) Equal Greater)) (lt-ltb x y lt)
-
 -- one that is less than all of them is none of them
 none_above : (x : ℕ) (ys : List ℕ) → AllByRecursion (λ y. nat_cmp x y ≡ Less) ys → list_any (nat_eq x) ys ≡ false
 none_above x [] all = refl
@@ -59,7 +44,7 @@ none_above x (y ∷ ys) all = ap (λ b. b || list_any (nat_eq x) ys) (ne_eqb x y
 -- one of them is greater
 later_is_greater : (x y : ℕ) (zs : List ℕ) → AllByRecursion (λ z. nat_cmp y z ≡ Less) zs → list_any (nat_eq x) zs ≡ true → y ≤ x
 later_is_greater x y [] all some = absurd cc
-later_is_greater x y (z ∷ zs) all some = step (either_test (nat_eq x z) (list_any (nat_eq x) zs) some) (λ e. later_is_greater x y zs all.1 e)
+later_is_greater x y (z ∷ zs) all some = step (or_cases (nat_eq x z) (list_any (nat_eq x) zs) some) (λ e. later_is_greater x y zs all.1 e)
   where
     step : (nat_eq x z ≡ true) ⊎ (list_any (nat_eq x) zs ≡ true) → (list_any (nat_eq x) zs ≡ true → y ≤ x) → y ≤ x
     step (inl e) rest = omega (arith, eqb-true x z e, less_below y z all.0)
@@ -67,14 +52,14 @@ later_is_greater x y (z ∷ zs) all some = step (either_test (nat_eq x z) (list_
 
 -- one of them is not less than the first
 first_is_least : (x y : ℕ) (ys : List ℕ) → AllByRecursion (λ z. nat_cmp y z ≡ Less) ys → list_any (nat_eq x) (y ∷ ys) ≡ true → y ≤ x
-first_is_least x y ys all some = by (either_test (nat_eq x y) (list_any (nat_eq x) ys) some)
+first_is_least x y ys all some = by (or_cases (nat_eq x y) (list_any (nat_eq x) ys) some)
   where
     by : (nat_eq x y ≡ true) ⊎ (list_any (nat_eq x) ys ≡ true) → y ≤ x
     by (inl e) = omega (arith, eqb-true x y e)
     by (inr e) = later_is_greater x y ys all e
 
 head_is_there : (x : ℕ) (xs : List ℕ) → list_any (nat_eq x) (x ∷ xs) ≡ true
-head_is_there x xs = left_test (nat_eq x x) (list_any (nat_eq x) xs) (eq-eqb x x refl)
+head_is_there x xs = or_left (nat_eq x x) (list_any (nat_eq x) xs) (eq-eqb x x refl)
 
 -- two that have the same members are equal
 pub same_members : (xs ys : List ℕ) → IsStrictlySortedBy nat_cmp xs → IsStrictlySortedBy nat_cmp ys → ((o : ℕ) → list_any (nat_eq o) xs ≡ list_any (nat_eq o) ys) → xs ≡ ys
@@ -108,67 +93,6 @@ same_members (x ∷ xs) (y ∷ ys) sx sy same =
             omega arith
     tail o (inr none) = sym (ap (λ b. b || list_any (nat_eq o) xs) none.0) ∙ same o ∙ ap (λ b. b || list_any (nat_eq o) ys) none.1
 
--- ---- the places of those that pass
-
-module _ {A : Type 0} (passes : A → Bool) where
-  abbrev places_from : ℕ → List A → List ℕ
-  places_from n xs = map (λ e. e.0) (filter (λ e. passes e.1) (enumerate_from n xs))
-
-  -- the places of a list, whether its first element passes
-  abbrev with_place : Bool → ℕ → A → List A → List ℕ
-  with_place b n x xs = map (λ e. e.0) (cond b ((n, x) ∷ filter (λ e. passes e.1) (enumerate_from (n + 1) xs)) (filter (λ e. passes e.1) (enumerate_from (n + 1) xs)))
-
-  abbrev IsPlace : ℕ → ℕ → List A → A → Type 0
-  IsPlace n o xs d = (i : ℕ) × (o ≡ n + i) × (i < length xs) × (passes (get_or xs i d) ≡ true)
-
-  place_goes : (xs : List A) (n o : ℕ) (d : A) → list_any (nat_eq o) (places_from n xs) ≡ true → IsPlace n o xs d
-  place_goes [] n o d some = absurd cc
-  place_goes (x ∷ xs) n o d some = by (passes x) refl some (λ e. later (place_goes xs (n + 1) o d e))
-    where
-      later : IsPlace (n + 1) o xs d → IsPlace n o (x ∷ xs) d
-      later found = (suc found.0, omega (arith, found.1), omega (arith, found.2), found.3)
-
-      step : passes x ≡ true → (nat_eq o n ≡ true) ⊎ (list_any (nat_eq o) (places_from (n + 1) xs) ≡ true) → (list_any (nat_eq o) (places_from (n + 1) xs) ≡ true → IsPlace n o (x ∷ xs) d) → IsPlace n o (x ∷ xs) d
-      step h (inl e) rest = (0, omega (arith, eqb-true o n e), omega arith, h)
-      step h (inr e) rest = rest e
-
-      by : (b : Bool) → passes x ≡ b → list_any (nat_eq o) (with_place b n x xs) ≡ true → (list_any (nat_eq o) (places_from (n + 1) xs) ≡ true → IsPlace n o (x ∷ xs) d) → IsPlace n o (x ∷ xs) d
-      by true h some rest = step h (either_test (nat_eq o n) (list_any (nat_eq o) (places_from (n + 1) xs)) some) rest
-      by false h some rest = rest some
-
-  place_comes : (xs : List A) (n i : ℕ) (d : A) → i < length xs → passes (get_or xs i d) ≡ true → list_any (nat_eq (n + i)) (places_from n xs) ≡ true
-  place_comes [] n i d lt p = absurd (omega arith)
-  place_comes (x ∷ xs) n zero d lt p = first (passes x) p
-    where
-      first : (b : Bool) → b ≡ true → list_any (nat_eq (n + 0)) (with_place b n x xs) ≡ true
-      first true e = left_test (nat_eq (n + 0) n) (list_any (nat_eq (n + 0)) (places_from (n + 1) xs)) (eq-eqb (n + 0) n (omega arith))
-      first false e = absurd cc
-  place_comes (x ∷ xs) n (suc i) d lt p = by (passes x) (subst (λ m. list_any (nat_eq m) (places_from (n + 1) xs) ≡ true) next (place_comes xs (n + 1) i d (omega arith) p))
-    where
-      next : n + 1 + i ≡ n + suc i
-      next = omega arith
-
-      by : (b : Bool) → list_any (nat_eq (n + suc i)) (places_from (n + 1) xs) ≡ true → list_any (nat_eq (n + suc i)) (with_place b n x xs) ≡ true
-      by true later = right_test (nat_eq (n + suc i) n) (list_any (nat_eq (n + suc i)) (places_from (n + 1) xs)) later
-      by false later = later
-
-  places_after : (xs : List A) (n m : ℕ) → m < n → AllByRecursion (λ y. nat_cmp m y ≡ Less) (places_from n xs)
-  places_after [] n m lt = tt
-  places_after (x ∷ xs) n m lt = by (passes x) (places_after xs (n + 1) m (omega arith))
-    where
-      by : (b : Bool) → AllByRecursion (λ y. nat_cmp m y ≡ Less) (places_from (n + 1) xs) → AllByRecursion (λ y. nat_cmp m y ≡ Less) (with_place b n x xs)
-      by true rest = (below_less m n lt, rest)
-      by false rest = rest
-
-  places_rise : (xs : List A) (n : ℕ) → IsStrictlySortedBy nat_cmp (places_from n xs)
-  unfolding IsStrictlySortedBy
-  places_rise [] n = tt
-  places_rise (x ∷ xs) n = by (passes x) (places_rise xs (n + 1))
-    where
-      by : (b : Bool) → IsStrictlySortedBy nat_cmp (places_from (n + 1) xs) → IsStrictlySortedBy nat_cmp (with_place b n x xs)
-      by true rest = (places_after xs (n + 1) n (omega arith), rest)
-      by false rest = rest
-
 -- ---- the ordinals that pass beside their numbers
 
 module _ (keeps : ℕ × ℕ → Bool) where
@@ -198,7 +122,7 @@ module _ (keeps : ℕ × ℕ → Bool) where
       step h (inr e) rest = rest e
 
       by : (b : Bool) → keeps (n, x) ≡ b → list_any (nat_eq o) (with_kept b n x xs) ≡ true → (list_any (nat_eq o) (kept_from (n + 1) xs) ≡ true → IsKept n o (x ∷ xs)) → IsKept n o (x ∷ xs)
-      by true h some rest = step h (either_test (nat_eq o x) (list_any (nat_eq o) (kept_from (n + 1) xs)) some) rest
+      by true h some rest = step h (or_cases (nat_eq o x) (list_any (nat_eq o) (kept_from (n + 1) xs)) some) rest
       by false h some rest = rest some
 
   kept_comes : (ords : List ℕ) (n k : ℕ) → k < length ords → keeps (n + k, get_or ords k 0) ≡ true → list_any (nat_eq (get_or ords k 0)) (kept_from n ords) ≡ true
@@ -209,7 +133,7 @@ module _ (keeps : ℕ × ℕ → Bool) where
       at = omega arith
 
       first : (b : Bool) → b ≡ true → list_any (nat_eq x) (with_kept b n x xs) ≡ true
-      first true e = left_test (nat_eq x x) (list_any (nat_eq x) (kept_from (n + 1) xs)) (eq-eqb x x refl)
+      first true e = or_left (nat_eq x x) (list_any (nat_eq x) (kept_from (n + 1) xs)) (eq-eqb x x refl)
       first false e = absurd cc
   kept_comes (x ∷ xs) n (suc k) lt p = by (keeps (n, x)) (kept_comes xs (n + 1) k (omega arith) (ap (λ m. keeps (m, get_or xs k 0)) next ∙ p))
     where
@@ -217,7 +141,7 @@ module _ (keeps : ℕ × ℕ → Bool) where
       next = omega arith
 
       by : (b : Bool) → list_any (nat_eq (get_or xs k 0)) (kept_from (n + 1) xs) ≡ true → list_any (nat_eq (get_or xs k 0)) (with_kept b n x xs) ≡ true
-      by true later = right_test (nat_eq (get_or xs k 0) x) (list_any (nat_eq (get_or xs k 0)) (kept_from (n + 1) xs)) later
+      by true later = or_right (nat_eq (get_or xs k 0) x) (list_any (nat_eq (get_or xs k 0)) (kept_from (n + 1) xs)) later
       by false later = later
 
 -- ---- the prefixes of a path
@@ -253,7 +177,7 @@ under_is_front path other e = same_path other (take (length other) path) e
 
 -- a path that is counted for a label is a prefix of it
 pub counted_is_prefix : (f : DimFlags) (label path : List (List ℕ)) → 0 < length label → is_counted_for f label path ≡ true → (0 < length path) × (length path ≤ length label) × (path ≡ take (length path) label)
-counted_is_prefix f label path some e = by (either_test (path_eq label path) _ e)
+counted_is_prefix f label path some e = by (or_cases (path_eq label path) _ e)
   where
     whole : (path : List (List ℕ)) → take (length path) path ≡ path
     whole [] = refl
@@ -310,7 +234,7 @@ module _ (known : List (List (List ℕ))) (is : IsLabelList known) (config : Con
   goes o [] (ords ∷ resolved) at some = absurd at
   goes o (label ∷ labels) [] at some = absurd at
   goes o (label ∷ labels) (ords ∷ resolved) at some =
-      by (either_test _ _ (sym (list_any-append (nat_eq o) (ordinals_of_label config label ords) (ordinals_of_labels config labels resolved)) ∙ sym (ap (list_any (nat_eq o)) (flat_map-cons (λ (l : List (List ℕ) × List ℕ). ordinals_of_label config l.0 l.1) (label, ords) (zip labels resolved))) ∙ some))
+      by (or_cases _ _ (sym (list_any-append (nat_eq o) (ordinals_of_label config label ords) (ordinals_of_labels config labels resolved)) ∙ sym (ap (list_any (nat_eq o)) (flat_map-cons (λ (l : List (List ℕ) × List ℕ). ordinals_of_label config l.0 l.1) (label, ords) (zip labels resolved))) ∙ some))
       (λ e. goes o labels resolved at.1 e)
     where
       by : (list_any (nat_eq o) (ordinals_of_label config label ords) ≡ true) ⊎ (list_any (nat_eq o) (ordinals_of_labels config labels resolved) ≡ true)
@@ -322,10 +246,10 @@ module _ (known : List (List (List ℕ))) (is : IsLabelList known) (config : Con
           let path : get_or known o [] ≡ take (found.0 + 1) label = get_or_from_slice_get known o (take (found.0 + 1) label) [] there in
           let first : 0 + found.0 ≡ found.0 = omega arith in
           let counted : is_counted_for (flags config (dim_of label)) label (get_or known o []) ≡ true = ap (is_counted_for (flags config (dim_of label)) label) path ∙ sym (ap (λ m. is_counted_for (flags config (dim_of label)) label (take (m + 1) label)) first) ∙ found.3 in
-          (slice_get_within known o (take (found.0 + 1) label) there, left_test (is_counted_for (flags config (dim_of label)) label (get_or known o [])) (is_counted config labels (get_or known o [])) counted)
+          (slice_get_within known o (take (found.0 + 1) label) there, or_left (is_counted_for (flags config (dim_of label)) label (get_or known o [])) (is_counted config labels (get_or known o [])) counted)
       by (inr e) rest =
           let found = rest e in
-          (found.0, right_test (is_counted_for (flags config (dim_of label)) label (get_or known o [])) (is_counted config labels (get_or known o [])) found.1)
+          (found.0, or_right (is_counted_for (flags config (dim_of label)) label (get_or known o [])) (is_counted config labels (get_or known o [])) found.1)
 
   comes : (o : ℕ) (labels : List (List (List ℕ))) (resolved : List (List ℕ)) → AreResolved known labels resolved → AllByRecursion (λ l. 0 < length l) labels → o < length known → is_counted config labels (get_or known o []) ≡ true
       → list_any (nat_eq o) (ordinals_of_labels config labels resolved) ≡ true
@@ -335,7 +259,7 @@ module _ (known : List (List (List ℕ))) (is : IsLabelList known) (config : Con
   comes o (label ∷ labels) (ords ∷ resolved) at some lt e =
       ap (list_any (nat_eq o)) (flat_map-cons (λ (l : List (List ℕ) × List ℕ). ordinals_of_label config l.0 l.1) (label, ords) (zip labels resolved))
       ∙ list_any-append (nat_eq o) (ordinals_of_label config label ords) (ordinals_of_labels config labels resolved)
-      ∙ by (either_test (is_counted_for (flags config (dim_of label)) label (get_or known o [])) (is_counted config labels (get_or known o [])) e) (λ h. comes o labels resolved at.1 some.1 lt h)
+      ∙ by (or_cases (is_counted_for (flags config (dim_of label)) label (get_or known o [])) (is_counted config labels (get_or known o [])) e) (λ h. comes o labels resolved at.1 some.1 lt h)
     where
       by : (is_counted_for (flags config (dim_of label)) label (get_or known o []) ≡ true) ⊎ (is_counted config labels (get_or known o []) ≡ true)
           → (is_counted config labels (get_or known o []) ≡ true → list_any (nat_eq o) (ordinals_of_labels config labels resolved) ≡ true)
@@ -352,11 +276,11 @@ module _ (known : List (List (List ℕ))) (is : IsLabelList known) (config : Con
           let same : get_or ords k 0 ≡ o = same_number (get_or ords k 0) o (sym (place_at known is (get_or ords k 0) path beside) ∙ place_at known is o path here) in
           let first : 0 + k ≡ k = omega arith in
           let kept : keeps label (0 + k, get_or ords k 0) ≡ true = ap (λ m. is_counted_for (flags config (dim_of label)) label (take (m + 1) label)) first ∙ ap (is_counted_for (flags config (dim_of label)) label) (sym is_prefix) ∙ h in
-          left_test (list_any (nat_eq o) (ordinals_of_label config label ords)) (list_any (nat_eq o) (ordinals_of_labels config labels resolved)) (subst (λ n. list_any (nat_eq n) (ordinals_of_label config label ords) ≡ true) same (kept_comes (keeps label) ords 0 k low kept))
+          or_left (list_any (nat_eq o) (ordinals_of_label config label ords)) (list_any (nat_eq o) (ordinals_of_labels config labels resolved)) (subst (λ n. list_any (nat_eq n) (ordinals_of_label config label ords) ≡ true) same (kept_comes (keeps label) ords 0 k low kept))
         where
           same_number : (m n : ℕ) → ◌≡◌ {A = Option ℕ} (Some m) (Some n) → m ≡ n
           same_number m n e = cc
-      by (inr h) rest = right_test (list_any (nat_eq o) (ordinals_of_label config label ords)) (list_any (nat_eq o) (ordinals_of_labels config labels resolved)) (rest h)
+      by (inr h) rest = or_right (list_any (nat_eq o) (ordinals_of_label config label ords)) (list_any (nat_eq o) (ordinals_of_labels config labels resolved)) (rest h)
 
   -- rising ordinals with these members are those of the counted paths
   pub expanded_are_counted : (labels : List (List (List ℕ))) (resolved : List (List ℕ)) (ords : List ℕ) → AreResolved known labels resolved → AllByRecursion (λ l. 0 < length l) labels → IsStrictlySortedBy nat_cmp ords
@@ -369,14 +293,14 @@ module _ (known : List (List (List ℕ))) (is : IsLabelList known) (config : Con
           there : list_any (nat_eq o) (ordinals_of_labels config labels resolved) ≡ true → list_any (nat_eq o) (counted_ordinals known config labels) ≡ true
           there e =
               let found = goes o labels resolved at e in
-              let first : 0 + o ≡ o = omega arith in
-              subst (λ n. list_any (nat_eq n) (counted_ordinals known config labels) ≡ true) first (place_comes (is_counted config labels) known 0 o [] found.0 found.1)
+              let first : o ≡ 0 + o = omega arith in
+              place_comes (is_counted config labels) (nat_eq o) 0 known [] o found.0 found.1 (eq-eqb o (0 + o) first)
 
           back : list_any (nat_eq o) (counted_ordinals known config labels) ≡ true → list_any (nat_eq o) (ordinals_of_labels config labels resolved) ≡ true
           back e =
-              let found = place_goes (is_counted config labels) known 0 o [] e in
-              let same : o ≡ found.0 = omega (arith, found.1) in
-              comes o labels resolved at some (omega (arith, same, found.2)) (ap (λ n. is_counted config labels (get_or known n [])) same ∙ found.3)
+              let found = place_goes (is_counted config labels) (nat_eq o) 0 known [] e in
+              let same : o ≡ found.0 = omega (arith, eqb-true o (0 + found.0) found.3) in
+              comes o labels resolved at some (omega (arith, same, found.1)) (ap (λ n. is_counted config labels (get_or known n [])) same ∙ found.2)
 
 -- ---- walking over the labels
 

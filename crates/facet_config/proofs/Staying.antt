@@ -9,15 +9,12 @@ use Rattle.std.proofs.lemmas.List.Folds.{list_any-append}
 use Rattle.std.proofs.lemmas.List.FromFn.{get_or-map-range_with_len, length-map-range_with_len}
 use Rattle.facet_names.specs.Paths.{path_eq, is_under}
 use Rattle.facet_names.specs.Labels.{IsLabelList, GoesOn, prefixes, stands}
-use Rattle.facet_names.proofs.LabelLists.{same_path, fresh, root_stands}
+use Rattle.facet_names.proofs.LabelLists.{Labels, same_path, fresh, root_stands}
 use Rattle.facet_model.specs.declared.flags.DimFlags.{DimFlags}
 use Rattle.facet_model.specs.Flags.{Config, flags}
 use Rattle.facet_model.specs.Documents.{dim_of}
 use Rattle.facet_model.specs.CountedPaths.{is_counted_for, is_counted, places, counted_ordinals}
 use Rattle.facet_config.proofs.Expanded.{counted_is_prefix}
-
-abbrev Labels : Type 0
-Labels = List (List (List ℕ))
 
 -- a longer list is the shorter one and the rest
 pub goes_on_by : (a b : Labels) → GoesOn a b → b ≡ a ++ drop (length a) b

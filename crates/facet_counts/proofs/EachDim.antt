@@ -1,32 +1,30 @@
 -- The walk over the dimensions.
-use Rattle.std.proofs.Common.{◌≡◌, ℕ, zero, suc, ◌<◌, ◌≤◌, ◌⊎◌, Bool, true, false, ◌||◌, cond, List, [], ◌∷◌, length, get_or, slice_get, Option, Some, None, refl, sym, ap, subst, ◌∙◌, arith, inl, inr}
+use Rattle.std.proofs.Common.{◌≡◌, ℕ, suc, ◌<◌, ◌≤◌, ◌⊎◌, Bool, true, false, ◌||◌, List, [], ◌∷◌, length, get_or, slice_get, Option, Some, None, refl, sym, ap, subst, ◌∙◌, arith, inl, inr, ⊎_elim}
 use Rattle.std.specs.Prelude.{IfSome, nat_le, filter, option_to_list}
 use Rattle.std.specs.Option.{option_map_or}
 use Rattle.std.specs.Str.{bytes_eq}
 use Rattle.std.specs.Cmp.Lexicographic.{bytes_decides}
-use Rattle.std.proofs.lemmas.Bool.{true≢false, cases_eq, cases_order, le-leb, lt-leb, false_from_ne_true}
+use Rattle.std.proofs.lemmas.Bool.{true≢false, cases_lt, cases_order, le-leb, lt-leb, false_from_ne_true}
 use Rattle.std.proofs.lemmas.Option.{same_Some, none-some, slice_get-get_or}
-use Rattle.facet_names.specs.Paths.{path_eq}
+use Rattle.facet_names.specs.Paths.{path_eq, last_part}
 use Rattle.facet_names.specs.Labels.{IsLabelList, place}
 use Rattle.facet_names.specs.Arrays.{greatest, is_child, child_at, sibling_at}
+use Rattle.facet_names.proofs.Greatest.{IsGreatest, greatest_is, greatest_passes}
 use Rattle.facet_model.specs.Documents.{Doc}
 use Rattle.facet_model.specs.Flags.{Config}
 use Rattle.facet_model.specs.Results.{Listed, IsTop}
-use Rattle.facet_counts.specs.Children.{last_of}
 use Rattle.facet_counts.specs.Dims.{AreDims}
 use Rattle.taxo_list.proofs.Labels.{some_label, root_first, place_at}
-use Rattle.facet_counts.proofs.Walk.{greatest_passes, sibling_is}
+use Rattle.facet_counts.proofs.Walk.{sibling_is}
 use Rattle.facet_counts.proofs.Listed.{child_label, label_child}
 
 -- the greatest that passes is at least each that does
 greatest_most : (passes : ℕ → Bool) (n q : ℕ) → q < n → passes q ≡ true → q < option_map_or suc (greatest passes n) 0
-greatest_most passes zero q low passed = absurd (omega arith)
-greatest_most passes (suc n) q low passed = by (passes n) refl (cases_eq q n) (λ less. greatest_most passes n q less passed)
+greatest_most passes n q low passed = by (greatest passes n) (greatest_is passes n)
   where
-    by : (b : Bool) → passes n ≡ b → (q ≡ n) ⊎ (q ≡ n → ⊥) → (q < n → q < option_map_or suc (greatest passes n) 0) → q < option_map_or suc (cond b (Some n) (greatest passes n)) 0
-    by true e other again = omega arith
-    by false e (inl same) again = absurd (true≢false (sym passed ∙ ap passes same ∙ e))
-    by false e (inr apart) again = again (omega arith)
+    by : (o : Option ℕ) → IsGreatest passes n o → q < option_map_or suc o 0
+    by None is = absurd (true≢false (sym passed ∙ is q low))
+    by (Some k) is = ⊎_elim (λ (over : k < q). absurd (true≢false (sym passed ∙ is.2 q over low))) (λ (under : q ≤ k). omega (arith, under)) (cases_lt k q)
 
 next_most : (o : Option ℕ) (c : ℕ) → IfSome o (λ s. s < c) → option_map_or suc o 0 ≤ c
 next_most None c below = omega arith
@@ -41,7 +39,7 @@ module _ (labels : List (List (List ℕ))) (is : IsLabelList labels) where
   root_is = slice_get-get_or labels 0 [] (some_label labels is) ∙ ap Some (root_first labels is [])
 
   -- a child of the root is a dimension
-  pub dim_label : (c : ℕ) → c < length labels → is_child labels 0 c ≡ true → (0 < c) × (get_or labels c [] ≡ last_of (get_or labels c []) ∷ [])
+  pub dim_label : (c : ℕ) → c < length labels → is_child labels 0 c ≡ true → (0 < c) × (get_or labels c [] ≡ last_part (get_or labels c []) ∷ [])
   dim_label c lt child = child_label labels is [] 0 [] root_is c lt child
 
   dim_child : (dim : List ℕ) (q : ℕ) → place labels (dim ∷ []) ≡ Some q → (q < length labels) × (is_child labels 0 q ≡ true) × (get_or labels q [] ≡ dim ∷ [])
@@ -61,11 +59,11 @@ module _ (labels : List (List (List ℕ))) (is : IsLabelList labels) where
   walk_begins config docs_of n = record { each = λ dim. (None, λ t. absurd (true≢false (sym t ∙ none_walked dim)), λ t. refl, refl); alone = refl }
 
   module _ (c : ℕ) (lt : c < length labels) (child : is_child labels 0 c ≡ true) where
-    place_is : place labels (last_of (get_or labels c []) ∷ []) ≡ Some c
+    place_is : place labels (last_part (get_or labels c []) ∷ []) ≡ Some c
     place_is = ap (place labels) (sym (dim_label c lt child).1) ∙ place_at labels is c (get_or labels c []) (slice_get-get_or labels c [] lt)
 
     -- the next is not walked yet
-    pub not_walked : walked labels (Some c) (last_of (get_or labels c [])) ≡ false
+    pub not_walked : walked labels (Some c) (last_part (get_or labels c [])) ≡ false
     not_walked = ap (λ o. option_map_or (nat_le (suc c)) o false) place_is ∙ lt-leb (suc c) c (omega arith)
 
     below : option_map_or suc (sibling_at labels c) 0 ≤ c
@@ -76,26 +74,26 @@ module _ (labels : List (List (List ℕ))) (is : IsLabelList labels) where
         lower (Some s) at = at.0
 
     -- with it, those that are walked are those behind its sibling
-    one_more : (d : List ℕ) → (bytes_eq d (last_of (get_or labels c [])) || walked labels (Some c) d) ≡ walked labels (sibling_at labels c) d
+    one_more : (d : List ℕ) → (bytes_eq d (last_part (get_or labels c [])) || walked labels (Some c) d) ≡ walked labels (sibling_at labels c) d
     one_more d = by (place labels (d ∷ [])) refl
       where
-        other : (o : Option ℕ) → place labels (d ∷ []) ≡ o → (o ≡ Some c → ⊥) → bytes_eq d (last_of (get_or labels c [])) ≡ false
-        other o e apart = false_from_ne_true (bytes_eq d (last_of (get_or labels c []))) (λ t. apart (sym e ∙ ap (λ k. place labels (k ∷ [])) ((bytes_decides d (last_of (get_or labels c []))).0 t) ∙ place_is))
+        other : (o : Option ℕ) → place labels (d ∷ []) ≡ o → (o ≡ Some c → ⊥) → bytes_eq d (last_part (get_or labels c [])) ≡ false
+        other o e apart = false_from_ne_true (bytes_eq d (last_part (get_or labels c []))) (λ t. apart (sym e ∙ ap (λ k. place labels (k ∷ [])) ((bytes_decides d (last_part (get_or labels c []))).0 t) ∙ place_is))
 
         at : (next : Option ℕ) (q : ℕ) → place labels (d ∷ []) ≡ Some q → (b : Bool) → nat_le (option_map_or suc next 0) q ≡ b → walked labels next d ≡ b
         at next q e b is = ap (λ o. option_map_or (nat_le (option_map_or suc next 0)) o false) e ∙ is
 
-        by : (o : Option ℕ) → place labels (d ∷ []) ≡ o → (bytes_eq d (last_of (get_or labels c [])) || walked labels (Some c) d) ≡ walked labels (sibling_at labels c) d
+        by : (o : Option ℕ) → place labels (d ∷ []) ≡ o → (bytes_eq d (last_part (get_or labels c [])) || walked labels (Some c) d) ≡ walked labels (sibling_at labels c) d
         by None e =
             (λ t. other None e (λ x. none-some c x) t || option_map_or (nat_le (suc c)) (e t) false)
             ∙ sym (ap (λ o. option_map_or (nat_le (option_map_or suc (sibling_at labels c) 0)) o false) e)
         by (Some q) e = order (cases_order q c)
           where
-            order : (q ≡ c) ⊎ ((q < c) ⊎ (c < q)) → (bytes_eq d (last_of (get_or labels c [])) || walked labels (Some c) d) ≡ walked labels (sibling_at labels c) d
+            order : (q ≡ c) ⊎ ((q < c) ⊎ (c < q)) → (bytes_eq d (last_part (get_or labels c [])) || walked labels (Some c) d) ≡ walked labels (sibling_at labels c) d
             order (inl same) =
-                let path : d ∷ [] ≡ last_of (get_or labels c []) ∷ [] = sym (dim_child d q e).2 ∙ ap (λ k. get_or labels k []) same ∙ (dim_label c lt child).1 in
-                let dim : d ≡ last_of (get_or labels c []) = cc in
-                ap (λ b. b || walked labels (Some c) d) ((bytes_decides d (last_of (get_or labels c []))).1 dim)
+                let path : d ∷ [] ≡ last_part (get_or labels c []) ∷ [] = sym (dim_child d q e).2 ∙ ap (λ k. get_or labels k []) same ∙ (dim_label c lt child).1 in
+                let dim : d ≡ last_part (get_or labels c []) = cc in
+                ap (λ b. b || walked labels (Some c) d) ((bytes_decides d (last_part (get_or labels c []))).1 dim)
                 ∙ sym (at (sibling_at labels c) q e true (le-leb (option_map_or suc (sibling_at labels c) 0) q (omega (arith, below, same))))
             order (inr (inl less)) =
                 let child_q = dim_child d q e in
@@ -106,7 +104,7 @@ module _ (labels : List (List (List ℕ))) (is : IsLabelList labels) where
                 (λ t. other (Some q) e (λ x. absurd (omega (arith, same_Some q c x, more))) t || at (Some c) q e true (le-leb (suc c) q (omega (arith, more))) t)
                 ∙ sym (at (sibling_at labels c) q e true (le-leb (option_map_or suc (sibling_at labels c) 0) q (omega (arith, below, more))))
 
-    pub walk_goes : (λ d. bytes_eq d (last_of (get_or labels c [])) || walked labels (Some c) d) ≡ walked labels (sibling_at labels c)
+    pub walk_goes : (λ d. bytes_eq d (last_part (get_or labels c [])) || walked labels (Some c) d) ≡ walked labels (sibling_at labels c)
     walk_goes = λ i d. one_more d i
 
   -- At last all that are labels are, and no other has a result.

@@ -1,22 +1,24 @@
 -- The children that are walked over, sorted, are a listing of the counts below the path.
-use Rattle.std.proofs.Common.{◌≡◌, ℕ, zero, suc, ◌+◌, ◌-◌, ◌<◌, ◌≤◌, ◌⊎◌, Bool, true, false, ◌&&◌, cond, List, [], ◌∷◌, ◌++◌, length, take, map, get_or, slice_get, Option, Some, None, nat_eq, refl, sym, ap, subst, ◌∙◌, arith, inl, inr, Ordering}
-use Rattle.std.specs.Prelude.{nat_lt, option_and_then, unwrap_or, count_by, All}
+use Rattle.std.proofs.Common.{◌≡◌, ℕ, zero, suc, ◌+◌, ◌<◌, ◌≤◌, ◌⊎◌, Bool, true, false, ◌&&◌, cond, List, [], ◌∷◌, ◌++◌, length, map, get_or, slice_get, Option, Some, None, nat_eq, refl, sym, ap, subst, ◌∙◌, arith, inl, inr, Ordering}
+use Rattle.std.specs.Prelude.{nat_lt, option_and_then, count_by, All}
 use Rattle.std.specs.Option.{option_map_or}
 use Rattle.std.specs.Str.{bytes_eq}
 use Rattle.std.specs.Ordering.{nat_cmp, on, flip_args, then_cmp}
 use Rattle.std.specs.List.Sorted.{IsSorted, IsPermutation}
 use Rattle.std.specs.Cmp.Lexicographic.{slice_cmp, bytes_decides}
 use Rattle.std.proofs.lemmas.Bool.{eq-eqb, cases_eq, false_from_ne_true, and_left}
-use Rattle.std.proofs.lemmas.List.{take_at, length-append, get_or-map, length-map}
+use Rattle.std.proofs.lemmas.List.{length-append, get_or-map, length-map}
 use Rattle.std.proofs.lemmas.List.Elements.{All-nil, All-cons}
 use Rattle.std.proofs.lemmas.List.Sums.{sum_by-cons}
 use Rattle.std.proofs.lemmas.List.Sorted.{IsPermutation-map, All-permutation, sum_by-IsPermutation}
 use Rattle.std.proofs.lemmas.Option.{same_Some, none-some, slice_get-get_or, get_or_from_slice_get, slice_get_within}
+use Rattle.facet_names.specs.Paths.{last_part}
 use Rattle.facet_names.specs.Labels.{IsLabelList, above, place}
 use Rattle.facet_names.specs.Arrays.{is_child, parent_at}
+use Rattle.facet_names.proofs.LabelLists.{above_more, last_more, split_last}
 use Rattle.facet_model.specs.Listing.{PartCount, IsListing, counted_child, listing_cmp}
 use Rattle.facet_model.specs.declared.result.Child.{Child}
-use Rattle.facet_counts.specs.Children.{last_of, falling, entry_of, entries_of, children_at}
+use Rattle.facet_counts.specs.Children.{falling, entry_of, entries_of, children_at}
 use Rattle.taxo_list.proofs.Labels.{place_at, label_at, root_first}
 use Rattle.facet_counts.proofs.Entries.{has_parent}
 use Rattle.facet_counts.proofs.Walk.{parent_of_child}
@@ -70,45 +72,17 @@ ordered_images (y ∷ ys) h = λ k d low high.
     let next = get_or-map counted_child (y ∷ ys) (k + 1) y d long in
     rw (here, next) (h k y low long)
 
--- ---- paths
-
--- a path is the one above it and the last component
-split_last : (path : List (List ℕ)) → 0 < length path → path ≡ above path ++ last_of path ∷ []
-split_last [] some = absurd (omega arith)
-split_last (part ∷ []) some = refl
-split_last (part ∷ next ∷ path) some =
-    let more : suc (suc (length path)) - 1 ≡ suc (length path) = omega arith in
-    let fewer : suc (length path) - 1 ≡ length path = omega arith in
-    let rest : next ∷ path ≡ take (length path) (next ∷ path) ++ unwrap_or (slice_get (next ∷ path) (length path)) [] ∷ [] = subst (λ n. next ∷ path ≡ take n (next ∷ path) ++ unwrap_or (slice_get (next ∷ path) n) [] ∷ []) fewer (split_last (next ∷ path) (omega arith)) in
-    subst (λ n. part ∷ next ∷ path ≡ take n (part ∷ next ∷ path) ++ unwrap_or (slice_get (part ∷ next ∷ path) n) [] ∷ []) (sym more) (λ t. part ∷ rest t)
-
-above_push : (path : List (List ℕ)) (part : List ℕ) → above (path ++ part ∷ []) ≡ path
-above_push path part = ap (λ n. take n (path ++ part ∷ [])) size ∙ take_at path (part ∷ []) (length path) refl
-  where
-    size : length (path ++ part ∷ []) - 1 ≡ length path
-    size = omega (arith, length-append path (part ∷ []))
-
-last_push : (path : List (List ℕ)) (part : List ℕ) → last_of (path ++ part ∷ []) ≡ part
-last_push path part = ap (λ n. unwrap_or (slice_get (path ++ part ∷ []) n) []) size ∙ at path
-  where
-    size : length (path ++ part ∷ []) - 1 ≡ length path
-    size = omega (arith, length-append path (part ∷ []))
-
-    at : (path : List (List ℕ)) → unwrap_or (slice_get (path ++ part ∷ []) (length path)) [] ≡ part
-    at [] = refl
-    at (first ∷ path) = at path
-
 -- ---- the children of a label
 
 module _ (labels : List (List (List ℕ))) (is : IsLabelList labels) (totals : List ℕ) (ord : ℕ) (path : List (List ℕ)) (here : slice_get labels ord ≡ Some path) where
   -- a child's label is the path with its last component behind it
-  pub child_label : (c : ℕ) → c < length labels → is_child labels ord c ≡ true → (0 < c) × (get_or labels c [] ≡ path ++ last_of (get_or labels c []) ∷ [])
+  pub child_label : (c : ℕ) → c < length labels → is_child labels ord c ≡ true → (0 < c) × (get_or labels c [] ≡ path ++ last_part (get_or labels c []) ∷ [])
   child_label zero lt child = absurd (none-some ord (parent_of_child labels ord 0 child))
   child_label (suc c) lt child =
       let parent = has_parent labels is (suc c) (omega arith) lt in
       let same : parent.0 ≡ ord = same_Some parent.0 ord (sym parent.2 ∙ parent_of_child labels ord (suc c) child) in
       let up : above (get_or labels (suc c) []) ≡ path = same_Some (above (get_or labels (suc c) [])) path (sym parent.3 ∙ ap (slice_get labels) same ∙ here) in
-      (omega arith, split_last (get_or labels (suc c) []) (some (get_or labels (suc c) []) refl) ∙ ap (λ p. p ++ last_of (get_or labels (suc c) []) ∷ []) up)
+      (omega arith, sym (split_last (get_or labels (suc c) []) (some (get_or labels (suc c) []) refl)) ∙ ap (λ p. p ++ last_part (get_or labels (suc c) []) ∷ []) up)
     where
       some : (q : List (List ℕ)) → get_or labels (suc c) [] ≡ q → 0 < length (get_or labels (suc c) [])
       some [] e =
@@ -127,21 +101,21 @@ module _ (labels : List (List (List ℕ))) (is : IsLabelList labels) (totals : L
           let root : path ++ part ∷ [] ≡ [] = sym (get_or_from_slice_get labels 0 (path ++ part ∷ []) [] label) ∙ root_first labels is [] in
           absurd (omega (arith, ap length root, length-append path (part ∷ [])))
       by (suc q) label =
-          let parent : parent_at labels (suc q) ≡ Some ord = ap (option_and_then (λ p. place labels (above p))) label ∙ ap (place labels) (above_push path part) ∙ place_at labels is ord path here in
+          let parent : parent_at labels (suc q) ≡ Some ord = ap (option_and_then (λ p. place labels (above p))) label ∙ ap (place labels) (above_more path part) ∙ place_at labels is ord path here in
           (slice_get_within labels (suc q) (path ++ part ∷ []) label, ap (λ o. option_map_or (nat_eq ord) o false) parent ∙ eq-eqb ord ord refl, get_or_from_slice_get labels (suc q) (path ++ part ∷ []) [] label)
 
   -- a child's count is that at the path with its component
-  child_count : (c : ℕ) → c < length labels → is_child labels ord c ≡ true → count_at labels totals (path ++ last_of (get_or labels c []) ∷ []) ≡ get_or totals c 0
+  child_count : (c : ℕ) → c < length labels → is_child labels ord c ≡ true → count_at labels totals (path ++ last_part (get_or labels c []) ∷ []) ≡ get_or totals c 0
   child_count c lt child =
       let label = child_label c lt child in
-      let at : place labels (path ++ last_of (get_or labels c []) ∷ []) ≡ Some c = ap (place labels) (sym label.1) ∙ place_at labels is c (get_or labels c []) (slice_get-get_or labels c [] lt) in
+      let at : place labels (path ++ last_part (get_or labels c []) ∷ []) ≡ Some c = ap (place labels) (sym label.1) ∙ place_at labels is c (get_or labels c []) (slice_get-get_or labels c [] lt) in
       ap (λ o. option_map_or (λ k. get_or totals k 0) o 0) at
 
   -- ---- each once
 
-  times_entries : (part : List ℕ) (cs : List ℕ) → count_by (λ (e : PartCount). bytes_eq part e.0) (entries_of labels totals cs) ≡ count_by (λ c. bytes_eq part (last_of (get_or labels c [])) && nat_lt 0 (get_or totals c 0)) cs
+  times_entries : (part : List ℕ) (cs : List ℕ) → count_by (λ (e : PartCount). bytes_eq part e.0) (entries_of labels totals cs) ≡ count_by (λ c. bytes_eq part (last_part (get_or labels c [])) && nat_lt 0 (get_or totals c 0)) cs
   times_entries part [] = refl
-  times_entries part (c ∷ cs) = by (nat_lt 0 (get_or totals c 0)) refl (times_entries part cs) ∙ sym (count_cons (λ c. bytes_eq part (last_of (get_or labels c [])) && nat_lt 0 (get_or totals c 0)) c cs)
+  times_entries part (c ∷ cs) = by (nat_lt 0 (get_or totals c 0)) refl (times_entries part cs) ∙ sym (count_cons (λ c. bytes_eq part (last_part (get_or labels c [])) && nat_lt 0 (get_or totals c 0)) c cs)
     where
       and_true : (a : Bool) → (a && true) ≡ a
       and_true true = refl
@@ -151,12 +125,12 @@ module _ (labels : List (List (List ℕ))) (is : IsLabelList labels) (totals : L
       and_false true = refl
       and_false false = refl
 
-      by : (b : Bool) → nat_lt 0 (get_or totals c 0) ≡ b → count_by (λ (e : PartCount). bytes_eq part e.0) (entries_of labels totals cs) ≡ count_by (λ c. bytes_eq part (last_of (get_or labels c [])) && nat_lt 0 (get_or totals c 0)) cs
-          → count_by (λ (e : PartCount). bytes_eq part e.0) (cond b (entry_of labels totals c ∷ entries_of labels totals cs) (entries_of labels totals cs)) ≡ cond (bytes_eq part (last_of (get_or labels c [])) && b) 1 0 + count_by (λ c. bytes_eq part (last_of (get_or labels c [])) && nat_lt 0 (get_or totals c 0)) cs
-      by true e rest = count_cons (λ (e : PartCount). bytes_eq part e.0) (entry_of labels totals c) (entries_of labels totals cs) ∙ ap (λ m. cond (bytes_eq part (last_of (get_or labels c []))) 1 0 + m) rest ∙ ap (λ b. cond b 1 0 + count_by (λ c. bytes_eq part (last_of (get_or labels c [])) && nat_lt 0 (get_or totals c 0)) cs) (sym (and_true (bytes_eq part (last_of (get_or labels c [])))))
-      by false e rest = rest ∙ sym (ap (λ b. cond b 1 0 + count_by (λ c. bytes_eq part (last_of (get_or labels c [])) && nat_lt 0 (get_or totals c 0)) cs) (and_false (bytes_eq part (last_of (get_or labels c [])))) ∙ plain)
+      by : (b : Bool) → nat_lt 0 (get_or totals c 0) ≡ b → count_by (λ (e : PartCount). bytes_eq part e.0) (entries_of labels totals cs) ≡ count_by (λ c. bytes_eq part (last_part (get_or labels c [])) && nat_lt 0 (get_or totals c 0)) cs
+          → count_by (λ (e : PartCount). bytes_eq part e.0) (cond b (entry_of labels totals c ∷ entries_of labels totals cs) (entries_of labels totals cs)) ≡ cond (bytes_eq part (last_part (get_or labels c [])) && b) 1 0 + count_by (λ c. bytes_eq part (last_part (get_or labels c [])) && nat_lt 0 (get_or totals c 0)) cs
+      by true e rest = count_cons (λ (e : PartCount). bytes_eq part e.0) (entry_of labels totals c) (entries_of labels totals cs) ∙ ap (λ m. cond (bytes_eq part (last_part (get_or labels c []))) 1 0 + m) rest ∙ ap (λ b. cond b 1 0 + count_by (λ c. bytes_eq part (last_part (get_or labels c [])) && nat_lt 0 (get_or totals c 0)) cs) (sym (and_true (bytes_eq part (last_part (get_or labels c [])))))
+      by false e rest = rest ∙ sym (ap (λ b. cond b 1 0 + count_by (λ c. bytes_eq part (last_part (get_or labels c [])) && nat_lt 0 (get_or totals c 0)) cs) (and_false (bytes_eq part (last_part (get_or labels c [])))) ∙ plain)
         where
-          plain : 0 + count_by (λ c. bytes_eq part (last_of (get_or labels c [])) && nat_lt 0 (get_or totals c 0)) cs ≡ count_by (λ c. bytes_eq part (last_of (get_or labels c [])) && nat_lt 0 (get_or totals c 0)) cs
+          plain : 0 + count_by (λ c. bytes_eq part (last_part (get_or labels c [])) && nat_lt 0 (get_or totals c 0)) cs ≡ count_by (λ c. bytes_eq part (last_part (get_or labels c [])) && nat_lt 0 (get_or totals c 0)) cs
           plain = omega arith
 
   -- each component with a count above 0 stands once
@@ -164,24 +138,24 @@ module _ (labels : List (List (List ℕ))) (is : IsLabelList labels) (totals : L
   each_once part = times_entries part (falling (is_child labels ord) (length labels)) ∙ by (place labels (path ++ part ∷ [])) refl
     where
       -- a child with the component is at the path with it
-      at_path : (c : ℕ) → c < length labels → is_child labels ord c ≡ true → bytes_eq part (last_of (get_or labels c [])) ≡ true → place labels (path ++ part ∷ []) ≡ Some c
+      at_path : (c : ℕ) → c < length labels → is_child labels ord c ≡ true → bytes_eq part (last_part (get_or labels c [])) ≡ true → place labels (path ++ part ∷ []) ≡ Some c
       at_path c lt child same =
           let label = child_label c lt child in
-          let is_part : part ≡ last_of (get_or labels c []) = (bytes_decides part (last_of (get_or labels c []))).0 same in
+          let is_part : part ≡ last_part (get_or labels c []) = (bytes_decides part (last_part (get_or labels c []))).0 same in
           ap (λ p. place labels (path ++ p ∷ [])) is_part ∙ ap (place labels) (sym label.1) ∙ place_at labels is c (get_or labels c []) (slice_get-get_or labels c [] lt)
 
-      missed : (c : ℕ) → (bytes_eq part (last_of (get_or labels c [])) ≡ true → ⊥) → (bytes_eq part (last_of (get_or labels c [])) && nat_lt 0 (get_or totals c 0)) ≡ false
-      missed c apart = and_left (bytes_eq part (last_of (get_or labels c []))) (nat_lt 0 (get_or totals c 0)) (false_from_ne_true (bytes_eq part (last_of (get_or labels c []))) apart)
+      missed : (c : ℕ) → (bytes_eq part (last_part (get_or labels c [])) ≡ true → ⊥) → (bytes_eq part (last_part (get_or labels c [])) && nat_lt 0 (get_or totals c 0)) ≡ false
+      missed c apart = and_left (bytes_eq part (last_part (get_or labels c []))) (nat_lt 0 (get_or totals c 0)) (false_from_ne_true (bytes_eq part (last_part (get_or labels c []))) apart)
 
-      by : (o : Option ℕ) → place labels (path ++ part ∷ []) ≡ o → count_by (λ c. bytes_eq part (last_of (get_or labels c [])) && nat_lt 0 (get_or totals c 0)) (falling (is_child labels ord) (length labels)) ≡ cond (nat_lt 0 (count_at labels totals (path ++ part ∷ []))) 1 0
+      by : (o : Option ℕ) → place labels (path ++ part ∷ []) ≡ o → count_by (λ c. bytes_eq part (last_part (get_or labels c [])) && nat_lt 0 (get_or totals c 0)) (falling (is_child labels ord) (length labels)) ≡ cond (nat_lt 0 (count_at labels totals (path ++ part ∷ []))) 1 0
       by None e =
-          falling_none (is_child labels ord) (λ c. bytes_eq part (last_of (get_or labels c [])) && nat_lt 0 (get_or totals c 0)) (length labels) (λ c lt child. missed c (λ same. none-some c (sym e ∙ at_path c lt child same)))
+          falling_none (is_child labels ord) (λ c. bytes_eq part (last_part (get_or labels c [])) && nat_lt 0 (get_or totals c 0)) (length labels) (λ c lt child. missed c (λ same. none-some c (sym e ∙ at_path c lt child same)))
           ∙ ap (λ o. cond (nat_lt 0 (option_map_or (λ k. get_or totals k 0) o 0)) 1 0) (sym e)
       by (Some q) e =
           let child = label_child q part e in
-          let last : last_of (get_or labels q []) ≡ part = ap last_of child.2 ∙ last_push path part in
-          let there : bytes_eq part (last_of (get_or labels q [])) ≡ true = (bytes_decides part (last_of (get_or labels q []))).1 (sym last) in
-          falling_one (is_child labels ord) (λ c. bytes_eq part (last_of (get_or labels c [])) && nat_lt 0 (get_or totals c 0)) (length labels) q child.0 child.1 (λ c lt passes apart. missed c (λ same. apart (same_Some c q (sym (at_path c lt passes same) ∙ e))))
+          let last : last_part (get_or labels q []) ≡ part = ap last_part child.2 ∙ last_more path part in
+          let there : bytes_eq part (last_part (get_or labels q [])) ≡ true = (bytes_decides part (last_part (get_or labels q []))).1 (sym last) in
+          falling_one (is_child labels ord) (λ c. bytes_eq part (last_part (get_or labels c [])) && nat_lt 0 (get_or totals c 0)) (length labels) q child.0 child.1 (λ c lt passes apart. missed c (λ same. apart (same_Some c q (sym (at_path c lt passes same) ∙ e))))
           ∙ ap (λ b. cond (b && nat_lt 0 (get_or totals q 0)) 1 0) there
           ∙ ap (λ o. cond (nat_lt 0 (option_map_or (λ k. get_or totals k 0) o 0)) 1 0) (sym e)
 
@@ -228,5 +202,5 @@ absent_below labels is path absent part = by (place labels (path ++ part ∷ [])
         has_above (suc q) label =
             let lt : suc q < length labels = slice_get_within labels (suc q) (path ++ part ∷ []) label in
             let parent = has_parent labels is (suc q) (omega arith) lt in
-            let up : above (get_or labels (suc q) []) ≡ path = ap above (get_or_from_slice_get labels (suc q) (path ++ part ∷ []) [] label) ∙ above_push path part in
+            let up : above (get_or labels (suc q) []) ≡ path = ap above (get_or_from_slice_get labels (suc q) (path ++ part ∷ []) [] label) ∙ above_more path part in
             none-some parent.0 (sym absent ∙ place_at labels is parent.0 path (parent.3 ∙ ap Some up))

@@ -1,9 +1,9 @@
 -- Results of dimensions: one more of them, their order, and that the order leaves no choice.
-use Rattle.std.proofs.Common.{◌≡◌, ℕ, suc, ◌+◌, ◌<◌, Bool, true, false, not, ◌||◌, ◌==◌, cond, List, [], ◌∷◌, ◌++◌, length, map, get_or, Option, Some, None, Ordering, Less, Equal, Greater, refl, sym, ap, subst, ◌∙◌, arith, rules}
+use Rattle.std.proofs.Common.{◌≡◌, ℕ, ◌+◌, ◌<◌, Bool, true, false, not, ◌||◌, ◌==◌, cond, List, [], ◌∷◌, ◌++◌, length, map, Option, Some, None, refl, sym, ap, subst, ◌∙◌, arith, rules}
 use Rattle.std.specs.Prelude.{All, filter, option_to_list}
 use Rattle.std.specs.Str.{bytes_eq}
 use Rattle.std.specs.List.Sorted.{IsSorted, IsSortedBy, IsPermutation}
-use Rattle.std.specs.Ordering.{int_cmp, is_lt, is_eq, ordering_then, ordering_reverse}
+use Rattle.std.specs.Ordering.{int_cmp, is_lt, is_eq}
 use Rattle.std.specs.Cmp.{IsTotalOrder}
 use Rattle.std.specs.Cmp.Rules.{comparing}
 use Rattle.std.specs.Cmp.Lexicographic.{bytes_decides}
@@ -11,8 +11,9 @@ use Rattle.std.proofs.lemmas.Bool.{true≢false, eqb-true, false_from_ne_true}
 use Rattle.std.proofs.lemmas.List.{append-nil, length-map, get_or-map}
 use Rattle.std.proofs.lemmas.List.Elements.{All-nil, All-cons, All-head, All-tail, All-filter, filter-append, filter_passes}
 use Rattle.std.proofs.lemmas.List.Sums.{length-filter}
-use Rattle.std.proofs.lemmas.List.Sorted.{sorted_far, ranks_by, All-permutation, sum_by-IsPermutation}
+use Rattle.std.proofs.lemmas.List.Sorted.{All-permutation, sum_by-IsPermutation}
 use Rattle.facet_names.specs.Paths.{path_eq, path_eq_equiv, path_cmp, path_ties}
+use Rattle.facet_names.proofs.Ordered.{neither_is_less, second_is_equal, tail_sorted, first_is_first}
 use Rattle.facet_model.specs.Documents.{Doc}
 use Rattle.facet_model.specs.Flags.{Config}
 use Rattle.facet_model.specs.declared.result.FacetResult.{FacetResult}
@@ -155,26 +156,7 @@ dims_total = search (comparing, rules)
 
 -- two results of which neither is first have the same path
 tied : (x y : Listed) → is_lt (dims_cmp x y) ≡ false → is_lt (dims_cmp y x) ≡ false → x.path ≡ y.path
-tied x y not_first not_second = same_path x.path y.path (path_ties x.path y.path ∙ ap is_eq (parts (int_cmp y.value x.value) (path_cmp x.path y.path) (neither (dims_cmp x y) (dims_cmp y x) not_first not_second (dims_total.antisymm y x))))
-  where
-    neither : (o p : Ordering) → is_lt o ≡ false → is_lt p ≡ false → p ≡ ordering_reverse o → o ≡ Equal
-    neither Less p f s r = absurd (search (rules, f))
-    neither Equal p f s r = refl
-    neither Greater p f s r = let g : is_lt p ≡ true = rw r refl in absurd (search (rules, s, g))
-
-    parts : (o p : Ordering) → ordering_then o p ≡ Equal → p ≡ Equal
-    parts Less p e = absurd (search (rules, e))
-    parts Equal p e = e
-    parts Greater p e = absurd (search (rules, e))
-
-tail_sorted : (x : Listed) (xs : List Listed) → IsSorted dims_cmp (x ∷ xs) → IsSorted dims_cmp xs
-tail_sorted x xs up k d low high =
-    let next : suc k + 1 ≡ suc (k + 1) = omega arith in
-    subst (λ n. is_lt (dims_cmp (get_or (x ∷ xs) n d) (get_or xs k d)) ≡ false) next (up (suc k) d (omega arith) (omega arith))
-
--- none is before the first
-first_is_first : (x : Listed) (xs : List Listed) → IsSorted dims_cmp (x ∷ xs) → All (λ y. is_lt (dims_cmp y x) ≡ false) (x ∷ xs)
-first_is_first x xs up k d lt = sorted_far (λ x y. is_lt (dims_cmp x y)) (ranks_by dims_total (λ c. c)) (x ∷ xs) up 0 k d (omega arith) lt
+tied x y not_first not_second = same_path x.path y.path (path_ties x.path y.path ∙ ap is_eq (second_is_equal (int_cmp y.value x.value) (path_cmp x.path y.path) (neither_is_less (dims_cmp x y) (dims_cmp y x) not_first not_second (dims_total.antisymm y x))))
 
 -- what holds of each element holds of the first that passes
 passing : (P : Listed → Type 0) (p : Listed → Bool) (x : Listed) (zs ws : List Listed) → filter p zs ≡ x ∷ ws → All P zs → P x
@@ -213,12 +195,12 @@ determined (x ∷ xs) (y ∷ ys) ax ay sx sy same =
     let second = first_alone y ys ay in
     let x_here : of_dim first.0.0 (x ∷ xs) ≡ x ∷ of_dim first.0.0 xs = ap (λ b. cond b (x ∷ of_dim first.0.0 xs) (of_dim first.0.0 xs)) first.0.1 in
     let y_here : of_dim second.0.0 (y ∷ ys) ≡ y ∷ of_dim second.0.0 ys = ap (λ b. cond b (y ∷ of_dim second.0.0 ys) (of_dim second.0.0 ys)) second.0.1 in
-    let not_first : is_lt (dims_cmp x y) ≡ false = passing (λ z. is_lt (dims_cmp z y) ≡ false) (λ z. path_eq z.path (first.0.0 ∷ [])) x (y ∷ ys) (of_dim first.0.0 xs) (sym (same first.0.0) ∙ x_here) (first_is_first y ys sy) in
-    let not_second : is_lt (dims_cmp y x) ≡ false = passing (λ z. is_lt (dims_cmp z x) ≡ false) (λ z. path_eq z.path (second.0.0 ∷ [])) y (x ∷ xs) (of_dim second.0.0 ys) (same second.0.0 ∙ y_here) (first_is_first x xs sx) in
+    let not_first : is_lt (dims_cmp x y) ≡ false = passing (λ z. is_lt (dims_cmp z y) ≡ false) (λ z. path_eq z.path (first.0.0 ∷ [])) x (y ∷ ys) (of_dim first.0.0 xs) (sym (same first.0.0) ∙ x_here) (first_is_first dims_cmp dims_total y ys sy) in
+    let not_second : is_lt (dims_cmp y x) ≡ false = passing (λ z. is_lt (dims_cmp z x) ≡ false) (λ z. path_eq z.path (second.0.0 ∷ [])) y (x ∷ xs) (of_dim second.0.0 ys) (same second.0.0 ∙ y_here) (first_is_first dims_cmp dims_total x xs sx) in
     let path : x.path ≡ y.path = tied x y not_first not_second in
     let both : x ∷ of_dim first.0.0 xs ≡ y ∷ of_dim first.0.0 ys = sym x_here ∙ same first.0.0 ∙ ap (λ b. cond b (y ∷ of_dim first.0.0 ys) (of_dim first.0.0 ys)) (ap (λ p. path_eq p (first.0.0 ∷ [])) (sym path) ∙ first.0.1) in
     let head : x ≡ y = cc in
-    let rest : xs ≡ ys = determined xs ys first.1 second.1 (tail_sorted x xs sx) (tail_sorted y ys sy) (λ dim. later dim (path_eq x.path (dim ∷ [])) (path_eq y.path (dim ∷ [])) (ap (λ p. path_eq p (dim ∷ [])) path) (same dim)) in
+    let rest : xs ≡ ys = determined xs ys first.1 second.1 (tail_sorted dims_cmp x xs sx) (tail_sorted dims_cmp y ys sy) (λ dim. later dim (path_eq x.path (dim ∷ [])) (path_eq y.path (dim ∷ [])) (ap (λ p. path_eq p (dim ∷ [])) path) (same dim)) in
     λ i. head i ∷ rest i
   where
     later : (dim : List ℕ) (a b : Bool) → a ≡ b → cond a (x ∷ of_dim dim xs) (of_dim dim xs) ≡ cond b (y ∷ of_dim dim ys) (of_dim dim ys) → of_dim dim xs ≡ of_dim dim ys

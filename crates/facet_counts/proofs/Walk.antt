@@ -1,10 +1,9 @@
 -- The walk over the children of a label.
-use Rattle.std.proofs.Common.{◌≡◌, ℕ, zero, suc, ◌<◌, ◌≤◌, Bool, true, false, cond, List, [], ◌∷◌, ◌++◌, length, get_or, Option, Some, None, nat_eq, refl, sym, ap, ◌∙◌, arith, rules}
+use Rattle.std.proofs.Common.{◌≡◌, ℕ, zero, suc, ◌<◌, ◌≤◌, Bool, true, false, cond, List, [], ◌∷◌, ◌++◌, length, get_or, Option, Some, None, nat_eq, refl, sym, ap, ◌∙◌, arith}
 use Rattle.std.specs.Prelude.{IfSome, nat_lt, option_and_then}
 use Rattle.std.specs.Option.{option_map_or}
 use Rattle.std.proofs.lemmas.Bool.{true≢false, eqb-true}
 use Rattle.std.proofs.lemmas.List.{append_assoc}
-use Rattle.std.proofs.lemmas.Option.{IfSome_then}
 use Rattle.facet_names.specs.Arrays.{greatest, is_child, parent_at, child_at, sibling_at}
 use Rattle.facet_model.specs.Listing.{PartCount}
 use Rattle.facet_counts.specs.Children.{falling, entry_of, entries_of, children_at}
@@ -13,15 +12,6 @@ use Rattle.facet_counts.specs.Children.{falling, entry_of, entries_of, children_
 abbrev pub children_from : List (List (List ℕ)) → List ℕ → ℕ → Option ℕ → List PartCount
 children_from labels totals ord None = []
 children_from labels totals ord (Some c) = entries_of labels totals (c ∷ falling (is_child labels ord) c)
-
--- the greatest that passes is below the bound, and passes
-pub greatest_passes : (passes : ℕ → Bool) (n : ℕ) → IfSome (greatest passes n) (λ c. (c < n) × (passes c ≡ true))
-greatest_passes passes zero = search rules
-greatest_passes passes (suc n) = by (passes n) refl (greatest_passes passes n)
-  where
-    by : (b : Bool) → passes n ≡ b → IfSome (greatest passes n) (λ c. (c < n) × (passes c ≡ true)) → IfSome (cond b (Some n) (greatest passes n)) (λ c. (c < suc n) × (passes c ≡ true))
-    by true e below = (omega arith, e)
-    by false e below = IfSome_then (greatest passes n) below (λ c at. (omega (arith, at.0), at.1))
 
 pub parent_of_child : (labels : List (List (List ℕ))) (i c : ℕ) → is_child labels i c ≡ true → parent_at labels c ≡ Some i
 parent_of_child labels i c child = by (parent_at labels c) refl child
@@ -40,6 +30,7 @@ module _ (labels : List (List (List ℕ))) (totals : List ℕ) (ord : ℕ) where
 
   -- from the greatest on is all
   from_greatest : (n : ℕ) → children_from labels totals ord (greatest (is_child labels ord) n) ≡ entries_of labels totals (falling (is_child labels ord) n)
+  unfolding greatest
   from_greatest zero = refl
   from_greatest (suc n) = by (is_child labels ord n) (from_greatest n)
     where

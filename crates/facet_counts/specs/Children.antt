@@ -1,11 +1,8 @@
 -- The children of a label with their counts, as the code walks over them.
-use Rattle.std.specs.Prelude.{◌-◌, ◌∷◌, ℕ, zero, suc, nat_lt, Bool, if◌then◌else◌, List, [], length, slice_get, slice_index_or, unwrap_or}
+use Rattle.std.specs.Prelude.{◌∷◌, ℕ, zero, suc, nat_lt, Bool, if◌then◌else◌, List, [], length, slice_index_or}
+use Rattle.facet_names.specs.Paths.{last_part}
 use Rattle.facet_names.specs.Arrays.{is_child}
 use Rattle.facet_model.specs.Listing.{PartCount}
-
--- the last component of a path
-abbrev pub last_of : List (List ℕ) → List ℕ
-last_of path = unwrap_or (slice_get path (length path - 1)) []
 
 -- the numbers below the bound that pass, the greatest first
 abbrev pub falling : (ℕ → Bool) → ℕ → List ℕ
@@ -14,7 +11,7 @@ falling passes (suc n) = if passes n then n ∷ falling passes n else falling pa
 
 -- a child with its count
 abbrev pub entry_of : List (List (List ℕ)) → List ℕ → ℕ → PartCount
-entry_of labels totals child = (last_of (slice_index_or labels child []), slice_index_or totals child 0)
+entry_of labels totals child = (last_part (slice_index_or labels child []), slice_index_or totals child 0)
 
 -- those of these children whose count is above 0
 abbrev pub entries_of : List (List (List ℕ)) → List ℕ → List ℕ → List PartCount

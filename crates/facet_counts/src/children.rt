@@ -1,17 +1,18 @@
 //! The children of a label with their counts.
 ghost use Rattle.std.specs.Prelude.{◌≡◌, ◌<◌, ◌≤◌, ◌++◌, ◌*◌, ◌∷◌, [], All, length, map, sum_by, IfOk, OnOk};
+ghost use Rattle.facet_names.specs.Paths.{last_part};
 ghost use Rattle.facet_model.specs.Listing.{counted_child};
-ghost use Rattle.facet_counts.specs.Children.{last_of, entries_of, children_at};
+ghost use Rattle.facet_counts.specs.Children.{entries_of, children_at};
 
 use crate::links::{child_of, sibling_of};
 use facet_model::{Child, Word};
 use facet_names::{NoMemory, Path};
 use std::alloc::Global;
-use taxo_list::TaxoView;
+use taxo_list::{Labelled, TaxoView};
 
 // The last component of a path.
 fn last_part(alloc: Global, path: &Path) -> Result<Word, NoMemory>
-    ensures { IfOk result (λ w. w ≡ last_of path.now) }
+    ensures { IfOk result (λ w. w ≡ last_part path.now) }
 {
     Ok(Word::new(alloc, path.part(path.len() - 1))?.unwrap())
 }

@@ -10,7 +10,7 @@ use facet_names::NoMemory;
 use seg_postings::Ords;
 use std::alloc::Global;
 use std::marker::Model;
-use taxo_list::TaxoView;
+use taxo_list::{Labelled, TaxoView};
 
 /// Counts the ordinals of documents, one number for each label of a view: 4 bytes a label, and one more for whether its count is rolled up.
 #[derive(Drop)]

@@ -19,7 +19,7 @@ use facet_model::{DimFlags, FacetResult};
 use facet_names::{NoMemory, Path};
 use std::alloc::Global;
 use std::marker::Model;
-use taxo_list::TaxoView;
+use taxo_list::{Labelled, TaxoView};
 
 /// How many documents count for each label of a view: the counts of a counter, rolled up.
 #[derive(Drop)]

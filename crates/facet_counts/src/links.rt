@@ -3,7 +3,7 @@ ghost use Rattle.std.specs.Prelude.{◌≡◌, ◌<◌, Some, length};
 ghost use Rattle.facet_names.specs.Arrays.{parent_at, child_at, sibling_at};
 ghost use Rattle.taxo_list.specs.Links.{ordinal};
 
-use taxo_list::TaxoView;
+use taxo_list::{Labelled, TaxoView};
 
 // An entry of an array: none is negative.
 fn entry(link: i32) -> Option<u32>

@@ -11,7 +11,7 @@ use facet_config::FacetsConfig;
 use facet_model::DimFlags;
 use facet_names::NoMemory;
 use std::alloc::Global;
-use taxo_list::TaxoView;
+use taxo_list::{Labelled, TaxoView};
 
 fn rolls_up(flags: DimFlags) -> bool
     ensures { result ≡ (flags.hierarchical && not flags.multi_valued) }

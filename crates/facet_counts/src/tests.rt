@@ -13,7 +13,7 @@ use seg_postings::Ords;
 use std::alloc::Global;
 use std::process::Abort;
 use std::test::Fail;
-use taxo_list::{TaxoView, Taxonomy};
+use taxo_list::{Labelled, TaxoView, Taxonomy};
 
 // The labels of five books, in the order in which they were added.
 const BOOKS: &[&str] = &[

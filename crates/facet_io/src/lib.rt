@@ -8,6 +8,7 @@ mod sink;
 mod source;
 mod standard;
 
+pub use calls::Calls;
 pub use failed::Failed;
 pub use memory::{MemorySink, MemorySource};
 pub use sink::{Sink, write_all};

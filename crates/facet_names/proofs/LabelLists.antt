@@ -5,16 +5,20 @@ use Rattle.facet_names.specs.Faults.{IsPath}
 use Rattle.std.specs.List.{list_any, list_all, enumerate_from, position_or_len}
 use Rattle.std.specs.Cmp.Lexicographic.{pointwise_decides, bytes_decides}
 use Rattle.std.proofs.lemmas.Bool.{leb-true, or_parts, ltb-true, and_parts, and_from, not-true, not_from_false, false_from_ne_true, true_from_ne_false, true≢false, cases_lt, cond-true, cond-false, ne_eqb, eqb-true, lt-ltb, le-ltb}
-use Rattle.std.proofs.lemmas.List.{get_or-take, length-take-le, take-take, take-append-le, get_or_append_left, length-append, get_or_push, take_all, get_or_default, nil_from_length}
+use Rattle.std.proofs.lemmas.List.{get_or-take, length-take-le, take-take, take-append-le, get_or_append_left, length-append, get_or_push, take_at, take_more, take_all, get_or_default, nil_from_length}
 use Rattle.std.proofs.lemmas.List.Folds.{list_all_at, list_any_at, Any-from_list_any}
 use Rattle.std.proofs.lemmas.List.Sums.{fails_before_first, list_all-from_AllPass, position_or_len_is}
 use Rattle.std.proofs.lemmas.List.FromFn.{get_or-enumerate_from, length-enumerate_from}
 use Rattle.std.proofs.lemmas.List.Quantifiers.{position-Some}
 use Rattle.std.proofs.lemmas.Option.{slice_get-get_or, get_or_from_slice_get, slice_get_within}
-use Rattle.facet_names.specs.Paths.{path_eq, path_eq_equiv, parent_of}
+use Rattle.facet_names.specs.Paths.{path_eq, path_eq_equiv, parent_of, last_part}
 use Rattle.std.specs.Prelude.{nat_le}
 use Rattle.facet_names.specs.Labels.{GoesOn, IsLabelList, above, is_in_place, place, stands}
 use Rattle.facet_names.specs.Arrays.{parent_at}
+
+-- the labels of a list, each the components of a path
+abbrev pub Labels : Type 0
+Labels = List (List (List ℕ))
 
 pub same_path : (p q : List (List ℕ)) → path_eq p q ≡ true → p ≡ q
 same_path p q = (pointwise_decides bytes_decides p q).0
@@ -216,3 +220,17 @@ root_stands labels is = list_any_at (path_eq []) labels 0 [] (some_label labels 
 -- to go on, and then further
 pub goes_further : (a b c : List (List (List ℕ))) → GoesOn a b → GoesOn b c → GoesOn a c
 goes_further a b c first next = (omega (arith, first.0, next.0), sym (take-take (length a) (length b) c first.0) ∙ ap (take (length a)) next.1 ∙ first.1)
+
+-- ---- a path with one component more
+
+pub above_more : (front : List (List ℕ)) (part : List ℕ) → above (front ++ part ∷ []) ≡ front
+above_more front part = take_at front (part ∷ []) (length (front ++ part ∷ []) - 1) (omega (arith, length-append front (part ∷ [])))
+
+pub last_more : (front : List (List ℕ)) (part : List ℕ) → last_part (front ++ part ∷ []) ≡ part
+last_more front part = get_or_push front part [] (length (front ++ part ∷ []) - 1) (omega (arith, length-append front (part ∷ [])))
+
+-- a path is the one above it with its last component
+pub split_last : (path : List (List ℕ)) → 0 < length path → above path ++ last_part path ∷ [] ≡ path
+split_last path some =
+    let all : take (length path - 1 + 1) path ≡ path = take_all (length path - 1 + 1) path (omega (arith, some)) in
+    sym (take_more path (length path - 1) [] (omega (arith, some))) ∙ all

@@ -1,4 +1,7 @@
 pub mod LabelLists
 pub mod Parts
 pub mod TermTexts
+pub mod Greatest
+pub mod Places
+pub mod Ordered
 mod Rows

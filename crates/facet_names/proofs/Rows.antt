@@ -23,9 +23,11 @@ parents : map (λ i. or_none (parent_at books i)) (range_with_len 0 18) ≡ negs
 parents = refl
 
 children : map (λ i. or_none (child_at books i)) (0 ∷ 1 ∷ 3 ∷ []) ≡ pos 3 ∷ pos 14 ∷ pos 15 ∷ []
+unfolding Rattle.facet_names.specs.Arrays.greatest
 children = refl
 
 siblings : map (λ i. or_none (sibling_at books i)) (3 ∷ 1 ∷ 14 ∷ 12 ∷ 7 ∷ 2 ∷ 15 ∷ 9 ∷ 4 ∷ []) ≡ pos 1 ∷ negsuc 0 ∷ pos 12 ∷ pos 7 ∷ pos 2 ∷ negsuc 0 ∷ pos 9 ∷ pos 4 ∷ negsuc 0 ∷ []
+unfolding Rattle.facet_names.specs.Arrays.greatest
 siblings = refl
 
 -- ---- parents

@@ -1,9 +1,10 @@
 -- Reading term texts, byte by byte: what a text was joined of is read back from it, and from nothing else.
-use Rattle.std.proofs.Common.{◌≡◌, ℕ, ◌+◌, ◌*◌, ◌<◌, ◌≤◌, Bool, true, false, List, [], ◌∷◌, ◌++◌, length, Option, Some, None, refl, sym, ap, subst, ◌∙◌, append_assoc, arith, get_or, suc}
-use Rattle.std.specs.Prelude.{◌==◌, if◌then◌else◌, nat_eq, cond, ◌||◌}
-use Rattle.std.proofs.lemmas.Bool.{or_parts, false≢true, eqb-true, eqb-false}
+use Rattle.std.proofs.Common.{◌≡◌, ℕ, suc, ◌+◌, ◌*◌, ◌<◌, ◌≤◌, Bool, true, false, List, [], ◌∷◌, ◌++◌, length, Option, Some, None, refl, sym, ap, subst, ◌∙◌, append_assoc, arith, get_or, suc}
+use Rattle.std.specs.Prelude.{take, ◌==◌, if◌then◌else◌, nat_eq, cond, ◌||◌}
+use Rattle.std.proofs.lemmas.Bool.{or_parts, false≢true, eqb-true, eqb-false, eq-eqb, ne_eqb}
 use Rattle.std.proofs.lemmas.List.{append-nil, length-append}
 use Rattle.std.proofs.lemmas.Grind.{flat_map-append}
+use Rattle.std.proofs.Math.Seq.{take-append_seam}
 use Rattle.std.specs.List.{flat_map, list_any}
 use Rattle.std.proofs.Common.{rules}
 use Rattle.std.proofs.Math.Utf8.{encode}
@@ -12,7 +13,7 @@ use Rattle.std.proofs.lemmas.Bool.Decides.{nat_tests}
 use Rattle.facet_names.proofs.Parts.{part_of_path, no_fault}
 use Rattle.facet_names.specs.Faults.{IsPath, part_fault, path_fault}
 use Rattle.facet_names.specs.declared.fault.PathFault.{PathFault}
-use Rattle.facet_names.specs.Terms.{is_special, escaped_byte, escaped, term_text, IsTermText}
+use Rattle.facet_names.specs.Terms.{is_special, escaped_byte, escaped, behind, HasSome, term_text, IsTermText}
 
 -- the components of a text: whether an escape was just read, the components that are whole, and the one that is being read
 unfoldable pub read : List ℕ → Bool → List (List ℕ) → List ℕ → Option (List (List ℕ))
@@ -316,6 +317,17 @@ pub all_written : (rest old : List ℕ) → length rest ≡ 0 → old ≡ old ++
 unfolding escaped
 all_written [] old none = sym (append-nil old)
 all_written (b ∷ bs) old none = absurd (omega (arith, none))
+
+-- what was written before more was wanting
+pub some_written : (old written left bytes new : List ℕ) → new ≡ old ++ written → written ++ left ≡ bytes → HasSome bytes old new
+some_written old written left bytes new is all = (length written, is ∙ ap (λ t. old ++ t) (sym (take-append_seam written left) ∙ ap (take (length written)) all))
+
+-- behind the separator
+pub some_behind : (at : ℕ) (part old mid new : List ℕ) → 0 < at → mid ≡ old ++ 31 ∷ [] → HasSome (escaped part) mid new → HasSome (behind at part) old new
+some_behind at part old mid new later first some = (suc some.0, some.1 ∙ ap (λ t. t ++ take some.0 (escaped part)) first ∙ append_assoc old (31 ∷ []) (take some.0 (escaped part)) ∙ ap (λ b. old ++ take (suc some.0) (cond b (escaped part) (31 ∷ escaped part))) (sym (ne_eqb at 0 (λ e. omega (arith, later, e)))))
+
+pub some_first : (at : ℕ) (part old new : List ℕ) → at ≡ 0 → HasSome (escaped part) old new → HasSome (behind at part) old new
+some_first at part old new here some = (some.0, some.1 ∙ ap (λ b. old ++ take some.0 (cond b (escaped part) (31 ∷ escaped part))) (sym (eq-eqb at 0 here)))
 
 -- a component with no special byte stands as it is
 pub escaped_as_is : (part : List ℕ) → list_any is_special part ≡ false → escaped part ≡ part

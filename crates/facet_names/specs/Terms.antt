@@ -1,5 +1,5 @@
 -- The text of a path as a drill-down term: U+001F between components, and U+001E before each U+001E or U+001F inside one.
-use Rattle.std.specs.Prelude.{◌≡◌, ◌≤◌, ◌==◌, ◌||◌, ℕ, Bool, if◌then◌else◌, List, [], ◌∷◌, flat_map, length, map}
+use Rattle.std.specs.Prelude.{◌≡◌, ◌≤◌, ◌==◌, ◌||◌, ℕ, Bool, if◌then◌else◌, List, [], ◌∷◌, ◌++◌, flat_map, length, map, take}
 use Rattle.std.specs.List.{join_with_byte}
 use Rattle.facet_names.specs.Faults.{IsPath}
 
@@ -14,6 +14,14 @@ escaped_byte b = if is_special b then 30 ∷ b ∷ [] else b ∷ []
 -- a component as the term text has it
 unfoldable pub escaped : List ℕ → List ℕ
 escaped part = flat_map escaped_byte part
+
+-- what the component at a place of a path adds to the text of those before it
+abbrev pub behind : ℕ → List ℕ → List ℕ
+behind at part = if at == 0 then escaped part else 31 ∷ escaped part
+
+-- the new text is the old one with the first of these bytes behind it
+abbrev pub HasSome : List ℕ → List ℕ → List ℕ → Type 0
+HasSome bytes old new = (n : ℕ) × (new ≡ old ++ take n bytes)
 
 -- the components, each escaped, with the separator between them
 unfoldable pub term_text : List (List ℕ) → List ℕ

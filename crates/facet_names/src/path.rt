@@ -99,6 +99,19 @@ impl Path {
         Ok(Path { parts })
     }
 
+    /// The path of one component, a dimension alone. It is refused as `new` refuses it, before anything is copied.
+    pub fn of_dim(alloc: Global, dim: &str) -> Result<Path, PathFault>
+        ensures ok { IfOk result (λ p. p ≡ dim.now ∷ []) }
+        ensures fits { IsOk result → path_fault (dim.now ∷ []) ≡ None }
+        ensures err { IfErr result (λ e. e ≢ Memory → path_fault (dim.now ∷ []) ≡ Some e) }
+        ensures memory { IfErr result (λ e. e ≡ Memory → path_fault (dim.now ∷ []) ≡ None) }
+    {
+        check_part(0, dim)?;
+        let mut parts = Vec::with_capacity(alloc, 1)?;
+        parts.push(String::from_str(alloc, dim)?)?;
+        Ok(Path { parts })
+    }
+
     /// The number of components, from 1 to 32.
     pub fn len(&self) -> usize
         ensures len { result ≡ length self.now }

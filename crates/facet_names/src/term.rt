@@ -1,7 +1,7 @@
-ghost use Rattle.std.specs.Prelude.{◌≡◌, ◌==◌, ◌<◌, ◌++◌, ◌∷◌, length, List, ℕ, string_bytes, if◌then◌else◌, IfOk, OnOk, MatchOption};
+ghost use Rattle.std.specs.Prelude.{◌≡◌, ◌==◌, ◌<◌, ◌++◌, ◌∷◌, length, List, ℕ, string_bytes, IfOk, OnOk, OnErr, MatchOption};
 ghost use Rattle.std.specs.List.{list_any};
 ghost use Rattle.facet_names.specs.Paths.{texts};
-ghost use Rattle.facet_names.specs.Terms.{escaped, is_special, term_text};
+ghost use Rattle.facet_names.specs.Terms.{HasSome, behind, escaped, is_special, term_text};
 
 use crate::fault::NoMemory;
 use std::alloc::Global;
@@ -26,7 +26,8 @@ fn has_special(part: &str) -> bool
 }
 
 fn push_each(text: &mut String, part: &str) -> Result<(), NoMemory>
-    ensures { OnOk result (string_bytes text.new ≡ string_bytes text.old ++ escaped part.now) }
+    ensures ok { OnOk result (string_bytes text.new ≡ string_bytes text.old ++ escaped part.now) }
+    ensures err { OnErr result (HasSome (escaped part.now) (string_bytes text.old) (string_bytes text.new)) }
 {
     for ch in part.chars() {
         if is_special(ch) {
@@ -38,7 +39,8 @@ fn push_each(text: &mut String, part: &str) -> Result<(), NoMemory>
 }
 
 fn push_escaped(text: &mut String, part: &str) -> Result<(), NoMemory>
-    ensures { OnOk result (string_bytes text.new ≡ string_bytes text.old ++ escaped part.now) }
+    ensures ok { OnOk result (string_bytes text.new ≡ string_bytes text.old ++ escaped part.now) }
+    ensures err { OnErr result (HasSome (escaped part.now) (string_bytes text.old) (string_bytes text.new)) }
 {
     if has_special(part) {
         return push_each(text, part);
@@ -48,9 +50,11 @@ fn push_escaped(text: &mut String, part: &str) -> Result<(), NoMemory>
 }
 
 /// Appends the component at a place of a path, escaped, behind a separator where it isn't the first: so a term text is made component by
-/// component. Few components have a character to escape, so most are copied as they are.
+/// component. Few components have a character to escape, so most are copied as they are. Where memory is short, the first bytes of what was to be
+/// appended may stand there.
 pub fn push_part(text: &mut String, at: usize, part: &str) -> Result<(), NoMemory>
-    ensures { OnOk result (string_bytes text.new ≡ string_bytes text.old ++ (if at == 0 then escaped part.now else 31 ∷ escaped part.now)) }
+    ensures ok { OnOk result (string_bytes text.new ≡ string_bytes text.old ++ behind at part.now) }
+    ensures err { OnErr result (HasSome (behind at part.now) (string_bytes text.old) (string_bytes text.new)) }
 {
     if at > 0 {
         text.push(SEPARATOR)?;

@@ -55,6 +55,8 @@ fn families(rt: HostRuntime) -> Result<(), Fail> {
     assert_eq!(rt; dim.parent(alloc)?, None);
     assert_eq!(rt; year.child(alloc, "10")?, date);
     assert!(rt; year.child(alloc, "").is_err());
+    assert_eq!(rt; Path::of_dim(alloc, "Date")?, dim);
+    assert!(rt; Path::of_dim(alloc, "").is_err());
     let other = path(alloc, &["Date", "20"])?;
     let rows = [
         (&date, &date, true),

@@ -4,6 +4,7 @@ use Rattle.std.specs.Prelude.{All}
 use Rattle.std.proofs.lemmas.List.{length-map, get_or-map, take_all}
 use Rattle.std.proofs.lemmas.List.FromFn.{get_or-map-range_with_len, length-map-range_with_len}
 use Rattle.facet_names.specs.Labels.{IsLabelList, prefixes}
+use Rattle.facet_names.proofs.LabelLists.{Labels}
 use Rattle.facet_model.specs.Accepts.{Accepts}
 use Rattle.facet_model.specs.CountedPaths.{AreResolved}
 use Rattle.facet_model.specs.Documents.{Doc}
@@ -17,9 +18,6 @@ use Rattle.seg_decoding.specs.Entries.{AreEntries}
 use Rattle.seg_decoding.specs.Entries.{IsShort}
 use Rattle.facet_shell.specs.Growing.{leaf_of}
 use Rattle.seg_decoding.proofs.Ordinals.{resolved_known}
-
-abbrev Labels : Type 0
-Labels = List (List (List ℕ))
 
 all_tail : {X : Type 0} (P : X → Type 0) (x : X) (xs : List X) → All P (x ∷ xs) → All P xs
 all_tail P x xs all = λ i d lt. all (suc i) d (omega arith)

@@ -12,11 +12,9 @@ use Rattle.std.proofs.lemmas.List.Folds.{list_any-append}
 use Rattle.facet_names.specs.Paths.{path_eq, path_eq_equiv}
 use Rattle.std.specs.List.{list_all, enumerate_from}
 use Rattle.facet_names.specs.Labels.{IsLabelList, is_in_place, above, prefixes, stands, with_label, GoesOn}
+use Rattle.facet_names.proofs.LabelLists.{Labels}
 use Rattle.facet_shell.specs.Growing.{IsBetween}
 use Rattle.seg_decoding.proofs.Prefixes.{stays}
-
-abbrev Labels : Type 0
-Labels = List (List (List ℕ))
 
 pub and_on : (xs ys zs : Labels) → GoesOn xs ys → GoesOn ys zs → GoesOn xs zs
 and_on xs ys zs a b = (omega (arith, a.0, b.0), sym (take-take (length xs) (length ys) zs a.0) ∙ ap (take (length xs)) b.1 ∙ a.1)

@@ -3,6 +3,7 @@ use Rattle.std.proofs.Common.{◌≡◌, ℕ, ◌≤◌, Bool, true, false, List
 use Rattle.std.specs.Prelude.{flat_map, nat_lt, nat_le}
 use Rattle.std.proofs.lemmas.List.{take_all, take_at, take-take, length-take, length-append}
 use Rattle.facet_names.specs.Labels.{GoesOn, prefixes}
+use Rattle.facet_names.proofs.LabelLists.{Labels}
 use Rattle.facet_model.specs.Accepts.{Broken, first_broken}
 use Rattle.facet_model.specs.Documents.{Doc}
 use Rattle.facet_words.specs.Answers.{Shelf, RightReply, IsCommitted, LeavesSome, added, room, with_labels}
@@ -11,9 +12,6 @@ use Rattle.facet_replies.specs.Replies.{Reply, refused, placed, labels_full, doc
 use Rattle.facet_shell.specs.Recovering.{AreFirst}
 use Rattle.facet_shell.proofs.Grown.{all_go_on}
 use Rattle.seg_decoding.proofs.Prefixes.{stays}
-
-abbrev Labels : Type 0
-Labels = List (List (List ℕ))
 
 -- ---- documents
 

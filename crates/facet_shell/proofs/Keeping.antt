@@ -2,6 +2,7 @@
 use Rattle.std.proofs.Common.{◌≡◌, ℕ, ◌+◌, ◌≤◌, List, [], ◌∷◌, ◌++◌, length, take, refl, sym, ap, subst, ◌∙◌, arith, append_assoc, inl}
 use Rattle.std.proofs.lemmas.List.{append-nil, length-append, length-map, take_all, take_at, take-append-le}
 use Rattle.facet_names.specs.Labels.{IsLabelList, GoesOn}
+use Rattle.facet_names.proofs.LabelLists.{Labels}
 use Rattle.facet_model.specs.Documents.{Doc}
 use Rattle.facet_model.specs.Flags.{Config}
 use Rattle.facet_model.specs.Stored.{Records, Decodes}
@@ -16,9 +17,6 @@ use Rattle.facet_shell.specs.Kept.{IsKept}
 use Rattle.seg_decoding.proofs.Decoded.{decoded, decodes_stay, flushed_decodes}
 use Rattle.seg_decoding.proofs.Prefixes.{stays}
 use Rattle.facet_shell.proofs.Grown.{and_on}
-
-abbrev Labels : Type 0
-Labels = List (List (List ℕ))
 
 module _ (config : Config) (labels view : Labels) (segments : List Records) (published : ℕ) (buffer : List Entry) (taken stored : ℕ) (list : IsLabelList labels) (kept : IsKept config labels view segments published buffer taken stored) where
   -- ---- labels are added

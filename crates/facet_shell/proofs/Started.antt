@@ -7,6 +7,7 @@ use Rattle.facet_model.specs.Documents.{Doc}
 use Rattle.facet_model.specs.Flags.{Config}
 use Rattle.facet_model.specs.Stored.{Records, Decodes}
 use Rattle.facet_names.specs.Labels.{IsLabelList}
+use Rattle.facet_names.proofs.LabelLists.{Labels}
 use Rattle.facet_words.specs.Answers.{Shelf, Store, opened_shelf}
 use Rattle.facet_words.specs.Commands.{Script}
 use Rattle.commit_calls.proofs.Runs.{leaves_by}
@@ -32,9 +33,6 @@ use Rattle.facet_shell.specs.Stories.{IsStory}
 use Rattle.seg_decoding.proofs.Prefixes.{stays}
 use Rattle.facet_shell.proofs.Growth.{first_all}
 use Rattle.facet_shell.proofs.Storied.{recovers_front}
-
-abbrev Labels : Type 0
-Labels = List (List (List ℕ))
 
 module _ {D : Type 0} (told : D → Option Told) (may_leave : D → Image → Type 0) (moment : D → ℕ) (left_since : D → ℕ → Image → Type 0) (faults : D → ℕ)
     (only_now : (d : D) (c : Image) → left_since d (moment d) c → may_leave d c) (config : Config) (labels : Labels) (segments : List Records) (state : Committed) (start disk : D) (store : Store) where

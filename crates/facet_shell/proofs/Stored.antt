@@ -3,6 +3,7 @@ use Rattle.std.proofs.Common.{◌≡◌, ℕ, List, ◌++◌, length, take, slic
 use Rattle.std.proofs.lemmas.List.{take_at}
 use Rattle.std.proofs.lemmas.Option.{get_or_from_slice_get, slice_get_within}
 use Rattle.facet_names.specs.Labels.{GoesOn, IsLabelList}
+use Rattle.facet_names.proofs.LabelLists.{Labels}
 use Rattle.facet_model.specs.Documents.{Doc}
 use Rattle.facet_model.specs.Flags.{Config}
 use Rattle.facet_model.specs.Stored.{Stored, Records, AreLabelsAt, Decodes}
@@ -13,9 +14,6 @@ use Rattle.seg_decoding.proofs.Decoded.{record_is}
 use Rattle.seg_decoding.proofs.Ordinals.{all_stay}
 use Rattle.seg_decoding.proofs.Stored.{IsOfDoc, records_are, places_are, map_get}
 use Rattle.facet_shell.specs.Searching.{IsShownFrom}
-
-abbrev Labels : Type 0
-Labels = List (List (List ℕ))
 
 -- what is shown of a record is shown of the document that it is
 pub shown_is : (config : Config) (shelf : Shelf) (view : Labels) (segments : List Records) (more : List Doc) (at : ℕ) (reply : Reply) → IsLabelList view → IsLabelList shelf.labels → GoesOn view shelf.labels

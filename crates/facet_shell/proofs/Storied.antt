@@ -7,6 +7,7 @@ use Rattle.facet_model.specs.Documents.{Doc}
 use Rattle.facet_model.specs.Flags.{Config}
 use Rattle.facet_model.specs.Stored.{Records, Decodes}
 use Rattle.facet_names.specs.Labels.{GoesOn, IsLabelList}
+use Rattle.facet_names.proofs.LabelLists.{Labels}
 use Rattle.facet_words.specs.Answers as words
 use Rattle.facet_words.specs.Answers.{Shelf, RightReply, IsFailed, IsSpent}
 use Rattle.facet_words.specs.Commands.{Settings, commit}
@@ -26,9 +27,6 @@ use Rattle.facet_shell.specs.Stories.{IsCommitted, IsStory}
 use Rattle.seg_decoding.proofs.Prefixes.{stays}
 use Rattle.facet_shell.proofs.Grown.{and_on}
 use Rattle.facet_shell.proofs.Growth.{Grows, first_all, first_on}
-
-abbrev Labels : Type 0
-Labels = List (List (List ℕ))
 
 -- ---- one image
 

@@ -21,7 +21,7 @@ use facet_names::NoMemory;
 use facet_words::{Refusal, Reply, Settings};
 use seg_file::Entry;
 use std::alloc::Global;
-use taxo_list::{TaxoFault, Taxonomy};
+use taxo_list::{Labelled, TaxoFault, Taxonomy};
 
 fn refusal_of(fault: DocFault) -> Refusal
     ensures { refusal_view result ≡ broken (fault_view fault) }

@@ -17,6 +17,7 @@ use facet_disk::Disk;
 use facet_words::{Command, Refusal, Reply};
 use sideways::SearchAsk;
 use store_opening::laws::of_files;
+use taxo_list::Labelled;
 
 /// Makes all documents and labels durable, and answers it.
 pub fn commit<D: Disk>(session: &mut Session, committer: &mut Committer<D>) -> Reply

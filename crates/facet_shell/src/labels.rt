@@ -8,7 +8,7 @@ ghost use Rattle.facet_shell.specs.Growing.{IsBetween, IsFull};
 use facet_model::Resolved;
 use facet_names::Path;
 use std::alloc::Global;
-use taxo_list::{TaxoFault, Taxonomy};
+use taxo_list::{Labelled, TaxoFault, Taxonomy};
 
 // Adds the prefixes of a path that are missing, the dimension first, and tells the ordinals of all.
 fn add_prefixes(

@@ -1,7 +1,6 @@
 ghost use Rattle.std.specs.Prelude.{◌≡◌, ◌≢◌, ◌∷◌, [], ◌↔◌, ◌⊎◌, ℕ, List, length, map, IfOk, IfSome, Some, None};
 ghost use Rattle.std.specs.String.{string_bytes};
 ghost use Rattle.facet_disk.specs.Images.{Told};
-ghost use Rattle.facet_disk.specs.Calls.{Rose as DiskRose};
 ghost use Rattle.facet_io.specs.Faults.{Rose};
 ghost use Rattle.store_opening.specs.Quiet.{IsQuiet};
 ghost use Rattle.facet_shell.specs.Runs.{ReadsScript, ReadsSome, ReadsTooMuch, TellsOfScript, TellsOfStore, Finishes, FinishesPartly, StopsShort, WritesLine, expected};
@@ -57,8 +56,8 @@ pub fn run<R: AllocGlobal, S: Source, K: Sink, D: Disk>(
     ensures bad_words { (result.status ≡ Status.BadWords) ↔ (length words.now ≢ 1) }
     ensures read_failed { result.status ≡ Status.ReadFault → Rose (S.faults source.old) (S.faults source.new) }
     ensures write_failed { result.status ≡ Status.WriteFault → Rose (K.faults sink.old) (K.faults sink.new) }
-    ensures disk_failed { result.status ≡ Status.DiskFault → ReadsScript (S.left source.old) (S.left source.new) × DiskRose (D.faults disk) (D.faults result.disk) }
-    ensures device_failed { result.status ≡ Status.DiskFault → (s : Told) → D.told disk ≡ Some s → DiskRose (D.failures disk) (D.failures result.disk) }
+    ensures disk_failed { result.status ≡ Status.DiskFault → ReadsScript (S.left source.old) (S.left source.new) × Rose (D.faults disk) (D.faults result.disk) }
+    ensures device_failed { result.status ≡ Status.DiskFault → (s : Told) → D.told disk ≡ Some s → Rose (D.failures disk) (D.failures result.disk) }
 
     // Counts of faults stay where nothing failed. That of the disk may rise in a commit, whose reply tells it.
     ensures source_still { result.status ≢ Status.ReadFault → S.faults source.new ≡ S.faults source.old }
@@ -66,7 +65,7 @@ pub fn run<R: AllocGlobal, S: Source, K: Sink, D: Disk>(
     ensures disk_still { (result.status ≡ Status.Done) ⊎ (result.status ≡ Status.WriteFault) ⊎ (result.status ≡ Status.NoMemory) ⊎ (result.status ≡ Status.DiskFault) ⊎ (D.faults result.disk ≡ D.faults disk) }
 
     ensures complete { (input : List ℕ) (s : Told) → S.left source.old ≡ Some input → D.told disk ≡ Some s → length words.now ≡ 1
-        → ¬ Rose (S.faults source.old) (S.faults source.new) → ¬ Rose (K.faults sink.old) (K.faults sink.new) → ¬ DiskRose (D.faults disk) (D.faults result.disk)
+        → ¬ Rose (S.faults source.old) (S.faults source.new) → ¬ Rose (K.faults sink.old) (K.faults sink.new) → ¬ Rose (D.faults disk) (D.faults result.disk)
         → (result.status ≡ expected input s.files) ⊎ (result.status ≡ Status.NoMemory) }
 {
     if words.len() != 1 {

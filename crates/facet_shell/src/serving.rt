@@ -20,6 +20,7 @@ use facet_io::{Sink, write_all};
 use facet_names::NoMemory;
 use facet_words::Script;
 use std::alloc::Global;
+use taxo_list::Labelled;
 
 // Carries out the orders of a script on a store that was opened.
 fn serve<K: Sink, D: Disk>(

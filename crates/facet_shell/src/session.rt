@@ -21,7 +21,7 @@ use sideways::SearchAsk;
 use std::alloc::Global;
 use std::marker::Model;
 use std::sync::Arc;
-use taxo_list::{TaxoView, Taxonomy};
+use taxo_list::{Labelled, TaxoView, Taxonomy};
 
 /// What the orders of one session work on, beside its store: the settings and the labels; the segments of all documents but the last ones, which wait in a
 /// buffer; and which of them the last refresh took, with the labels as they stood then.

@@ -2,13 +2,12 @@ ghost use Rattle.std.specs.Prelude.{◌≡◌, ◌<◌, ◌≤◌, ◌⊎◌, []
 ghost use Rattle.std.specs.Arc.{arc_value};
 ghost use Rattle.facet_replies.specs.ReplyViews.{reply_view};
 ghost use Rattle.seg_grammar.specs.Lookups.{record_of};
-ghost use Rattle.seg_decoding.specs.Decoding.{doc_in, docs_in, records_in};
+ghost use Rattle.seg_decoding.specs.Decoding.{docs_in, records_in};
 ghost use Rattle.facet_shell.specs.Searching.{IsShownFrom};
 
-use facet_model::Document;
-use facet_names::{NoMemory, Path};
+use facet_names::NoMemory;
 use facet_words::{Refusal, Reply};
-use seg_decoding::ordinals_of;
+use seg_decoding::{document_of, ordinals_of};
 use seg_file::Segment;
 use std::alloc::Global;
 use std::sync::Arc;
@@ -61,40 +60,6 @@ pub fn count(segments: &[Arc<Segment>]) -> usize
     count
 }
 
-// The labels at these ordinals.
-fn labels_at(alloc: Global, view: &TaxoView, ordinals: &[u32]) -> Result<Vec<Path>, NoMemory>
-    requires { All (λ ord. (0 < ord) × (ord < length view.now)) ordinals.now }
-    ensures { IfOk result (λ v. map (slice_get view.now) ordinals.now ≡ map Some v.items) }
-{
-    let mut labels = Vec::with_capacity(alloc, ordinals.len())?;
-    for ord in ordinals {
-        let label = view.path_of(*ord).dup(alloc)?;
-        labels.push(label)?;
-    }
-    Ok(labels)
-}
-
-// The document that a segment has at a place, and the ordinals of its labels.
-fn document_of(
-    alloc: Global,
-    view: &TaxoView,
-    segment: &Segment,
-    doc: u32,
-) -> Result<(Document, Vec<u32>), NoMemory>
-    requires there { doc < length segment.now.records }
-    requires leaves { All (λ ord. (0 < ord) × (ord < length view.now)) (record_of segment.now doc).leaves }
-    ensures doc { IfOk result (λ p. p.0 ≡ doc_in view.now (record_of segment.now doc)) }
-    ensures ordinals { IfOk result (λ p. p.1.items ≡ (record_of segment.now doc).leaves) }
-{
-    let ordinals = ordinals_of(alloc, segment.leaves(doc))?;
-    let labels = labels_at(alloc, view, &ordinals)?;
-    match Document::new(alloc, segment.id(doc), segment.text(doc), labels) {
-        Ok(doc) => Ok((doc, ordinals)),
-        // It was a document when it was stored, so that nothing else can be wanting.
-        Err(_) => Err(NoMemory),
-    }
-}
-
 /// The reply that shows the document at a place of these segments, which `n` operations made.
 pub fn show(
     alloc: Global,
@@ -109,7 +74,8 @@ pub fn show(
 {
     match find(segments, at as usize) {
         Some((segment, place)) => {
-            let (doc, ordinals) = document_of(alloc, view, segment, place)?;
+            let ordinals = ordinals_of(alloc, segment.leaves(place))?;
+            let doc = document_of(alloc, view, segment, place, &ordinals)?;
             Ok(Reply::Shown {
                 n,
                 at,

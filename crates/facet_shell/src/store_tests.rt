@@ -7,6 +7,7 @@ use facet_config::FacetsConfig;
 use facet_disk::{Dir, Disk, FileName, Kind, MemoryDisk, Pick, Unsynced};
 use std::alloc::Global;
 use std::test::Fail;
+use taxo_list::Labelled;
 
 // The calls before the second commit: two lists, and the 12 of the first one.
 const BEFORE: u64 = 14;

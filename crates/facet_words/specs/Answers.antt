@@ -7,7 +7,7 @@ use Rattle.facet_model.specs.Documents.{Doc}
 use Rattle.facet_model.specs.Accepts.{Broken, first_broken}
 use Rattle.facet_model.specs.Asks.{Asked, AskFault, top_of_none, value_not_kept, ask_fault}
 use Rattle.facet_model.specs.Results.{Answer, IsAnswer}
-use Rattle.facet_model.specs.Hits.{is_hit, hits, lifted}
+use Rattle.facet_model.specs.Hits.{hits, is_hit, docs_for}
 use Rattle.facet_words.specs.Commands.{Settings, Search, Command, add, refresh, search, document, stats, commit, Order}
 use Rattle.facet_replies.specs.Replies.{Refusal, broken, labels_full, docs_full, top_zero, dim_value_not_kept, no_such_document, disk_failed, closed, numbers_spent, no_memory, Reply, placed, numbered, found, shown, stats as numbers, refused}
 use Rattle.facet_replies.specs.ReplyLines.{reply_line}
@@ -64,10 +64,6 @@ LeavesSome settings shelf doc None next = (k : ℕ) × (length shelf.labels ≤ 
 abbrev pub hits_of : List Doc → Search → List Doc
 hits_of docs s = hits docs s.query s.drill
 
--- the documents over which a dimension is counted: the hits, and sideways also what its own drill alone keeps out
-abbrev pub docs_for : List Doc → Search → List ℕ → List Doc
-docs_for docs s dim = if s.sideways then lifted docs s.query s.drill dim else hits_of docs s
-
 -- the first hits, each with its place among all the documents and its id
 abbrev pub first_hits : List Doc → Search → List (ℕ × List ℕ)
 first_hits docs s = take s.hits (map (λ e. (e.0, e.1.id)) (filter (λ e. is_hit s.query s.drill e.1) (enumerate_from 0 docs)))
@@ -84,7 +80,7 @@ first_refused config asks = slice_get (filter_map (λ e. option_map (ask_refusal
 -- The reply to a search over these documents, which so many operations made.
 abbrev pub IsFound : Config → ℕ → List Doc → Search → Option Refusal → Reply → Type 0
 IsFound config operations docs s (Some r) reply = reply ≡ refused r
-IsFound config operations docs s None reply = (answers : List Answer) × AllZip (IsAnswer config docs (docs_for docs s)) s.asks answers
+IsFound config operations docs s None reply = (answers : List Answer) × AllZip (IsAnswer config docs (docs_for s.sideways docs s.query s.drill)) s.asks answers
     × (reply ≡ found (record { operations = operations; hit_count = length (hits_of docs s); hits = first_hits docs s; answers = answers }))
 
 -- ---- document

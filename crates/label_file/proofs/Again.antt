@@ -5,6 +5,7 @@ use Rattle.std.proofs.lemmas.Bool.{ne_eqb, eq-eqb}
 use Rattle.std.proofs.lemmas.List.{append-nil, take_at, take-append-drop, get_or_append_left, length-drop}
 use Rattle.std.proofs.Math.Seq.{get_or-append_seam}
 use Rattle.std.proofs.lemmas.Option.{slice_get-get_or, get_or_from_slice_get}
+use Rattle.facet_names.specs.Paths.{last_part}
 use Rattle.facet_names.specs.Labels.{IsLabelList, above, place, stands}
 use Rattle.facet_names.proofs.LabelLists.{fresh, parent_before, place_at, path_has_part}
 use Rattle.facet_codec.specs.Places.{Place}
@@ -14,7 +15,7 @@ use Rattle.facet_codec.specs.Reading.{u32_at, text_at}
 use Rattle.facet_codec.specs.Laws.{ReadsBack, IsBelow, IsText}
 use Rattle.facet_codec.proofs.Taking.{told_read_back}
 use Rattle.facet_codec.proofs.EachKind.{u32_read_back, text_read_back}
-use Rattle.label_file.specs.LabelBytes.{IsStorable, last_part, parent_ordinal, label_bytes, labels_bytes}
+use Rattle.label_file.specs.LabelBytes.{IsStorable, parent_ordinal, label_bytes, labels_bytes}
 use Rattle.label_file.specs.LabelReading.{codec, path_below, behind, head_at, label_at, labels_at, stored_labels}
 use Rattle.label_file.proofs.Below.{below_again}
 

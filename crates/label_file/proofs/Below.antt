@@ -1,16 +1,14 @@
 -- What the path of a component below a label is.
-use Rattle.std.proofs.Common.{◌≡◌, ℕ, ◌+◌, ◌-◌, ◌<◌, Bool, true, false, ◌||◌, cond, List, [], ◌∷◌, ◌++◌, length, take, slice_get, Option, Some, None, is_some, refl, sym, ap, ◌∙◌, arith, length-append}
+use Rattle.std.proofs.Common.{◌≡◌, ℕ, ◌<◌, Bool, true, false, ◌||◌, cond, List, [], ◌∷◌, ◌++◌, length, slice_get, Option, Some, None, is_some, refl, sym, ap, ◌∙◌}
 use Rattle.std.specs.Prelude.{option_and_then}
 use Rattle.std.specs.Option.{option_map}
-use Rattle.std.proofs.lemmas.List.{take_at, take_all, take_more, get_or_push}
 use Rattle.std.proofs.lemmas.List.Folds.{list_any_at}
 use Rattle.std.proofs.lemmas.Option.{slice_get-get_or, slice_get_within, get_or_from_slice_get}
 use Rattle.facet_names.specs.declared.fault.PathFault.{PathFault}
-use Rattle.facet_names.specs.Paths.{path_eq, path_eq_equiv}
+use Rattle.facet_names.specs.Paths.{path_eq, path_eq_equiv, last_part}
 use Rattle.facet_names.specs.Faults.{path_fault, IsPath}
 use Rattle.facet_names.specs.Labels.{IsLabelList, above, stands}
-use Rattle.facet_names.proofs.LabelLists.{some_label, root_first}
-use Rattle.label_file.specs.LabelBytes.{last_part}
+use Rattle.facet_names.proofs.LabelLists.{some_label, root_first, above_more, last_more, split_last}
 use Rattle.label_file.specs.LabelReading.{joined, addable, path_below}
 
 -- the label at an ordinal stands
@@ -22,20 +20,6 @@ pub joined_root : (labels : List (List (List ℕ))) (part : List ℕ) → IsLabe
 joined_root labels part is =
     let root : slice_get labels 0 ≡ Some [] = slice_get-get_or labels 0 [] (some_label labels is) ∙ ap Some (root_first labels is []) in
     ap (option_map (λ above. above ++ part ∷ [])) root
-
--- ---- a path with one component more
-
-pub above_more : (front : List (List ℕ)) (part : List ℕ) → above (front ++ part ∷ []) ≡ front
-above_more front part = take_at front (part ∷ []) (length (front ++ part ∷ []) - 1) (omega (arith, length-append front (part ∷ [])))
-
-pub last_more : (front : List (List ℕ)) (part : List ℕ) → last_part (front ++ part ∷ []) ≡ part
-last_more front part = get_or_push front part [] (length (front ++ part ∷ []) - 1) (omega (arith, length-append front (part ∷ [])))
-
--- a path is the one above it with its last component
-pub split_last : (path : List (List ℕ)) → 0 < length path → above path ++ last_part path ∷ [] ≡ path
-split_last path some =
-    let all : take (length path - 1 + 1) path ≡ path = take_all (length path - 1 + 1) path (omega (arith, some)) in
-    sym (take_more path (length path - 1) [] (omega (arith, some))) ∙ all
 
 -- ---- below a label
 

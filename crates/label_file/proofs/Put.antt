@@ -2,12 +2,13 @@
 use Rattle.std.proofs.Common.{◌≡◌, ℕ, zero, suc, ◌<◌, pos, negsuc, List, [], ◌++◌, length, get_or, slice_get, Some, refl, sym, ap, ◌∙◌, arith, append_assoc}
 use Rattle.std.proofs.lemmas.List.FromFn.{length-map-range_with_len}
 use Rattle.std.proofs.lemmas.Option.{slice_get-get_or}
+use Rattle.facet_names.specs.Paths.{last_part}
 use Rattle.facet_names.specs.Labels.{IsLabelList, above, place}
 use Rattle.facet_names.specs.Arrays.{or_none, parent_at}
 use Rattle.facet_names.proofs.LabelLists.{parent_before, place_at}
 use Rattle.taxo_list.specs.ArrayLists.{ArrayLists, arrays_of}
 use Rattle.taxo_list.proofs.Linked.{entry}
-use Rattle.label_file.specs.LabelBytes.{last_part, parent_ordinal, label_bytes}
+use Rattle.label_file.specs.LabelBytes.{parent_ordinal, label_bytes}
 use Rattle.facet_codec.specs.Spelling.{be32, text}
 
 -- ---- the parent of a label, as the arrays have it

@@ -1,15 +1,12 @@
 -- The labels of a taxonomy segment, format 1: the one spelling of them.
-use Rattle.std.specs.Prelude.{ℕ, ◌-◌, List, [], ◌++◌, length, drop, slice_index_or}
+use Rattle.std.specs.Prelude.{ℕ, ◌-◌, List, ◌++◌, length, drop}
 use Rattle.std.specs.Option.{option_map_or}
 use Rattle.std.specs.List.{flat_map}
 use Rattle.facet_names.specs.Faults.{IsPath}
+use Rattle.facet_names.specs.Paths.{last_part}
 use Rattle.facet_names.specs.Labels.{above, place}
 use Rattle.facet_codec.specs.Spelling.{be32, text}
 use Rattle.facet_codec.specs.Laws.{IsText}
-
--- the last component of a path
-abbrev pub last_part : List (List ℕ) → List ℕ
-last_part path = slice_index_or path (length path - 1) []
 
 -- what is stored of a label: it is a path, and its last component is a text
 pub record IsStorable (path : List (List ℕ)) : Type 0 where

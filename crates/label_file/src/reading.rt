@@ -8,7 +8,7 @@ use crate::fault::LabelsFault;
 use facet_codec::Cursor;
 use facet_names::{NoMemory, Path, PathFault};
 use std::alloc::Global;
-use taxo_list::Taxonomy;
+use taxo_list::{Labelled, Taxonomy};
 
 /// Passes four bytes, which have to be this number.
 #[tactic(auto, unfolding(crate::specs::LabelReading::behind))]
@@ -46,10 +46,11 @@ fn joined(labels: &Taxonomy, alloc: Global, parent: u32, part: &str) -> Result<P
     ensures ok { IfOk result (λ p. joined labels.now parent part.now ≡ Some p) }
     ensures fits { IfOk result (λ p. path_fault p ≡ None) }
     ensures err { IfErr result (λ e. e ≢ Memory → option_and_then path_fault (joined labels.now parent part.now) ≡ Some e) }
+    ensures memory { IfErr result (λ e. e ≡ Memory → option_and_then path_fault (joined labels.now parent part.now) ≡ None) }
 {
     let _ = labels.size();
     if parent == 0 {
-        return Path::new(alloc, &[String::from_str(alloc, part)?]);
+        return Path::of_dim(alloc, part);
     }
     labels.path_of(parent).child(alloc, part)
 }
@@ -62,7 +63,8 @@ fn path_below(
     parent: u32,
     part: &str,
 ) -> Result<Option<Path>, NoMemory>
-    ensures { IfOk result (λ o. o ≡ path_below labels.now parent part.now) }
+    ensures ok { IfOk result (λ o. o ≡ path_below labels.now parent part.now) }
+    ensures memory { IfErr result (λ _. (parent < length labels.now) × (option_and_then path_fault (joined labels.now parent part.now) ≡ None)) }
 {
     if parent >= labels.size() {
         return Ok(None);
@@ -122,8 +124,8 @@ fn labels_after(
 /// Puts the labels of a taxonomy segment behind these. The segment, which is all of the bytes, has to be one of `count` labels, the first of which has
 /// the ordinal `first`; `count` is at least 1. Each label's parent stands before it, and no label stands twice, also among the labels before.
 ///
-/// After a fault the first of the segment's labels may stand behind the others, and no others do. It reads the bytes once from left to right, and takes memory for each label
-/// when that was read, whatever the count says.
+/// After a fault the first of the segment's labels may stand behind the others, and no others do. It reads the bytes once from left to right, and takes
+/// memory for each label when that was read, whatever the count says.
 #[tactic(auto, unfolding(crate::specs::LabelReading::stored_labels))]
 pub fn read_labels(
     labels: &mut Taxonomy,

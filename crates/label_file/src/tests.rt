@@ -6,7 +6,7 @@ use facet_codec::{NoMemory, put_text, put_u32, put_vint};
 use facet_names::Path;
 use std::alloc::Global;
 use std::test::Fail;
-use taxo_list::Taxonomy;
+use taxo_list::{Labelled, Taxonomy};
 
 // Author and Author/Bob, from ordinal 1.
 const AUTHORS: &[u8] = b"FTAX\x00\x00\x00\x01\x00\x00\x00\x01\x00\x00\x00\x02\

@@ -5,7 +5,7 @@ ghost use Rattle.label_file.specs.LabelReading.{stored_labels};
 
 use facet_codec::{NoMemory, put_text, put_u32};
 use std::alloc::Global;
-use taxo_list::TaxoView;
+use taxo_list::{Labelled, TaxoView};
 
 /// Appends the label at an ordinal.
 fn put_label(out: &mut Vec<u8>, view: &TaxoView, ord: u32) -> Result<(), NoMemory>

@@ -3,6 +3,7 @@ use Rattle.std.proofs.Common.{◌<◌, ℕ, List, [], ◌∷◌, length}
 use Rattle.std.specs.Prelude.{All}
 use Rattle.std.specs.List.{AllZip, AllByRecursion}
 use Rattle.facet_names.specs.Labels.{IsLabelList}
+use Rattle.facet_names.proofs.LabelLists.{Labels}
 use Rattle.facet_model.specs.Documents.{Doc}
 use Rattle.facet_model.specs.Flags.{Config}
 use Rattle.facet_model.specs.Stored.{Stored, Records, IsRecordOf}
@@ -10,9 +11,6 @@ use Rattle.seg_decoding.specs.Laws.{OpensAgain, OpensLater}
 use Rattle.seg_decoding.proofs.Decoded.{segment_stays}
 use Rattle.seg_decoding.proofs.Opened.{opened_again}
 use Rattle.seg_decoding.proofs.Stored.{all_each, leaves_within}
-
-abbrev Labels : Type 0
-Labels = List (List (List ℕ))
 
 low_each : (needs : ℕ) (rs : List Stored) → AllByRecursion (λ r. All (λ leaf. leaf < needs) r.leaves) rs → AllByRecursion (λ r. AllByRecursion (λ leaf. leaf < needs) r.leaves) rs
 low_each needs [] all = tt

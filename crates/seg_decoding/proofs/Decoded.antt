@@ -6,6 +6,7 @@ use Rattle.std.proofs.lemmas.List.{append-nil, map-append, flat_map_more}
 use Rattle.std.proofs.lemmas.List.Concat.{flat_map-cons}
 use Rattle.std.proofs.lemmas.Option.{get_or_from_slice_get}
 use Rattle.facet_names.specs.Labels.{GoesOn, IsLabelList}
+use Rattle.facet_names.proofs.LabelLists.{Labels}
 use Rattle.facet_model.specs.Documents.{Doc}
 use Rattle.facet_model.specs.Flags.{Config}
 use Rattle.facet_model.specs.Histories.{knows}
@@ -17,9 +18,6 @@ use Rattle.seg_terms.specs.declared.entry.Entry.{Entry}
 use Rattle.seg_decoding.specs.Decoding.{doc_in, records_in, docs_in, flushed}
 use Rattle.seg_decoding.specs.Entries.{AreEntries, docs_of}
 use Rattle.seg_decoding.proofs.Ordinals.{all_stay, all_zip_push, known_at}
-
-abbrev Labels : Type 0
-Labels = List (List (List ℕ))
 
 -- ---- lists side by side
 

@@ -1,5 +1,5 @@
 -- Few ordinals are counted for a document.
-use Rattle.std.proofs.Common.{ℕ, suc, ◌+◌, ◌*◌, ◌<◌, ◌≤◌, Bool, List, [], ◌∷◌, length, take, eqb, sym, ap, ◌∙◌, arith}
+use Rattle.std.proofs.Common.{ℕ, suc, ◌+◌, ◌*◌, ◌≤◌, Bool, List, [], ◌∷◌, length, take, eqb, sym, ap, ◌∙◌, arith}
 use Rattle.std.specs.Prelude.{filter, All}
 use Rattle.std.specs.List.{IsDistinct, enumerate_from, zip}
 use Rattle.std.specs.List.Sorted.{IsStrictlyIncreasing}
@@ -11,14 +11,12 @@ use Rattle.std.proofs.lemmas.Cmp.{nat_eq_equiv}
 use Rattle.std.proofs.lemmas.List.Kept.{AllPairs-from_increasing}
 use Rattle.std.proofs.lemmas.List.Sums.{length-filter, count_by-le-length}
 use Rattle.std.proofs.lemmas.Map.Made.{length-le_from_is_member, IsDistinct-from_AllPairs}
+use Rattle.facet_names.proofs.LabelLists.{Labels}
 use Rattle.facet_model.specs.CountedPaths.{is_counted_for, ordinals_of_label, ordinals_of_labels}
 use Rattle.facet_model.specs.Documents.{dim_of}
 use Rattle.facet_model.specs.Flags.{Config, flags}
 use Rattle.facet_config.specs.Expanding.{AreAsLong, AreExpanded}
 use Rattle.seg_decoding.specs.Entries.{IsShort}
-
-abbrev Labels : Type 0
-Labels = List (List (List ℕ))
 
 all_tail : {X : Type 0} (P : X → Type 0) (x : X) (xs : List X) → All P (x ∷ xs) → All P xs
 all_tail P x xs all = λ i d lt. all (suc i) d (omega arith)

@@ -5,6 +5,7 @@ use Rattle.std.specs.List.{AllByRecursion}
 use Rattle.std.specs.Option.{option_map}
 use Rattle.std.proofs.lemmas.Bool.{lt-ltb, ltb-true, and_parts}
 use Rattle.std.proofs.lemmas.List.{drop_more, drop_all}
+use Rattle.facet_names.proofs.LabelLists.{Labels}
 use Rattle.facet_codec.proofs.Taking.{bind_ok}
 use Rattle.facet_model.specs.Accepts.{Accepts, first_broken, Broken}
 use Rattle.facet_model.specs.Flags.{Config}
@@ -13,9 +14,6 @@ use Rattle.seg_grammar.specs.Spelling.{record_bytes}
 use Rattle.seg_decoding.specs.Answers.{IsLeaf}
 use Rattle.seg_decoding.specs.Decoding.{doc_in}
 use Rattle.seg_decoding.specs.Opening.{unless_at, leaves_fit, leaves_place, document_fits, documents_fit}
-
-abbrev Labels : Type 0
-Labels = List (List (List ℕ))
 
 -- ---- leaf by leaf
 

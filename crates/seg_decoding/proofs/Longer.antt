@@ -6,6 +6,7 @@ use Rattle.std.specs.List.{AllByRecursion}
 use Rattle.std.proofs.lemmas.List.{get_or-take}
 use Rattle.facet_codec.specs.Reading.{◌>>=◌}
 use Rattle.facet_names.specs.Labels.{GoesOn, IsLabelList}
+use Rattle.facet_names.proofs.LabelLists.{Labels}
 use Rattle.facet_model.specs.Accepts.{first_broken}
 use Rattle.facet_model.specs.CountedPaths.{counted_ordinals}
 use Rattle.facet_model.specs.Documents.{Doc}
@@ -22,9 +23,6 @@ use Rattle.seg_decoding.proofs.Decoded.{decoded, decodes_stay}
 use Rattle.seg_decoding.proofs.Fitting.{Fits, leaves_are, documents_are}
 use Rattle.seg_decoding.proofs.Opened.{own_labels}
 use Rattle.seg_decoding.proofs.Ordinals.{known_at}
-
-abbrev Labels : Type 0
-Labels = List (List (List ℕ))
 
 module _ (config : Config) (a b : Labels) (list_a : IsLabelList a) (list_b : IsLabelList b) (on : GoesOn a b) where
   -- the documents of segments that decode stay

@@ -7,6 +7,7 @@ use Rattle.std.proofs.lemmas.Option.{slice_get-get_or}
 use Rattle.facet_codec.specs.Spelling.{be32}
 use Rattle.facet_codec.proofs.EachKind.{u32_read_back}
 use Rattle.facet_names.specs.Labels.{IsLabelList}
+use Rattle.facet_names.proofs.LabelLists.{Labels}
 use Rattle.facet_model.specs.Accepts.{Accepts}
 use Rattle.facet_model.specs.CountedPaths.{counted_ordinals}
 use Rattle.facet_model.specs.Documents.{Doc}
@@ -23,9 +24,6 @@ use Rattle.seg_decoding.proofs.Decoded.{all_zip_is, record_is}
 use Rattle.seg_decoding.proofs.Differences.{none_from_same}
 use Rattle.seg_decoding.proofs.Fitting.{Fits, documents_fit_where}
 use Rattle.seg_decoding.proofs.Stored.{leaves_within, all_each}
-
-abbrev Labels : Type 0
-Labels = List (List (List ℕ))
 
 -- what the head of a segment tells
 pub head_of : (documents : ℕ) (s : Records) → length s.records < 2 ^ 32 → head_fits documents (seg_bytes s) ≡ (if length s.records == documents then Ok tt else Err 8)

@@ -8,11 +8,9 @@ use Rattle.std.proofs.lemmas.List.FromFn.{length-map-range_with_len}
 use Rattle.std.proofs.lemmas.Option.{slice_get-get_or, get_or_from_slice_get, slice_get_within}
 use Rattle.facet_names.specs.Paths.{path_eq, path_eq_equiv}
 use Rattle.facet_names.specs.Labels.{GoesOn, prefixes, stands}
+use Rattle.facet_names.proofs.LabelLists.{Labels}
 use Rattle.facet_model.specs.CountedPaths.{AreResolved}
 use Rattle.facet_config.specs.Expanding.{AreAsLong}
-
-abbrev Labels : Type 0
-Labels = List (List (List ℕ))
 
 -- the ordinals are those of these paths
 abbrev pub AreAt : Labels → List ℕ → Labels → Type 0

@@ -5,9 +5,7 @@ use Rattle.std.proofs.lemmas.List.{take_all}
 use Rattle.std.proofs.lemmas.List.FromFn.{get_or-map-range_with_len, length-map-range_with_len}
 use Rattle.std.proofs.lemmas.List.Sums.{AllPass-from_list_all}
 use Rattle.facet_names.specs.Labels.{GoesOn, prefixes, stands}
-
-abbrev Labels : Type 0
-Labels = List (List (List ℕ))
+use Rattle.facet_names.proofs.LabelLists.{Labels}
 
 -- a list goes on from itself
 pub stays : (xs : Labels) → GoesOn xs xs

@@ -5,15 +5,12 @@ use Rattle.std.specs.List.{AllZip, AllByRecursion}
 use Rattle.std.proofs.lemmas.List.Concat.{flat_map-cons}
 use Rattle.std.proofs.lemmas.Option.{get_or_from_slice_get, slice_get_within}
 use Rattle.facet_names.specs.Labels.{IsLabelList, place}
-use Rattle.facet_names.proofs.LabelLists.{place_at, root_first}
+use Rattle.facet_names.proofs.LabelLists.{Labels, place_at, root_first}
 use Rattle.facet_model.specs.Documents.{Doc}
 use Rattle.facet_model.specs.Flags.{Config}
 use Rattle.facet_model.specs.Stored.{Stored, Records, AreLabelsAt, IsRecordOf, IsSegmentOf, Decodes}
 use Rattle.facet_counts.proofs.Documents.{each_unbroken}
 use Rattle.seg_decoding.specs.Decoding.{records_in}
-
-abbrev Labels : Type 0
-Labels = List (List (List ℕ))
 
 -- the record is a document's
 abbrev pub IsOfDoc : Labels → Config → Stored → Type 0

@@ -19,7 +19,7 @@ use facet_model::{DocShape, Document};
 use facet_names::{NoMemory, Path};
 use seg_file::{Entry, Ords, Segment};
 use std::alloc::Global;
-use taxo_list::Taxonomy;
+use taxo_list::{Labelled, Taxonomy};
 
 /// These ordinals, in their order.
 pub fn ordinals_of(alloc: Global, mut leaves: Ords<'_>) -> Result<Vec<u32>, NoMemory>
@@ -54,10 +54,14 @@ fn check_leaves(needs: u32, leaves: &[u32], at: u64) -> Result<(), StoredFault>
     Ok(())
 }
 
-// The labels at these ordinals.
-fn labels_at(alloc: Global, labels: &Taxonomy, ordinals: &[u32]) -> Result<Vec<Path>, NoMemory>
-    requires { All (IsLeaf (length labels.now)) ordinals.now }
-    ensures { IfOk result (λ v. AreLabelsAt labels.now ordinals.now v.items) }
+/// The labels at these ordinals, each with memory of its own.
+pub fn labels_at<L: Labelled>(
+    alloc: Global,
+    labels: &L,
+    ordinals: &[u32],
+) -> Result<Vec<Path>, NoMemory>
+    requires { All (IsLeaf (length (L.labels labels.now))) ordinals.now }
+    ensures { IfOk result (λ v. AreLabelsAt (L.labels labels.now) ordinals.now v.items) }
 {
     let mut paths = Vec::with_capacity(alloc, ordinals.len())?;
     for ord in ordinals {
@@ -74,21 +78,22 @@ fn no_memory(fault: DocShape) -> NoMemory
     NoMemory
 }
 
-// The document that a segment has at a place, whose labels are those at these leaves.
-fn document_of(
+/// The document that a segment has at a place, whose labels are those at its leaves. It copies the id, the text and the labels.
+pub fn document_of<L: Labelled>(
     alloc: Global,
-    labels: &Taxonomy,
+    labels: &L,
     segment: &Segment,
     doc: u32,
     leaves: &[u32],
 ) -> Result<Document, NoMemory>
     requires there { doc < length segment.now.records }
-    requires fits { IsRecord (record_of segment.now doc) }
     requires own { leaves.now ≡ (record_of segment.now doc).leaves }
-    requires within { All (IsLeaf (length labels.now)) leaves.now }
-    ensures doc { IfOk result (λ d. d ≡ doc_in labels.now (record_of segment.now doc)) }
-    ensures labels { IfOk result (λ d. AreLabelsAt labels.now leaves.now d.labels) }
+    requires within { All (IsLeaf (length (L.labels labels.now))) leaves.now }
+    ensures doc { IfOk result (λ d. d ≡ doc_in (L.labels labels.now) (record_of segment.now doc)) }
+    ensures labels { IfOk result (λ d. AreLabelsAt (L.labels labels.now) leaves.now d.labels) }
 {
+    // Its clause says that each record is within the limits of a document.
+    let _ = segment.docs();
     let paths = labels_at(alloc, labels, leaves)?;
     match Document::new(alloc, segment.id(doc), segment.text(doc), paths) {
         Ok(document) => Ok(document),

@@ -12,7 +12,7 @@ use facet_codec::Cursor;
 use facet_config::FacetsConfig;
 use seg_file::Segment;
 use std::alloc::Global;
-use taxo_list::Taxonomy;
+use taxo_list::{Labelled, Taxonomy};
 
 // The first bytes are those of a segment that has so many documents.
 fn check_head(bytes: &[u8], documents: u32) -> Result<(), StoredFault>

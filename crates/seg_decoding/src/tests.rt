@@ -1,14 +1,15 @@
-ghost use Rattle.std.specs.Prelude.{◌≡◌, IfOk};
+ghost use Rattle.std.specs.Prelude.{◌≡◌, ◌<◌, All, IfOk, length};
 ghost use Rattle.facet_names.specs.Labels.{above, stands};
+ghost use Rattle.seg_decoding.specs.Answers.{IsLeaf};
 
-use crate::{StoredFault, open_stored};
+use crate::{StoredFault, document_of, labels_at, open_stored, ordinals_of};
 use facet_config::FacetsConfig;
 use facet_model::{Counted, DimFlags, Document};
 use facet_names::{NoMemory, Path};
 use seg_file::{Entry, Segment};
 use std::alloc::{AllocError, Global};
 use std::test::Fail;
-use taxo_list::Taxonomy;
+use taxo_list::{Labelled, Taxonomy};
 
 // One document with the id `b1`, the text `Rust` and the label Author/Bob, whose ordinal is 2. Its record begins at byte 12, its leaf stands at 21, its
 // counted ordinal at 26, and its terms begin at 34, 50 and 70.
@@ -103,6 +104,35 @@ fn opens(rt: HostRuntime) -> Result<(), Fail> {
         assert!(rt; segment.docs() == 1);
         assert!(rt; segment.id(0) == "b1" && segment.text(0) == "Rust");
     }
+    Ok(())
+}
+
+// The first document of a segment is that of ONE.
+fn has_one<L: Labelled>(alloc: Global, labels: &L, segment: &Segment) -> Result<bool, Fail>
+    requires some { 0 < length segment.now.records }
+    requires leaves { All (λ r. All (IsLeaf (length (L.labels labels.now))) r.leaves) segment.now.records }
+{
+    let bob = path(alloc, "Author/Bob")?;
+    let leaves = ordinals_of(alloc, segment.leaves(0))?;
+    let paths = labels_at(alloc, labels, &leaves)?;
+    let doc = document_of(alloc, labels, segment, 0, &leaves)?;
+    let facets = doc.facets();
+    let is_labelled = facets.len() == 1 && facets[0] == bob && paths.len() == 1 && paths[0] == bob;
+    Ok(is_labelled && doc.id() == "b1" && doc.text() == "Rust")
+}
+
+#[test]
+fn one_document_by_a_list_and_by_its_view(rt: HostRuntime) -> Result<(), Fail> {
+    let alloc = rt.alloc();
+    let labels = labels(alloc)?;
+    let view = labels.view()?;
+    let config = config(alloc, false)?;
+    let bytes = ONE.as_slice().to_vec(alloc)?;
+    let Ok(segment) = open_stored(alloc, &config, &labels, labels.size(), 1, bytes) else {
+        return Err("a segment".into());
+    };
+    assert!(rt; has_one(alloc, &labels, &segment)?);
+    assert!(rt; has_one(alloc, &view, &segment)?);
     Ok(())
 }
 

@@ -1,11 +1,12 @@
 -- The places of the documents that have a term, document by document.
-use Rattle.std.proofs.Common.{◌≡◌, ℕ, ◌<◌, ◌+◌, ◌-◌, zero, suc, Bool, true, false, cond, ◌||◌, List, [], ◌∷◌, ◌++◌, length, map, Some, None, refl, sym, ap, ◌∙◌, arith}
-use Rattle.std.specs.Prelude.{filter, nat_eq, slice_get}
-use Rattle.std.specs.List.{list_any, enumerate_from, AllByRecursion}
+use Rattle.std.proofs.Common.{◌≡◌, ℕ, ◌<◌, ◌+◌, ◌-◌, zero, suc, Bool, true, false, cond, ◌||◌, List, [], ◌∷◌, ◌++◌, length, Some, None, refl, sym, ap, ◌∙◌, arith}
+use Rattle.std.specs.Prelude.{nat_eq, slice_get}
+use Rattle.std.specs.List.{list_any, AllByRecursion}
 use Rattle.std.specs.Option.{option_map_or}
 use Rattle.std.proofs.lemmas.Bool.{ne_eqb}
 use Rattle.std.proofs.lemmas.List.{append-nil}
 use Rattle.std.proofs.lemmas.List.Folds.{list_any-append}
+use Rattle.facet_names.proofs.Places.{places_from, with_place as with_first}
 use Rattle.facet_model.specs.Documents.{Doc}
 use Rattle.facet_model.specs.CountedPaths.{places}
 use Rattle.facet_model.specs.Terms.{doc_terms}
@@ -13,42 +14,36 @@ use Rattle.seg_terms.specs.Noting.{Table, found, put_place, with_place, AreNoted
 use Rattle.seg_terms.specs.Laws.{has_term, term_places}
 
 module _ {A : Type 0} (passes : A → Bool) where
-  abbrev pub places_from : ℕ → List A → List ℕ
-  places_from n xs = map (λ e. e.0) (filter (λ e. passes e.1) (enumerate_from n xs))
-
-  abbrev pub with_first : Bool → ℕ → A → List A → List ℕ
-  with_first b n x xs = map (λ e. e.0) (cond b ((n, x) ∷ filter (λ e. passes e.1) (enumerate_from (n + 1) xs)) (filter (λ e. passes e.1) (enumerate_from (n + 1) xs)))
-
   -- one element more
-  places_more : (xs : List A) (n k : ℕ) (y : A) → n + length xs ≡ k → places_from n (xs ++ y ∷ []) ≡ places_from n xs ++ cond (passes y) (k ∷ []) []
+  places_more : (xs : List A) (n k : ℕ) (y : A) → n + length xs ≡ k → places_from passes n (xs ++ y ∷ []) ≡ places_from passes n xs ++ cond (passes y) (k ∷ []) []
   places_more [] n k y size = by (passes y)
     where
       here : n ≡ k
       here = omega (arith, size)
 
-      by : (b : Bool) → with_first b n y [] ≡ cond b (k ∷ []) []
+      by : (b : Bool) → with_first passes b n y [] ≡ cond b (k ∷ []) []
       by true = λ i. here i ∷ []
       by false = refl
   places_more (x ∷ xs) n k y size = by (passes x) (places_more xs (n + 1) k y (omega (arith, size)))
     where
-      by : (b : Bool) → places_from (n + 1) (xs ++ y ∷ []) ≡ places_from (n + 1) xs ++ cond (passes y) (k ∷ []) [] → with_first b n x (xs ++ y ∷ []) ≡ with_first b n x xs ++ cond (passes y) (k ∷ []) []
+      by : (b : Bool) → places_from passes (n + 1) (xs ++ y ∷ []) ≡ places_from passes (n + 1) xs ++ cond (passes y) (k ∷ []) [] → with_first passes b n x (xs ++ y ∷ []) ≡ with_first passes b n x xs ++ cond (passes y) (k ∷ []) []
       by true rest = ap (λ ps. n ∷ ps) rest
       by false rest = rest
 
   -- each place is before the end
-  pub places_below : (xs : List A) (n k : ℕ) → n + length xs ≡ k → AllByRecursion (λ p. p < k) (places_from n xs)
+  pub places_below : (xs : List A) (n k : ℕ) → n + length xs ≡ k → AllByRecursion (λ p. p < k) (places_from passes n xs)
   places_below [] n k size = tt
   places_below (x ∷ xs) n k size = by (passes x) (places_below xs (n + 1) k (omega (arith, size)))
     where
-      by : (b : Bool) → AllByRecursion (λ p. p < k) (places_from (n + 1) xs) → AllByRecursion (λ p. p < k) (with_first b n x xs)
+      by : (b : Bool) → AllByRecursion (λ p. p < k) (places_from passes (n + 1) xs) → AllByRecursion (λ p. p < k) (with_first passes b n x xs)
       by true rest = (omega (arith, size), rest)
       by false rest = rest
 
-  no_places : (xs : List A) (n : ℕ) → list_any passes xs ≡ false → places_from n xs ≡ []
+  no_places : (xs : List A) (n : ℕ) → list_any passes xs ≡ false → places_from passes n xs ≡ []
   no_places [] n none = refl
   no_places (x ∷ xs) n none = by (passes x) none (no_places xs (n + 1))
     where
-      by : (b : Bool) → (b || list_any passes xs) ≡ false → (list_any passes xs ≡ false → places_from (n + 1) xs ≡ []) → with_first b n x xs ≡ []
+      by : (b : Bool) → (b || list_any passes xs) ≡ false → (list_any passes xs ≡ false → places_from passes (n + 1) xs ≡ []) → with_first passes b n x xs ≡ []
       by true none rest = absurd cc
       by false none rest = rest none
 

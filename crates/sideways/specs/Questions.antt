@@ -1,10 +1,10 @@
 -- A search over the documents of segments.
-use Rattle.std.specs.Prelude.{ℕ, Bool, if◌then◌else◌, List, map}
+use Rattle.std.specs.Prelude.{ℕ, Bool, List, map}
 use Rattle.facet_model.specs.Asks.{Asked}
 use Rattle.facet_model.specs.CountedPaths.{counted_ordinals}
 use Rattle.facet_model.specs.Documents.{Doc}
 use Rattle.facet_model.specs.Flags.{Config}
-use Rattle.facet_model.specs.Hits.{hits, lifted}
+use Rattle.facet_model.specs.Hits.{docs_for}
 use Rattle.facet_model.specs.Queries.{QueryTree}
 use Rattle.facet_model.specs.Stored.{Records, Decodes}
 
@@ -22,9 +22,9 @@ pub record Question : Type 0 where
 abbrev pub HasDocs : Question → List Doc → Type 0
 HasDocs q docs = Decodes q.labels q.config q.segments docs
 
--- the documents over which a dimension is counted: with sideways those that need not pass the dimension itself, without it the hits
+-- the documents over which it counts a dimension
 abbrev pub docs_of : Question → List Doc → List ℕ → List Doc
-docs_of q docs dim = if q.sideways then lifted docs q.query q.drill dim else hits docs q.query q.drill
+docs_of q docs dim = docs_for q.sideways docs q.query q.drill dim
 
 -- the ordinals that are counted for each document
 abbrev pub counted_of : Question → List Doc → List (List ℕ)

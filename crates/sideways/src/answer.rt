@@ -22,7 +22,7 @@ use seg_file::Segment;
 use std::alloc::Global;
 use std::marker::Model;
 use std::sync::Arc;
-use taxo_list::TaxoView;
+use taxo_list::{Labelled, TaxoView};
 
 /// What a search found, as Lucene's `DrillSidewaysResult`: the hits, and the counts of every dimension.
 #[derive(Drop)]

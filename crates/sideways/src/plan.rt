@@ -24,7 +24,7 @@ use seg_file::Segment;
 use std::alloc::Global;
 use std::marker::Model;
 use std::sync::Arc;
-use taxo_list::TaxoView;
+use taxo_list::{Labelled, TaxoView};
 
 /// A search that is ready to run, with all memory that the counting needs: one pass for the hits, and with sideways one more for each drilled
 /// dimension. A pass has a counter of its own, 5 bytes for each label of the view, and a plan for each segment.

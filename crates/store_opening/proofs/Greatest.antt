@@ -16,8 +16,9 @@ use Rattle.facet_disk.specs.FileNames.{same_dir, same_kind}
 use Rattle.facet_disk.specs.SameNames.{dir_again, dir_from, kind_from}
 use Rattle.facet_disk.specs.Images.{Image}
 use Rattle.facet_disk.specs.Calls.{Lists}
-use Rattle.commit_calls.specs.Held.{Below, file, newest, greatest}
-use Rattle.commit_calls.proofs.Newest.{IsGreatest, greatest_is, one_greatest}
+use Rattle.facet_names.specs.Arrays.{greatest}
+use Rattle.facet_names.proofs.Greatest.{IsGreatest, greatest_is, one_greatest}
+use Rattle.commit_calls.specs.Held.{Below, file, newest}
 use Rattle.store_opening.specs.declared.fault.OpenFault.{OpenFault}
 use Rattle.store_opening.specs.declared.fault.OpenFault.TheVariants.{NumbersSpent}
 use Rattle.store_opening.specs.Files.{has_number, greatest_number, unspent}
@@ -222,8 +223,8 @@ none_from names None is none n has = cc (is n has)
 none_from names (Some k) is none n has = absurd (cc none)
 
 -- the newest commit file is there
-pub newest_there : (dir : Dir) (c : Image) (n : ℕ) → newest dir c ≡ Some n → c (file dir Commit n) ≢ None
-newest_there dir c n is none = clash (sym (subst (IsGreatest (λ k. is_some (c (file dir Commit k))) (2 ^ 64)) is (greatest_is (λ k. is_some (c (file dir Commit k))) (2 ^ 64))).1 ∙ ap is_some none)
+pub newest_number_there : (dir : Dir) (c : Image) (n : ℕ) → newest dir c ≡ Some n → c (file dir Commit n) ≢ None
+newest_number_there dir c n is none = clash (sym (subst (IsGreatest (λ k. is_some (c (file dir Commit k))) (2 ^ 64)) is (greatest_is (λ k. is_some (c (file dir Commit k))) (2 ^ 64))).1 ∙ ap is_some none)
   where
     clash : true ≡ false → ⊥
     clash e = cc e

@@ -1,6 +1,7 @@
 -- What files stand for, by the first part that fails.
 use Rattle.std.proofs.Common.{◌≡◌, ℕ, List, [], ◌∷◌, Option, Some, None, Result, Ok, Err, ap, ◌∙◌}
 use Rattle.std.specs.Prelude.{length}
+use Rattle.facet_names.proofs.LabelLists.{Labels}
 use Rattle.facet_codec.specs.Faults.{told_as}
 use Rattle.facet_codec.specs.Reading.{◌>>=◌}
 use Rattle.facet_disk.specs.declared.name.Dir.TheVariants.{Taxonomy, Index}
@@ -14,9 +15,6 @@ use Rattle.commit_file.specs.Commits.{TaxonomyListing, IndexListing}
 use Rattle.commit_file.specs.Reading.{taxonomy_commit, index_commit}
 use Rattle.store_opening.specs.declared.fault.OpenFault.{OpenFault}
 use Rattle.store_opening.specs.Files.{Segments, segments_in, greatest_number, unspent, of_file, labels_of, taxonomy_in, agrees, segments_of, index_in, files}
-
-abbrev Labels : Type 0
-Labels = List (List (List ℕ))
 
 abbrev Answer : Type 0 → Type 0
 Answer A = Result A OpenFault

@@ -14,7 +14,8 @@ use Rattle.facet_disk.specs.declared.name.FileName.{FileName}
 use Rattle.facet_disk.specs.Images.{Image}
 use Rattle.facet_model.specs.Flags.{Config}
 use Rattle.facet_model.specs.Stored.{Records}
-use Rattle.commit_calls.specs.Held.{Held, file, greatest, newest_file}
+use Rattle.facet_names.specs.Arrays.{greatest}
+use Rattle.commit_calls.specs.Held.{Held, file, newest_file}
 use Rattle.commit_file.specs.Commits.{IndexListing}
 use Rattle.commit_file.specs.Reading.{taxonomy_commit, index_commit}
 use Rattle.commit_file.specs.declared.fault.FileFault.{FileFault}

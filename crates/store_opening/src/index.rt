@@ -26,7 +26,7 @@ use seg_decoding::open_stored;
 use seg_file::Segment;
 use std::alloc::Global;
 use std::sync::Arc;
-use taxo_list::Taxonomy;
+use taxo_list::{Labelled, Taxonomy};
 
 /// An index that was read, and the commit that names its segments.
 #[derive(Drop)]

@@ -4,6 +4,7 @@ use facet_config::FacetsConfig;
 use facet_disk::{Dir, Disk, FileName, Kind, MemoryDisk};
 use std::alloc::Global;
 use std::test::Fail;
+use taxo_list::Labelled;
 
 // Author and Author/Bob, from ordinal 1.
 const LABELS: &[u8] = b"FTAX\x00\x00\x00\x01\x00\x00\x00\x01\x00\x00\x00\x02\

@@ -13,6 +13,7 @@ use Rattle.std.proofs.lemmas.List.FromFn.{length-map-range_with_len, get_or-map-
 use Rattle.std.proofs.lemmas.Option.{slice_get-get_or, IfSome_then}
 use Rattle.facet_names.specs.Labels.{IsLabelList}
 use Rattle.facet_names.specs.Arrays.{or_none, greatest, parent_at, child_at, sibling_at, is_child}
+use Rattle.facet_names.proofs.Greatest.{greatest_passes}
 use Rattle.taxo_list.specs.ArrayLists.{ArrayLists, by_ordinal, arrays_of}
 use Rattle.taxo_list.specs.Links.{ordinal, parent_in, last_child, last_sibling, arrays_by, AreParents, AreLinked}
 use Rattle.taxo_list.proofs.Labels.{parent_before, parent_at_front}
@@ -21,24 +22,21 @@ use Rattle.taxo_list.proofs.Labels.{parent_before, parent_at_front}
 
 -- the greatest below the next number
 greatest_pass : (passes : ℕ → Bool) (n : ℕ) → passes n ≡ true → greatest passes (n + 1) ≡ Some n
+unfolding greatest
 greatest_pass passes n passed = ap (greatest passes) next ∙ cond-true (passes n) (Some n) (greatest passes n) passed
   where
     next : n + 1 ≡ suc n
     next = omega arith
 
 greatest_fail : (passes : ℕ → Bool) (n : ℕ) → passes n ≡ false → greatest passes (n + 1) ≡ greatest passes n
+unfolding greatest
 greatest_fail passes n failed = ap (greatest passes) next ∙ cond-false (passes n) (Some n) (greatest passes n) failed
   where
     next : n + 1 ≡ suc n
     next = omega arith
 
 greatest_below : (passes : ℕ → Bool) (n : ℕ) → IfSome (greatest passes n) (λ j. j < n)
-greatest_below passes zero = search rules
-greatest_below passes (suc n) = by (passes n) (greatest_below passes n)
-  where
-    by : (b : Bool) → IfSome (greatest passes n) (λ j. j < n) → IfSome (cond b (Some n) (greatest passes n)) (λ j. j < suc n)
-    by true below = omega arith
-    by false below = IfSome_then (greatest passes n) below (λ j low. omega arith)
+greatest_below passes n = IfSome_then (greatest passes n) (greatest_passes passes n) (λ j at. at.0)
 
 none_or_below : (o : Option ℕ) (n : ℕ) → IfSome o (λ j. j < n) → n ≤ 1000000 → SFits w32 (or_none o)
 none_or_below None n below few = record { sfits = omega arith }
@@ -126,6 +124,7 @@ pub entries_alike : (f g : ℕ → Option ℕ) (n : ℕ) → ((i : ℕ) → i < 
 entries_alike f g n alike = fill_by_all (λ i. or_none (g i)) (by_ordinal n f) n (negsuc 0) (length-map-range_with_len (λ i. or_none (f i)) 0 n) (λ k lt. entry f n k (negsuc 0) lt ∙ ap or_none (alike k lt))
 
 pub greatest_alike : (p q : ℕ → Bool) (n : ℕ) → ((i : ℕ) → i < n → p i ≡ q i) → greatest p n ≡ greatest q n
+unfolding greatest
 greatest_alike p q zero alike = refl
 greatest_alike p q (suc n) alike = λ j. cond (alike n (omega arith) j) (Some n) (greatest_alike p q n (λ i lt. alike i (omega arith)) j)
 
@@ -195,6 +194,7 @@ module _ (parents : List ℤ) (n : ℕ) (within : n ≤ length parents) (smaller
 
   -- none of the first is a child of a later one
   no_child : (i : ℕ) → n ≤ i → (m : ℕ) → m ≤ n → last_child parents m i ≡ None
+  unfolding greatest
   no_child i high zero low = refl
   no_child i high (suc m) low = λ j. cond (other (parent_in parents m) (smaller m (omega arith)) j) (Some m) (no_child i high m (omega arith) j)
     where

@@ -4,6 +4,7 @@
 
 mod arrays;
 mod fault;
+mod labelled;
 mod stored;
 mod taxonomy;
 #[cfg(test)]
@@ -12,5 +13,6 @@ mod view;
 
 pub use arrays::Arrays;
 pub use fault::TaxoFault;
+pub use labelled::Labelled;
 pub use taxonomy::Taxonomy;
 pub use view::TaxoView;

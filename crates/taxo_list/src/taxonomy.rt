@@ -1,7 +1,8 @@
-ghost use Rattle.std.specs.Prelude.{◌≡◌, ◌≢◌, ◌≤◌, ◌<◌, [], ◌∷◌, Some, Err, false, length, slice_get, is_some, IsTrue, IsOk, IfOk, IfErr, OnOk, OnErr};
-ghost use Rattle.facet_names.specs.Labels.{GoesOn, IsLabelList, above, place, stands, with_label};
+ghost use Rattle.std.specs.Prelude.{◌≡◌, ◌≢◌, ◌≤◌, [], ◌∷◌, Some, Err, false, length, is_some, IsTrue, IsOk, IfOk, IfErr, OnOk, OnErr};
+ghost use Rattle.facet_names.specs.Labels.{GoesOn, above, place, stands, with_label};
 
 use crate::fault::TaxoFault;
+use crate::labelled::Labelled;
 use crate::stored::ordinal_in;
 use crate::view::TaxoView;
 use facet_names::{NoMemory, Path};
@@ -31,6 +32,14 @@ impl Model for Taxonomy {
     ghost invariant = { λ t. IsTaxonomy t.labels.keys t.parents.items };
 }
 
+impl Labelled for Taxonomy {
+    ghost labels = { λ t. t };
+
+    fn paths(&self) -> &[Path] {
+        self.labels.as_slice()
+    }
+}
+
 impl Taxonomy {
     ghost use Rattle.taxo_list.specs.declared.fault.TaxoFault.TheVariants.{LabelsFull, NoMemory as Memory};
 
@@ -48,30 +57,12 @@ impl Taxonomy {
         })
     }
 
-    /// The number of labels, with the root: 1 to 1,000,000.
-    pub fn size(&self) -> u32
-        ensures size { result ≡ length self.now }
-        ensures list { IsLabelList self.now }
-        ensures few { length self.now ≤ 1000000 }
-    {
-        self.labels.len() as u32 + 1
-    }
-
     /// The ordinal of a path, where the path is in the list. It takes no memory.
     pub fn find(&self, path: &Path) -> Option<u32>
         ensures ordinal { result ≡ place self.now path.now }
         ensures there { is_some result ≡ stands self.now path.now }
     {
         ordinal_in(&self.labels, path)
-    }
-
-    /// The path at an ordinal. The root has none. It takes no memory.
-    pub fn path_of(&self, ord: u32) -> &Path
-        requires some { 0 < ord }
-        requires within { ord < length self.now }
-        ensures { slice_get self.now ord ≡ Some result.now }
-    {
-        &self.labels.as_slice()[ord as usize - 1]
     }
 
     // The ordinal of the parent of a path.

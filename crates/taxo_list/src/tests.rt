@@ -2,7 +2,7 @@ ghost use Rattle.std.specs.Prelude.{◌≡◌, ◌<◌, IfOk, OnOk};
 ghost use Rattle.facet_names.specs.Labels.{GoesOn, above, stands};
 ghost use Rattle.taxo_list.specs.ArrayLists.{arrays_of};
 
-use crate::{Arrays, TaxoFault, TaxoView, Taxonomy};
+use crate::{Arrays, Labelled, TaxoFault, TaxoView, Taxonomy};
 use facet_names::{NoMemory, Path};
 use std::alloc::Global;
 use std::process::Abort;
@@ -209,5 +209,30 @@ fn may_be_shared<T: Send + Sync>(_value: &T) -> bool {
 fn views_may_be_shared(rt: HostRuntime) -> Result<(), Fail> {
     let view: TaxoView = Taxonomy::new(rt.alloc())?.view()?;
     assert!(rt; may_be_shared(&view));
+    Ok(())
+}
+
+// The components of all labels, and how many labels there are.
+fn described<L: Labelled>(alloc: Global, labels: &L) -> Result<String, Fail> {
+    let mut text = String::new(alloc);
+    for ord in 1..labels.size() {
+        let path = labels.path_of(ord);
+        for place in 0..path.len() {
+            text.push_str(path.part(place))?;
+            text.push('/')?;
+        }
+        text.push(' ')?;
+    }
+    let paths = labels.paths().len();
+    Ok(format!(in alloc; "{text}{paths}")?)
+}
+
+#[test]
+fn a_list_and_its_view_alike(rt: HostRuntime) -> Result<(), Fail> {
+    let alloc = rt.alloc();
+    let list = listed(&rt, alloc, &["Author", "Author/Bob", "Year"])?;
+    let expected = "Author/ Author/Bob/ Year/ 3";
+    assert!(rt; described(alloc, &list)?.as_str() == expected);
+    assert!(rt; described(alloc, &list.view()?)?.as_str() == expected);
     Ok(())
 }

@@ -1,8 +1,9 @@
-ghost use Rattle.std.specs.Prelude.{◌≡◌, ◌<◌, ◌≤◌, [], ◌∷◌, Some, length, slice_get, is_some, IfOk};
+ghost use Rattle.std.specs.Prelude.{◌≡◌, ◌<◌, ◌≤◌, [], ◌∷◌, length, is_some, IfOk};
 ghost use Rattle.facet_names.specs.Labels.{IsLabelList, place, stands};
 ghost use Rattle.taxo_list.specs.ArrayLists.{arrays_of};
 
 use crate::arrays::Arrays;
+use crate::labelled::Labelled;
 use crate::stored::{copied, ordinal_in};
 use facet_names::{NoMemory, Path};
 use indexmap::IndexSet;
@@ -27,6 +28,14 @@ impl Model for TaxoView {
     ghost view = { λ v. [] ∷ v.labels.keys };
 
     ghost invariant = { λ v. IsView v.labels.keys v.arrays };
+}
+
+impl Labelled for TaxoView {
+    ghost labels = { λ v. v };
+
+    fn paths(&self) -> &[Path] {
+        self.labels.as_slice()
+    }
 }
 
 impl TaxoView {
@@ -56,30 +65,12 @@ impl TaxoView {
         self.arrays.parents()
     }
 
-    /// The number of labels, with the root: 1 to 1,000,000.
-    pub fn size(&self) -> u32
-        ensures size { result ≡ length self.now }
-        ensures list { IsLabelList self.now }
-        ensures few { length self.now ≤ 1000000 }
-    {
-        self.labels.len() as u32 + 1
-    }
-
     /// The ordinal of a path, where the path is in the view. By one look-up in a hash table.
     pub fn ordinal_of(&self, path: &Path) -> Option<u32>
         ensures ordinal { result ≡ place self.now path.now }
         ensures there { is_some result ≡ stands self.now path.now }
     {
         ordinal_in(&self.labels, path)
-    }
-
-    /// The path at an ordinal. The root has none.
-    pub fn path_of(&self, ord: u32) -> &Path
-        requires some { 0 < ord }
-        requires within { ord < length self.now }
-        ensures { slice_get self.now ord ≡ Some result.now }
-    {
-        &self.labels.as_slice()[ord as usize - 1]
     }
 
     /// The parents, children and siblings of the labels.

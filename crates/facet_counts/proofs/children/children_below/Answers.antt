@@ -4,9 +4,10 @@ use Rattle.std.specs.Option.{option_map_or}
 use Rattle.std.proofs.lemmas.List.{append-nil, length-map}
 use Rattle.std.proofs.lemmas.Option.{IfSome_then}
 use Rattle.facet_names.specs.Arrays.{is_child, greatest}
+use Rattle.facet_names.proofs.Greatest.{greatest_passes}
 use Rattle.facet_model.specs.Listing.{counted_child}
 use Rattle.facet_counts.specs.Children.{children_at}
-use Rattle.facet_counts.proofs.Walk.{children_from, walk_starts, walk_goes_on, greatest_passes, sibling_is, children_few, smaller_next}
+use Rattle.facet_counts.proofs.Walk.{children_from, walk_starts, walk_goes_on, sibling_is, children_few, smaller_next}
 use Rattle.facet_counts.proofs.children.children_below.Goals as goal
 
 pub loop-next-init : goal.loop-next-init

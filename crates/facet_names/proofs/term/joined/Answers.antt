@@ -18,7 +18,7 @@ loop-at-preserved c =
     let part = string_bytes c.index-parts-at.result in
     let within : at < length parts = search rules in
     let size : length before ≡ at = length_texts at parts (omega (arith, within)) in
-    c.in_ok-push_part.ensures
+    c.in_ok-push_part.ensures.ok
     ∙ ap (λ t. string_bytes c.loop-at.text ++ cond (nat_eq at 0) (escaped t) (31 ∷ escaped t)) c.as_str.ensures.value
     ∙ ap (λ t. t ++ cond (nat_eq at 0) (escaped part) (31 ∷ escaped part)) c.loop-at.invariant
     ∙ longer_text before part at size

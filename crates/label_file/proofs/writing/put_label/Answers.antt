@@ -5,9 +5,10 @@ use Rattle.std.proofs.lemmas.Str.{is_utf8-from_IsUtf8}
 use mir.Val.{to_z, of_z}
 use mir.Syntax.{w32}
 use lib.IntN.{nat_abs}
+use Rattle.facet_names.specs.Paths.{last_part}
 use Rattle.facet_codec.specs.Spelling.{be32}
 use Rattle.facet_codec.specs.Laws.{IsText}
-use Rattle.label_file.specs.LabelBytes.{IsStorable, last_part}
+use Rattle.label_file.specs.LabelBytes.{IsStorable}
 use Rattle.label_file.proofs.Put.{as_many, parent_entry, label_put}
 use Rattle.label_file.proofs.writing.put_label.Goals as goal
 

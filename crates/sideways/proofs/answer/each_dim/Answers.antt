@@ -4,14 +4,15 @@ use Rattle.std.specs.Option.{option_map_or}
 use Rattle.std.proofs.lemmas.Option.{IfSome_then, get_or_from_slice_get}
 use Rattle.facet_names.specs.Arrays.{is_child, greatest, child_at}
 use Rattle.facet_names.specs.Labels.{IsLabelList}
+use Rattle.facet_names.specs.Paths.{last_part}
+use Rattle.facet_names.proofs.Greatest.{greatest_passes}
 use Rattle.facet_model.specs.Documents.{dim_of}
 use Rattle.facet_model.specs.ResultViews.{result_view}
 use Rattle.facet_model.specs.Results.{IsTop}
-use Rattle.facet_counts.specs.Children.{last_of}
 use Rattle.facet_counts.specs.Dims.{AreDims}
 use Rattle.facet_counts.specs.Lists.{IsListOf}
 use Rattle.std.specs.List.{AllZip}
-use Rattle.facet_counts.proofs.Walk.{greatest_passes, sibling_is, smaller_next}
+use Rattle.facet_counts.proofs.Walk.{sibling_is, smaller_next}
 use Rattle.facet_counts.proofs.EachDim.{walked, walk_goes, walk_ends, walk_begins, not_walked, dim_label}
 use Rattle.sideways.specs.Questions.{counted_of, docs_of}
 use Rattle.sideways.specs.Searches.{question}
@@ -48,7 +49,7 @@ loop-next-preserved c =
       λ docs has.
           let so_far = subst (λ o. AreDims (walked labels o) config (docs_of q docs) c.args.n (map result_view c.loop-next.results.items)) c.in-Some.is (c.loop-next.invariant.0 docs has) in
           let here = subst (λ p. IsTop config (docs_of q docs (dim_of p)) p c.args.n (option_map result_view c.in_ok-top.top)) (sym label ∙ dim.1) (c.in_ok-top.ensures docs has) in
-          let more = c.in_ok-note_dim.ensures.noted (walked labels (Some c.in-Some.ord)) config (docs_of q docs) c.args.n (last_of (get_or labels c.in-Some.ord [])) (not_walked labels list c.in-Some.ord at.0 at.1) here so_far in
+          let more = c.in_ok-note_dim.ensures.noted (walked labels (Some c.in-Some.ord)) config (docs_of q docs) c.args.n (last_part (get_or labels c.in-Some.ord [])) (not_walked labels list c.in-Some.ord at.0 at.1) here so_far in
           subst (λ o. AreDims (walked labels o) config (docs_of q docs) c.args.n (map result_view c.note_dim.new.results.items)) (sym c.sibling_of-next.ensures)
           (subst (λ among. AreDims among config (docs_of q docs) c.args.n (map result_view c.note_dim.new.results.items)) (walk_goes labels list c.in-Some.ord at.0 at.1) more),
       subst (λ o. IfSome o (λ k. (k < length labels) × (is_child labels 0 k ≡ true))) (sym next) (IfSome_then (greatest (is_child labels 0) c.in-Some.ord) (greatest_passes (is_child labels 0) c.in-Some.ord) (λ s p. (omega (arith, p.0, at.0), p.1))),

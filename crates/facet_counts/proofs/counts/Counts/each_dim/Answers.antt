@@ -3,17 +3,18 @@ use Rattle.std.specs.Prelude.{IfSome, option_map}
 use Rattle.std.specs.List.{AllZip}
 use Rattle.std.specs.Option.{option_map_or}
 use Rattle.std.proofs.lemmas.Option.{IfSome_then, get_or_from_slice_get}
+use Rattle.facet_names.specs.Paths.{last_part}
 use Rattle.facet_names.specs.Arrays.{is_child, greatest, child_at}
+use Rattle.facet_names.proofs.Greatest.{greatest_passes}
 use Rattle.facet_model.specs.Documents.{Doc}
 use Rattle.facet_model.specs.ResultViews.{result_view}
 use Rattle.facet_model.specs.Results.{IsTop}
-use Rattle.facet_counts.specs.Children.{last_of}
 use Rattle.facet_counts.specs.Dims.{AreDims}
 use Rattle.facet_counts.specs.Lists.{IsListOf}
 use Rattle.facet_counts.specs.Tallies.{Totals, AreCounts}
 use Rattle.facet_counts.specs.Kept.{IsTotals}
 use Rattle.facet_counts.proofs.Below.{none_below}
-use Rattle.facet_counts.proofs.Walk.{greatest_passes, sibling_is, smaller_next}
+use Rattle.facet_counts.proofs.Walk.{sibling_is, smaller_next}
 use Rattle.facet_counts.proofs.EachDim.{walked, walk_goes, walk_ends, walk_begins, not_walked, dim_label}
 use Rattle.facet_counts.proofs.counts.Counts.each_dim.Goals as goal
 
@@ -50,7 +51,7 @@ loop-next-preserved c =
       λ docs lists are all.
           let so_far = subst (λ o. AreDims (walked c.self.inside.view.now o) c.self.inside.config.now (λ _. docs) c.args.n (map result_view c.loop-next.results.items)) c.in-Some.is (before docs lists are all) in
           let here = subst (λ p. IsTop c.self.inside.config.now docs p c.args.n (option_map result_view c.in_ok-top.top)) (sym label ∙ dim.1) (top docs lists are all) in
-          let more = c.in_ok-note_dim.ensures.noted (walked c.self.inside.view.now (Some c.in-Some.ord)) c.self.inside.config.now (λ _. docs) c.args.n (last_of (get_or c.self.inside.view.now c.in-Some.ord [])) (not_walked c.self.inside.view.now c.size.ensures.list c.in-Some.ord at.0 at.1) here so_far in
+          let more = c.in_ok-note_dim.ensures.noted (walked c.self.inside.view.now (Some c.in-Some.ord)) c.self.inside.config.now (λ _. docs) c.args.n (last_part (get_or c.self.inside.view.now c.in-Some.ord [])) (not_walked c.self.inside.view.now c.size.ensures.list c.in-Some.ord at.0 at.1) here so_far in
           subst (λ o. AreDims (walked c.self.inside.view.now o) c.self.inside.config.now (λ _. docs) c.args.n (map result_view c.note_dim.new.results.items)) (sym c.sibling_of-next.ensures)
           (subst (λ among. AreDims among c.self.inside.config.now (λ _. docs) c.args.n (map result_view c.note_dim.new.results.items)) (walk_goes c.self.inside.view.now c.size.ensures.list c.in-Some.ord at.0 at.1) more),
       subst (λ o. IfSome o (λ k. (k < length c.self.inside.view.now) × (is_child c.self.inside.view.now 0 k ≡ true))) (sym next) (IfSome_then (greatest (is_child c.self.inside.view.now 0) c.in-Some.ord) (greatest_passes (is_child c.self.inside.view.now 0) c.in-Some.ord) (λ s p. (omega (arith, p.0, at.0), p.1))),

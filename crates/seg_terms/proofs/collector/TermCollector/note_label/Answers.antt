@@ -24,7 +24,7 @@ loop-at-preserved c =
     let longer : take (at + 1) label ≡ take at label ++ part ∷ [] = take_more label at [] within ∙ ap (λ p. take at label ++ p ∷ []) (get_or_from_slice_get label at part [] c.part.ensures.part) in
     let end : List ℕ = cond (nat_eq at 0) (escaped part) (31 ∷ escaped part) in
     let text : string_bytes c.push_part.new.text ≡ codes "f" ++ term_text (take (at + 1) label) =
-    c.in_ok-push_part.ensures
+    c.in_ok-push_part.ensures.ok
     ∙ ap (λ t. t ++ end) c.loop-at.invariant.text
     ∙ ap (λ t. 102 ∷ t) (longer_text (take at label) part at size)
     ∙ ap (λ ps. 102 ∷ term_text ps) (sym longer) in
