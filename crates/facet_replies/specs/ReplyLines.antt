@@ -5,6 +5,7 @@ use Rattle.serde_json.specs.Find.{of_integer}
 use Rattle.serde_json.specs.View.{items_of}
 use Rattle.serde_json.specs.Written.{compact_text}
 use Rattle.facet_model.specs.Accepts.{Broken, no_component, not_hierarchical, not_multi_valued}
+use Rattle.facet_model.specs.Documents.{Doc}
 use Rattle.facet_model.specs.Listing.{PartCount}
 use Rattle.facet_model.specs.Results.{Listed, Answer, top_answer, value_answer, dims_answer}
 use Rattle.facet_replies.specs.declared.fault.ScriptFault.{ScriptFault}
@@ -76,12 +77,16 @@ refusal_fields (closed count) = (codes "refused", string (codes "closed")) ∷ (
 refusal_fields (numbers_spent last) = (codes "refused", string (codes "numbers_spent")) ∷ (codes "number", whole_data last) ∷ []
 refusal_fields no_memory = (codes "refused", string (codes "no_memory")) ∷ []
 
+-- a document, with the ordinals of its labels
+abbrev pub document_fields : Doc → List ℕ → Fields
+document_fields doc ordinals = (codes "id", string doc.id) ∷ (codes "text", string doc.text) ∷ (codes "labels", list_data path_data doc.labels) ∷ (codes "ordinals", list_data whole_data ordinals) ∷ []
+
 -- what a reply has besides its line and its session
 abbrev pub reply_fields : Reply → Fields
 reply_fields (placed at) = (codes "at", whole_data at) ∷ []
 reply_fields (numbered n) = (codes "n", whole_data n) ∷ []
 reply_fields (found f) = (codes "n", whole_data f.operations) ∷ (codes "hit_count", whole_data f.hit_count) ∷ (codes "hits", list_data hit_data f.hits) ∷ (codes "results", list_data answer_data f.answers) ∷ []
-reply_fields (shown s) = (codes "n", whole_data s.operations) ∷ (codes "at", whole_data s.at) ∷ (codes "id", string s.doc.id) ∷ (codes "text", string s.doc.text) ∷ (codes "labels", list_data path_data s.doc.labels) ∷ (codes "ordinals", list_data whole_data s.ordinals) ∷ []
+reply_fields (shown s) = (codes "n", whole_data s.operations) ∷ (codes "at", whole_data s.at) ∷ document_fields s.doc s.ordinals
 reply_fields (stats s) = (codes "n", whole_data s.operations) ∷ (codes "labels", whole_data s.labels) ∷ (codes "documents", whole_data s.documents) ∷ []
 reply_fields (refused r) = refusal_fields r
 

@@ -1,26 +1,27 @@
 ghost use Rattle.std.specs.Prelude.{◌≡◌, ◌++◌, ◌∷◌, [], IfOk, OnOk, OnErr, false, string_bytes, map, codes};
 ghost use Rattle.serde_json.specs.Data.{string};
-ghost use Rattle.serde_json.specs.View.{view};
+ghost use Rattle.serde_json.specs.View.{view, members_view};
 ghost use Rattle.serde_json.specs.Written.{has_float};
-ghost use Rattle.facet_replies.specs.Replies.{placed, numbered, found, shown, stats, refused};
-ghost use Rattle.facet_replies.specs.ReplyLines.{fields, whole_data, list_data, path_data, hit_data, reply_data, json_line, reply_line, at_line, fault_data, fault_line};
-ghost use Rattle.facet_replies.specs.ReplyViews.{hit_view, reply_view, refusal_view};
+ghost use Rattle.facet_model.specs.ResultViews.{answer_view};
+ghost use Rattle.facet_replies.specs.Replies.{found, shown, stats};
+ghost use Rattle.facet_replies.specs.ReplyLines.{members, fields, whole_data, list_data, hit_data, document_fields as fields_of_document, reply_fields as fields_of_reply, reply_data, json_line, reply_line, at_line, fault_data, fault_line};
+ghost use Rattle.facet_replies.specs.ReplyViews.{hit_view, reply_view};
 
 use crate::answering::{answers_value, paths_value};
 use crate::fault::ScriptFault;
-use crate::refusing::refused_value;
+use crate::refusing::refusal_fields;
 use crate::reply::{HitLine, Reply};
 use crate::values::{ToValue, list_value};
-use facet_model::Document;
+use facet_model::{Document, FacetAnswer};
 use facet_names::NoMemory;
-use serde_json::{Value, json};
+use serde_json::{Map, Value, json, put};
 use std::alloc::{AllocError, Global};
 
 #[tactic(auto, unfolding(crate::specs::ReplyLines::hit_data))]
 fn hit_value(alloc: Global, hit: &HitLine) -> Result<Value, NoMemory>
     ensures { IfOk result (λ v. view v ≡ hit_data (hit_view hit.now)) }
 {
-    Ok(json!(in alloc; {"at": hit.at, "id": hit.id.text()})?)
+    Ok(json!(in alloc; {"id": hit.id.text(), "at": hit.at})?)
 }
 
 impl ToValue for HitLine {
@@ -45,120 +46,143 @@ fn hits_value(alloc: Global, hits: &[HitLine]) -> Result<Value, NoMemory>
     list_value(alloc, hits)
 }
 
-#[tactic(auto, unfolding(crate::specs::ReplyLines::reply_data))]
-fn placed_value(alloc: Global, session: u32, line: u32, at: u64) -> Result<Value, NoMemory>
-    ensures { IfOk result (λ v. view v ≡ reply_data session line (placed at)) }
-{
-    Ok(json!(in alloc; {"at": at, "line": line, "s": session})?)
-}
-
-#[tactic(auto, unfolding(crate::specs::ReplyLines::reply_data))]
-fn number_value(alloc: Global, session: u32, line: u32, n: u64) -> Result<Value, NoMemory>
-    ensures { IfOk result (λ v. view v ≡ reply_data session line (numbered n)) }
-{
-    Ok(json!(in alloc; {"line": line, "n": n, "s": session})?)
-}
-
-fn found_value(
-    alloc: Global,
-    session: u32,
-    line: u32,
-    n: u64,
-    hit_count: u64,
-    hits: Value,
-    results: Value,
-) -> Result<Value, AllocError>
-    ensures { IfOk result (λ v. view v ≡ fields ((codes "line", whole_data line) ∷ (codes "s", whole_data session) ∷ (codes "n", whole_data n) ∷ (codes "hit_count", whole_data hit_count) ∷ (codes "hits", view hits) ∷ (codes "results", view results) ∷ [])) }
-{
-    json!(in alloc; {"hit_count": hit_count, "hits": hits, "line": line, "n": n, "results": results, "s": session})
-}
-
 fn ordinals_value(alloc: Global, ordinals: &[u32]) -> Result<Value, NoMemory>
     ensures { IfOk result (λ v. view v ≡ list_data whole_data ordinals.now) }
 {
     list_value(alloc, ordinals)
 }
 
-fn shown_fields(
-    alloc: Global,
-    session: u32,
-    line: u32,
-    n: u64,
-    at: u32,
-    doc: &Document,
-    labels: Value,
-    ordinals: Value,
-) -> Result<Value, AllocError>
-    ensures { IfOk result (λ v. view v ≡ fields ((codes "line", whole_data line) ∷ (codes "s", whole_data session) ∷ (codes "n", whole_data n) ∷ (codes "at", whole_data at) ∷ (codes "id", string doc.now.id) ∷ (codes "text", string doc.now.text) ∷ (codes "labels", view labels) ∷ (codes "ordinals", view ordinals) ∷ [])) }
+fn number_fields(alloc: Global, key: &str, number: u64) -> Result<Map<String, Value>, AllocError>
+    ensures { IfOk result (λ m. members_view m.entries ≡ members ((key.now, whole_data number) ∷ [])) }
 {
-    json!(in alloc; {"at": at, "id": doc.id(), "labels": labels, "line": line, "n": n, "ordinals": ordinals, "s": session, "text": doc.text()})
+    let mut fields = Map::new(alloc);
+    put(&mut fields, alloc, key, Value::from(number))?;
+    Ok(fields)
 }
 
-#[tactic(auto, unfolding(crate::specs::ReplyLines::reply_data))]
-fn shown_value(
+fn found_fields(
     alloc: Global,
-    session: u32,
-    line: u32,
+    n: u64,
+    hit_count: u64,
+    hits: &[HitLine],
+    results: &[FacetAnswer],
+) -> Result<Map<String, Value>, NoMemory>
+    ensures { IfOk result (λ m. members_view m.entries ≡ members (fields_of_reply (found (record { operations = n; hit_count = hit_count; hits = map hit_view hits.now; answers = map answer_view results.now })))) }
+{
+    let mut fields = Map::new(alloc);
+    put(
+        &mut fields,
+        alloc,
+        "results",
+        answers_value(alloc, results)?,
+    )?;
+    put(&mut fields, alloc, "hits", hits_value(alloc, hits)?)?;
+    put(&mut fields, alloc, "hit_count", Value::from(hit_count))?;
+    put(&mut fields, alloc, "n", Value::from(n))?;
+    Ok(fields)
+}
+
+fn document_fields(
+    alloc: Global,
+    doc: &Document,
+    ordinals: &[u32],
+) -> Result<Map<String, Value>, NoMemory>
+    ensures { IfOk result (λ m. members_view m.entries ≡ members (fields_of_document doc.now ordinals.now)) }
+{
+    let mut fields = Map::new(alloc);
+    put(
+        &mut fields,
+        alloc,
+        "ordinals",
+        ordinals_value(alloc, ordinals)?,
+    )?;
+    put(
+        &mut fields,
+        alloc,
+        "labels",
+        paths_value(alloc, doc.facets())?,
+    )?;
+    put(
+        &mut fields,
+        alloc,
+        "text",
+        Value::try_from_str(alloc, doc.text())?,
+    )?;
+    put(
+        &mut fields,
+        alloc,
+        "id",
+        Value::try_from_str(alloc, doc.id())?,
+    )?;
+    Ok(fields)
+}
+
+fn shown_fields(
+    alloc: Global,
     n: u64,
     at: u32,
     doc: &Document,
     ordinals: &[u32],
-) -> Result<Value, NoMemory>
-    ensures { IfOk result (λ v. view v ≡ reply_data session line (shown (record { operations = n; at = at; doc = doc.now; ordinals = ordinals.now }))) }
+) -> Result<Map<String, Value>, NoMemory>
+    ensures { IfOk result (λ m. members_view m.entries ≡ members (fields_of_reply (shown (record { operations = n; at = at; doc = doc.now; ordinals = ordinals.now })))) }
 {
-    let labels = paths_value(alloc, doc.facets())?;
-    let ordinals = ordinals_value(alloc, ordinals)?;
-    let value = shown_fields(alloc, session, line, n, at, doc, labels, ordinals)?;
-    Ok(value)
+    let mut fields = document_fields(alloc, doc, ordinals)?;
+    put(&mut fields, alloc, "at", Value::from(at))?;
+    put(&mut fields, alloc, "n", Value::from(n))?;
+    Ok(fields)
 }
 
-#[tactic(auto, unfolding(crate::specs::ReplyLines::reply_data))]
-fn stats_value(
+fn stats_fields(
     alloc: Global,
-    session: u32,
-    line: u32,
     n: u64,
     labels: u32,
     documents: u32,
-) -> Result<Value, NoMemory>
-    ensures { IfOk result (λ v. view v ≡ reply_data session line (stats (record { operations = n; labels = labels; documents = documents }))) }
+) -> Result<Map<String, Value>, AllocError>
+    ensures { IfOk result (λ m. members_view m.entries ≡ members (fields_of_reply (stats (record { operations = n; labels = labels; documents = documents })))) }
 {
-    Ok(
-        json!(in alloc; {"documents": documents, "labels": labels, "line": line, "n": n, "s": session})?,
-    )
+    let mut fields = Map::new(alloc);
+    put(&mut fields, alloc, "documents", Value::from(documents))?;
+    put(&mut fields, alloc, "labels", Value::from(labels))?;
+    put(&mut fields, alloc, "n", Value::from(n))?;
+    Ok(fields)
+}
+
+// What it has besides its line and its session. The fields are put from the last to the first, as their definition puts them.
+fn reply_fields(alloc: Global, reply: &Reply) -> Result<Map<String, Value>, NoMemory>
+    ensures { IfOk result (λ m. members_view m.entries ≡ members (fields_of_reply (reply_view reply.now))) }
+{
+    match reply {
+        Reply::Placed { at } => Ok(number_fields(alloc, "at", *at)?),
+        Reply::Number { n } => Ok(number_fields(alloc, "n", *n)?),
+        Reply::Found {
+            n,
+            hit_count,
+            hits,
+            results,
+        } => found_fields(alloc, *n, *hit_count, hits, results),
+        Reply::Shown {
+            n,
+            at,
+            doc,
+            ordinals,
+        } => shown_fields(alloc, *n, *at, doc, ordinals),
+        Reply::Stats {
+            n,
+            labels,
+            documents,
+        } => Ok(stats_fields(alloc, *n, *labels, *documents)?),
+        Reply::Refused(refusal) => Ok(refusal_fields(alloc, *refusal)?),
+    }
 }
 
 #[tactic(auto, unfolding(crate::specs::ReplyLines::reply_data))]
 fn reply_value(alloc: Global, session: u32, line: u32, reply: &Reply) -> Result<Value, NoMemory>
     ensures { IfOk result (λ v. view v ≡ reply_data session line (reply_view reply.now)) }
 {
-    match reply {
-        Reply::Placed { at } => placed_value(alloc, session, line, *at),
-        Reply::Number { n } => number_value(alloc, session, line, *n),
-        Reply::Found {
-            n,
-            hit_count,
-            hits,
-            results,
-        } => {
-            let hits = hits_value(alloc, hits)?;
-            let results = answers_value(alloc, results)?;
-            let value = found_value(alloc, session, line, *n, *hit_count, hits, results)?;
-            Ok(value)
-        }
-        Reply::Shown {
-            n,
-            at,
-            doc,
-            ordinals,
-        } => shown_value(alloc, session, line, *n, *at, doc, ordinals),
-        Reply::Stats {
-            n,
-            labels,
-            documents,
-        } => stats_value(alloc, session, line, *n, *labels, *documents),
-        Reply::Refused(refusal) => refused_value(alloc, session, line, *refusal),
-    }
+    let mut fields = reply_fields(alloc, reply)?;
+    put(&mut fields, alloc, "s", Value::from(session))?;
+    put(&mut fields, alloc, "line", Value::from(line))?;
+    Ok(Value::Object(fields))
 }
 
 #[tactic(auto, unfolding(crate::specs::ReplyLines::json_line))]
@@ -192,7 +216,7 @@ pub fn write_reply(
 fn fault_at_value(alloc: Global, fault: &str, line: u64) -> Result<Value, AllocError>
     ensures { IfOk result (λ v. view v ≡ fields (at_line fault.now line)) }
 {
-    json!(in alloc; {"fault": fault, "line": line})
+    json!(in alloc; {"line": line, "fault": fault})
 }
 
 #[tactic(auto, unfolding(crate::specs::ReplyLines::fault_data))]
