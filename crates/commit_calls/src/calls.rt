@@ -10,6 +10,7 @@ ghost use Rattle.commit_calls.specs.Plans.{Rises, IsPlan, Leads, IsReady, AreThe
 ghost use Rattle.commit_calls.specs.Stages.{Beside, AreWritten, IsPublished, Without};
 ghost use Rattle.commit_calls.specs.Outcomes.{file_told, files_told, published_told, cleared_told, carried_told, IsToldBelow, IsCutShort};
 
+use crate::fault::CutShort;
 use crate::plan::{Plan, Write};
 use facet_disk::{Dir, Disk, DiskFault, FileName, Kind};
 
@@ -105,12 +106,11 @@ fn clear<D: Disk>(disk: &mut D, names: &[FileName]) -> Result<(), DiskFault>
 /// Makes the device calls of a commit.
 ///
 /// It puts and syncs each file. Then it renames the taxonomy's pending file to its commit file and syncs the names of that directory, and
-/// after that the same for the index. Last it removes the strays. At the first call that fails it ends with that fault, and makes no call
-/// after it.
+/// after that the same for the index. Last it removes the strays. At the first call that fails it ends, and makes no call after it.
 ///
 /// It makes two calls for each file, two for each part that is not left out and one for each stray. It takes no memory but its stack,
 /// which grows with the number of files and with that of strays.
-pub fn carry_out<D: Disk>(disk: &mut D, plan: &Plan) -> Result<(), DiskFault>
+pub fn carry_out<D: Disk>(disk: &mut D, plan: &Plan) -> Result<(), CutShort>
     requires plan { IsPlan plan.now }
 
     // At each moment of it every image stands for the pair before, the pair after, or the old index under the new taxonomy; whatever the
@@ -133,12 +133,12 @@ pub fn carry_out<D: Disk>(disk: &mut D, plan: &Plan) -> Result<(), DiskFault>
     // Wherever it ends, it has removed strays in their order, and none before all else is done.
     ensures cut_short { OnErr result ((s : Told) → D.told disk.old ≡ Some s → IsCutShort plan.now s (D.told disk.new)) }
 
-    ensures cause { HasCause (D.faults disk.old) (D.faults disk.new) result }
+    ensures cause { OnErr result (Rose (D.faults disk.old) (D.faults disk.new)) }
+    ensures still { OnOk result (D.faults disk.new ≡ D.faults disk.old) }
 
-    // Where the plan fits the files, no fault is due, and it fails only where the device does.
-    ensures failed { (s : Told) → D.told disk.old ≡ Some s → Fits plan.now s.files → IfErr result (λ e. (e ≡ Failed) × Rose (D.failures disk.old) (D.failures disk.new)) }
+    // Where the plan fits the files, no call of it is bound to be refused, and it ends early only where the device failed.
+    ensures failed { (s : Told) → D.told disk.old ≡ Some s → Fits plan.now s.files → OnErr result (Rose (D.failures disk.old) (D.failures disk.new)) }
     ensures unfailed { OnOk result (D.failures disk.new ≡ D.failures disk.old) }
-    ensures memory { IfErr result (λ e. e ≢ NoMemory) }
     ensures later { D.faults disk.old ≤ D.faults disk.new }
 {
     write_files(disk, &plan.writes)?;

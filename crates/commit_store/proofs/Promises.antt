@@ -1,6 +1,6 @@
 -- What the device calls of a commit keep is what it promises.
 use Rattle.std.proofs.Common.{◌≡◌, inl, inr, ⊎_elim, ℕ, true, false, List, Option, Some, Result, Ok, Err, OnOk, arith}
-use Rattle.std.specs.Prelude.{is_err, IfErr, OnErr}
+use Rattle.std.specs.Prelude.{is_err, OnErr}
 use Rattle.facet_disk.specs.Images.{Image, Told}
 use Rattle.facet_model.specs.Flags.{Config}
 use Rattle.facet_model.specs.Stored.{Records}
@@ -21,11 +21,6 @@ on_ok (Err e) X is fine = absurd (cc fine)
 pub on_fault : {T E : Type 0} (r : Result T E) (X : Type 0) → OnErr r X → is_err r ≡ true → X
 on_fault (Ok x) X is fault = absurd (cc fault)
 on_fault (Err e) X is fault = is
-
--- the fault of a failed call, and what holds of it
-pub some_fault : {T E : Type 0} (r : Result T E) (P : E → Type 0) → IfErr r P → is_err r ≡ true → (e : E) × P e
-some_fault (Ok v) P holds fault = absurd (cc fault)
-some_fault (Err e) P holds fault = (e, holds)
 
 pub leaves_weaker : {D : Type 0} (moment : D → ℕ) (left_since : D → ℕ → Image → Type 0) (old new : D) (P Q : Image → Type 0) → ((c : Image) → P c → Q c) → LeavesOnly moment left_since old new P → LeavesOnly moment left_since old new Q
 leaves_weaker moment left_since old new P Q weaker run = record {

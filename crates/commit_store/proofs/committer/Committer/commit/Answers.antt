@@ -11,7 +11,7 @@ use Rattle.commit_store.proofs.Cleaning.{carried_is, cut_short_is, left_named}
 use Rattle.commit_calls.specs.Held.{Below}
 use Rattle.commit_store.proofs.Fitting.{plan_fits}
 use Rattle.commit_store.proofs.Listed.{are_listed}
-use Rattle.commit_store.proofs.Promises.{on_ok, on_fault, some_fault, leaves_weaker, leaves_same, here_now, led, one_of_three}
+use Rattle.commit_store.proofs.Promises.{on_ok, on_fault, leaves_weaker, leaves_same, here_now, led, one_of_three}
 use Rattle.store_opening.proofs.Held.{stands_settled}
 use Rattle.commit_store.proofs.committer.Committer.commit.Goals as goal
 
@@ -130,8 +130,8 @@ returns-clause-settled g c = λ s u labels segs is new at on empty.
 pub returns-then-is_err-clause-failed : goal.returns-then-is_err-clause-failed
 returns-then-is_err-clause-failed g c = λ count e s is listed below.
     let fault : is_err c.carry_out.result ≡ true = search rules in
-    (some_fault c.carry_out.result _ (c.carry_out.ensures.failed s is
-    (plan_fits c.args.self.now.config c.args.self.now.state c.args.view.now (map arc_value c.args.segments.now) c.in_ok-planned.planned.plan c.in_ok-planned.planned.after c.in_ok-planned.ensures.plan s.files listed below)) fault).1.1
+    on_fault c.carry_out.result _ (c.carry_out.ensures.failed s is
+    (plan_fits c.args.self.now.config c.args.self.now.state c.args.view.now (map arc_value c.args.segments.now) c.in_ok-planned.planned.plan c.in_ok-planned.planned.after c.in_ok-planned.ensures.plan s.files listed below)) fault
 
 pub returns-clause-fresh : goal.returns-clause-fresh
 returns-clause-fresh g c = λ s u is now below.
