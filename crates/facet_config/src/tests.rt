@@ -45,36 +45,80 @@ fn declares_each_dimension_once(rt: HostRuntime) -> Result<(), Fail> {
     assert!(rt; config.flags("Tag") == flags(false, true));
     assert!(rt; config.flags("Author") == flags(false, false));
     assert!(rt; config.declare("Tag", flags(true, true)) == Err(DeclareFault::Twice));
-    assert!(rt; config.declare("", flags(true, true)) == Err(DeclareFault::BadName { len: 0 }));
-    let mut long = String::new(alloc);
-    for _ in 0..1024 {
-        long.push('x')?;
-    }
-    assert!(rt; config.declare(long.as_str(), flags(true, true)) == Ok(()));
-    long.push('x')?;
-    let refused = config.declare(long.as_str(), flags(true, true));
-    assert!(rt; refused == Err(DeclareFault::BadName { len: 1025 }));
-    let copy = config.dup()?;
-    assert!(rt; copy.flags("Tag") == flags(false, true));
+    assert!(rt; config.dup()?.flags("Tag") == flags(false, true));
     Ok(())
+}
+
+// Declares a dimension whose name has so many bytes.
+fn declare_name(
+    alloc: Global,
+    config: &mut FacetsConfig,
+    bytes: usize,
+) -> Result<Result<(), DeclareFault>, Fail> {
+    let mut name = String::new(alloc);
+    for _ in 0..bytes {
+        name.push('x')?;
+    }
+    Ok(config.declare(name.as_str(), flags(true, true)))
+}
+
+#[test]
+fn names_of_dimensions(rt: HostRuntime) -> Result<(), Fail> {
+    let mut config = books(rt.alloc())?;
+    let names = [
+        (0usize, Err(DeclareFault::BadName { len: 0 })),
+        (1, Ok(())),
+        (1024, Ok(())),
+        (1025, Err(DeclareFault::BadName { len: 1025 })),
+    ];
+    for (bytes, expected) in names {
+        let declared = declare_name(rt.alloc(), &mut config, bytes)?;
+        assert!(rt; declared == expected, "{bytes}");
+    }
+    Ok(())
+}
+
+// The labels of a document, and what a config of books says of it.
+type Checked = (&'static [&'static str], Result<(), DocFault>);
+
+const CHECKED: &[Checked] = &[
+    (
+        &["Author/Bob", "Date/2010/10/15", "Tag/new", "Tag/cheap"],
+        Ok(()),
+    ),
+    (&[], Ok(())),
+    (
+        &["Author/Bob", "Author/Bob"],
+        Err(DocFault::NotMultiValued { facet: 1 }),
+    ),
+    (&["Author"], Err(DocFault::NoComponent { facet: 0 })),
+    (
+        &["Author/a/b"],
+        Err(DocFault::NotHierarchical { facet: 0, len: 2 }),
+    ),
+    // The second facet breaks two parts, and the third one too.
+    (
+        &["Author/a", "Author/b/c", "Date"],
+        Err(DocFault::NotHierarchical { facet: 1, len: 2 }),
+    ),
+];
+
+fn checked(
+    alloc: Global,
+    config: &FacetsConfig,
+    labels: &[&str],
+) -> Result<Result<(), DocFault>, Fail> {
+    let document = document(alloc, labels)?;
+    Ok(config.check(&document))
 }
 
 #[test]
 fn tells_the_first_broken_facet(rt: HostRuntime) -> Result<(), Fail> {
-    let alloc = rt.alloc();
-    let config = books(alloc)?;
-    let good: &[&str] = &["Author/Bob", "Date/2010/10/15", "Tag/new", "Tag/cheap"];
-    assert!(rt; config.check(&document(alloc, good)?) == Ok(()));
-    assert!(rt; config.check(&document(alloc, &[])?) == Ok(()));
-    let twice = config.check(&document(alloc, &["Author/Bob", "Author/Bob"])?);
-    assert!(rt; twice == Err(DocFault::NotMultiValued { facet: 1 }));
-    let alone = config.check(&document(alloc, &["Author"])?);
-    assert!(rt; alone == Err(DocFault::NoComponent { facet: 0 }));
-    let deep = config.check(&document(alloc, &["Author/a/b"])?);
-    assert!(rt; deep == Err(DocFault::NotHierarchical { facet: 0, len: 2 }));
-    // The second facet breaks two parts, and the third one too.
-    let many = config.check(&document(alloc, &["Author/a", "Author/b/c", "Date"])?);
-    assert!(rt; many == Err(DocFault::NotHierarchical { facet: 1, len: 2 }));
+    let config = books(rt.alloc())?;
+    for (labels, expected) in CHECKED {
+        let found = checked(rt.alloc(), &config, *labels)?;
+        assert!(rt; found == *expected, "{labels:?} {found:?}");
+    }
     Ok(())
 }
 
@@ -100,52 +144,92 @@ fn expanded(
     Ok(config.expand(alloc, &doc, &resolved)?)
 }
 
-fn tags(
-    alloc: Global,
-    hierarchical: bool,
+fn tags(alloc: Global, flags: DimFlags) -> Result<FacetsConfig, Fail> {
+    let mut config = FacetsConfig::new(alloc);
+    config.declare("Tag", flags)?;
+    Ok(config)
+}
+
+// Flags of Tag, the ordinals of the prefixes of both labels, and what is counted.
+struct Expansion {
     multi_valued: bool,
     require_dim_count: bool,
-) -> Result<FacetsConfig, Fail> {
-    let mut config = FacetsConfig::new(alloc);
-    config.declare(
-        "Tag",
+    b: &'static [u32],
+    c: &'static [u32],
+    counted: &'static [u32],
+}
+
+const EXPANSIONS: &[Expansion] = &[
+    Expansion {
+        multi_valued: true,
+        require_dim_count: false,
+        b: &[1, 2, 3],
+        c: &[1, 2, 4],
+        counted: &[2, 3, 4],
+    },
+    Expansion {
+        multi_valued: true,
+        require_dim_count: true,
+        b: &[1, 2, 3],
+        c: &[1, 2, 4],
+        counted: &[1, 2, 3, 4],
+    },
+    Expansion {
+        multi_valued: false,
+        require_dim_count: true,
+        b: &[7, 5, 9],
+        c: &[7, 5, 8],
+        counted: &[8, 9],
+    },
+];
+
+fn is_counted(rt: &impl Abort, alloc: Global, row: &Expansion) -> Result<bool, Fail> {
+    let config = tags(
+        alloc,
         DimFlags {
-            hierarchical,
-            multi_valued,
-            require_dim_count,
+            hierarchical: true,
+            multi_valued: row.multi_valued,
+            require_dim_count: row.require_dim_count,
         },
     )?;
-    Ok(config)
+    let counted = expanded(rt, alloc, &config, row.b, row.c)?;
+    Ok(counted.ords() == row.counted)
 }
 
 #[test]
 fn expands_by_the_flags(rt: HostRuntime) -> Result<(), Fail> {
-    let alloc = rt.alloc();
-    let both = tags(alloc, true, true, false)?;
-    let counted = expanded(&rt, alloc, &both, &[1, 2, 3], &[1, 2, 4])?;
-    assert!(rt; counted.ords() == [2, 3, 4].as_slice());
-    let required = tags(alloc, true, true, true)?;
-    let counted = expanded(&rt, alloc, &required, &[1, 2, 3], &[1, 2, 4])?;
-    assert!(rt; counted.ords() == [1, 2, 3, 4].as_slice());
-    let single = tags(alloc, true, false, true)?;
-    let counted = expanded(&rt, alloc, &single, &[7, 5, 9], &[7, 5, 8])?;
-    assert!(rt; counted.ords() == [8, 9].as_slice());
+    for row in EXPANSIONS {
+        let right = is_counted(&rt, rt.alloc(), row)?;
+        assert!(rt; right, "{:?}", row.counted);
+    }
     Ok(())
+}
+
+// Declares a dimension more, and says whether the first difference is then this one, both ways.
+fn differ_at(
+    config: &mut FacetsConfig,
+    books: &FacetsConfig,
+    more: (&str, DimFlags),
+    expected: Option<&str>,
+) -> Result<bool, Fail> {
+    config.declare(more.0, more.1)?;
+    Ok(books.differs(config) == expected && config.differs(books) == expected)
 }
 
 #[test]
 fn tells_the_first_difference(rt: HostRuntime) -> Result<(), Fail> {
-    let alloc = rt.alloc();
-    let one = books(alloc)?;
-    let mut other = books(alloc)?;
+    let one = books(rt.alloc())?;
+    let mut other = books(rt.alloc())?;
     assert!(rt; one.differs(&other) == None);
-    // A declaration without a flag changes nothing.
-    other.declare("Author", flags(false, false))?;
-    assert!(rt; one.differs(&other) == None);
-    other.declare("Shelf", flags(true, false))?;
-    assert!(rt; one.differs(&other) == Some("Shelf"));
-    assert!(rt; other.differs(&one) == Some("Shelf"));
-    other.declare("Level", flags(true, true))?;
-    assert!(rt; one.differs(&other) == Some("Level"));
+    let steps = [
+        // A declaration without a flag changes nothing.
+        ("Author", flags(false, false), None),
+        ("Shelf", flags(true, false), Some("Shelf")),
+        ("Level", flags(true, true), Some("Level")),
+    ];
+    for (dim, flags, expected) in steps {
+        let right = differ_at(&mut other, &one, (dim, flags), expected)?;
+        assert!(rt; right, "{dim}");
+    }
     Ok(())
 }

@@ -55,13 +55,18 @@ fn has_parent(alloc: Global, list: &Taxonomy, path: &Path) -> Result<bool, NoMem
     }
 }
 
+fn put(rt: &impl Abort, alloc: Global, list: &mut Taxonomy, label: &str) -> Result<(), Fail> {
+    let path = path(alloc, label)?;
+    let may = has_parent(alloc, list, &path)?;
+    assert!(rt; may);
+    assert!(rt; list.add(&path, 1000).is_ok());
+    Ok(())
+}
+
 fn view_of(rt: &impl Abort, alloc: Global, labels: &[&str]) -> Result<TaxoView, Fail> {
     let mut list = Taxonomy::new(alloc)?;
     for label in labels {
-        let path = path(alloc, *label)?;
-        let may = has_parent(alloc, &list, &path)?;
-        assert!(rt; may);
-        assert!(rt; list.add(&path, 1000).is_ok());
+        put(rt, alloc, &mut list, *label)?;
     }
     Ok(list.view()?)
 }
@@ -184,6 +189,46 @@ fn has_value(
     }
 }
 
+fn have_values(
+    alloc: Global,
+    counts: &Counts,
+    config: &FacetsConfig,
+    rows: &[ValueRow],
+) -> Result<bool, Fail>
+    requires { counts.now.config ≡ config.now }
+{
+    for row in rows {
+        if !has_value(alloc, counts, config, row)? {
+            return Ok(false);
+        }
+    }
+    Ok(true)
+}
+
+fn have_tops(alloc: Global, counts: &Counts, rows: &[TopRow]) -> Result<bool, Fail> {
+    for row in rows {
+        if !has_top(alloc, counts, row)? {
+            return Ok(false);
+        }
+    }
+    Ok(true)
+}
+
+fn have_rows(
+    rt: &impl Abort,
+    alloc: Global,
+    view: &TaxoView,
+    config: &FacetsConfig,
+    lists: &[&[u32]],
+    values: &[ValueRow],
+    tops: &[TopRow],
+) -> Result<bool, Fail>
+    requires { length lists.now < 1000 }
+{
+    let counts = counts_of(rt, alloc, view, config, lists)?;
+    Ok(have_values(alloc, &counts, config, values)? && have_tops(alloc, &counts, tops)?)
+}
+
 // Whether the lists of ordinals give these values and tops, where the first label is a dimension with these flags.
 fn gives(
     rt: &impl Abort,
@@ -198,29 +243,38 @@ fn gives(
 {
     let view = view_of(rt, alloc, labels)?;
     let config = config_of(alloc, dim_flags.0, dim_flags.1)?;
-    let counts = counts_of(rt, alloc, &view, &config, lists)?;
-    let mut all = true;
-    for row in values {
-        all = all && has_value(alloc, &counts, &config, row)?;
+    have_rows(rt, alloc, &view, &config, lists, values, tops)
+}
+
+// Whether so many documents have these ordinals.
+fn are_counted(view: &TaxoView, counts: &Counts, rows: &[(u32, u32)]) -> bool
+    requires { counts.now.labels ≡ view.now }
+{
+    for (ord, count) in rows {
+        if *ord == 0 || *ord >= view.size() || counts.at(*ord) != *count {
+            return false;
+        }
     }
-    for row in tops {
-        all = all && has_top(alloc, &counts, row)?;
-    }
-    Ok(all)
+    true
+}
+
+fn days_are_counted(
+    rt: &impl Abort,
+    alloc: Global,
+    view: &TaxoView,
+    config: &FacetsConfig,
+) -> Result<bool, Fail> {
+    let counts = counts_of(rt, alloc, view, config, &[&[6], &[6], &[1]])?;
+    let rows = [(1, 1), (2, 0), (3, 2), (4, 2), (5, 2), (6, 2)];
+    Ok(are_counted(view, &counts, &rows))
 }
 
 #[test]
 fn counts_by_ordinals(rt: HostRuntime) -> Result<(), Fail> {
     let alloc = rt.alloc();
     let view = view_of(&rt, alloc, BOOKS)?;
-    assert!(rt; view.size() == 18);
     let config = config_of(alloc, "Publish Date", flags_of(false, false))?;
-    let counts = counts_of(&rt, alloc, &view, &config, &[&[6], &[6], &[1]])?;
-    for ord in 3..7 {
-        assert!(rt; counts.at(ord) == 2);
-    }
-    assert!(rt; counts.at(1) == 1);
-    assert!(rt; counts.at(2) == 0);
+    assert!(rt; days_are_counted(&rt, alloc, &view, &config)?);
     Ok(())
 }
 
@@ -307,19 +361,29 @@ fn is_dim(top: &FacetResult, dim: &str, value: i64, child: (&str, u32)) -> bool 
     top.path.dim() == dim && top.value == value && are_children(&top.children, &[child])
 }
 
+fn dims_are_listed(
+    rt: &impl Abort,
+    alloc: Global,
+    view: &TaxoView,
+    config: &FacetsConfig,
+) -> Result<bool, Fail> {
+    let counts = counts_of(rt, alloc, view, config, &[&[2], &[6], &[7], &[6], &[4]])?;
+    let tops = counts.all_dims(alloc, 1)?;
+    Ok(
+        tops.len() == 3
+            && is_dim(&tops[0], "A", 2, ("a", 1))
+            && is_dim(&tops[1], "Y", 2, ("1", 2))
+            && is_dim(&tops[2], "T", -1, ("x", 1)),
+    )
+}
+
 #[test]
 fn lists_all_dimensions(rt: HostRuntime) -> Result<(), Fail> {
     let alloc = rt.alloc();
     let labels = &["A", "A/a", "T", "T/x", "Y", "Y/1", "A/b", "Z"];
     let view = view_of(&rt, alloc, labels)?;
     let config = config_of(alloc, "T", flags_of(true, false))?;
-    let counts = counts_of(&rt, alloc, &view, &config, &[&[2], &[6], &[7], &[6], &[4]])?;
-    let tops = counts.all_dims(alloc, 1)?;
-    let all = tops.len() == 3
-        && is_dim(&tops[0], "A", 2, ("a", 1))
-        && is_dim(&tops[1], "Y", 2, ("1", 2))
-        && is_dim(&tops[2], "T", -1, ("x", 1));
-    assert!(rt; all);
+    assert!(rt; dims_are_listed(&rt, alloc, &view, &config)?);
     Ok(())
 }
 

@@ -156,80 +156,90 @@ fn changed(alloc: Global) -> Result<MemoryDisk, Fail> {
     Ok(disk)
 }
 
+// After how many calls a crash comes, what becomes of unsynced files, whether names are done, and what is left.
+type Crash = (u64, Unsynced, bool, &'static str);
+
+const CRASHES: &[Crash] = &[
+    (0, Unsynced::Whole, true, ""),
+    (1, Unsynced::Gone, true, ""),
+    (1, Unsynced::Whole, false, "taxonomy/segment-1=ab "),
+    (1, Unsynced::Zeroed, true, "taxonomy/segment-1=\0\0 "),
+    (2, Unsynced::Gone, false, "taxonomy/segment-1=ab "),
+    (3, Unsynced::Gone, true, "taxonomy/segment-1=ab "),
+    (
+        3,
+        Unsynced::Zeroed,
+        false,
+        "taxonomy/segment-1=ab taxonomy/pending-2=\0\0 ",
+    ),
+    (
+        5,
+        Unsynced::Gone,
+        true,
+        "taxonomy/segment-1=ab taxonomy/commit-2=cd ",
+    ),
+    (
+        5,
+        Unsynced::Gone,
+        false,
+        "taxonomy/segment-1=ab taxonomy/pending-2=cd ",
+    ),
+    (
+        6,
+        Unsynced::Gone,
+        false,
+        "taxonomy/segment-1=ab taxonomy/commit-2=cd ",
+    ),
+    (7, Unsynced::Whole, true, "taxonomy/commit-2=cd "),
+    (
+        7,
+        Unsynced::Whole,
+        false,
+        "taxonomy/segment-1=ab taxonomy/commit-2=cd ",
+    ),
+    (9, Unsynced::Gone, true, "taxonomy/commit-2=cd "),
+    (
+        9,
+        Unsynced::Whole,
+        true,
+        "taxonomy/segment-3=ef taxonomy/commit-2=cd ",
+    ),
+    (
+        9,
+        Unsynced::Whole,
+        false,
+        "taxonomy/segment-1=ab taxonomy/pending-2=ef taxonomy/commit-2=cd ",
+    ),
+    (
+        10,
+        Unsynced::Gone,
+        false,
+        "taxonomy/segment-3=ef taxonomy/commit-2=cd ",
+    ),
+    (
+        11,
+        Unsynced::Gone,
+        false,
+        "taxonomy/segment-3=ef taxonomy/commit-2=cd ",
+    ),
+    (12, Unsynced::Gone, false, "index/segment-3=ef "),
+    (99, Unsynced::Zeroed, true, "index/segment-3=ef "),
+];
+
+// What the crash leaves of the disk.
+fn left_by(alloc: Global, disk: &MemoryDisk, crash: &Crash) -> Result<String, Fail> {
+    let (after_call, files, names_done, _) = *crash;
+    let mut left = disk.stopped(alloc, after_call, Pick { files, names_done })?;
+    show(alloc, &mut left)
+}
+
 #[test]
 fn crashes(rt: HostRuntime) -> Result<(), Fail> {
     let alloc = rt.alloc();
     let disk = changed(alloc)?;
-    let (gone, whole, zeroed) = (Unsynced::Gone, Unsynced::Whole, Unsynced::Zeroed);
-    // after how many calls, what becomes of unsynced files, whether names are done, and what is left
-    let stops = [
-        (0, whole, true, ""),
-        (1, gone, true, ""),
-        (1, whole, false, "taxonomy/segment-1=ab "),
-        (1, zeroed, true, "taxonomy/segment-1=\0\0 "),
-        (2, gone, false, "taxonomy/segment-1=ab "),
-        (3, gone, true, "taxonomy/segment-1=ab "),
-        (
-            3,
-            zeroed,
-            false,
-            "taxonomy/segment-1=ab taxonomy/pending-2=\0\0 ",
-        ),
-        (5, gone, true, "taxonomy/segment-1=ab taxonomy/commit-2=cd "),
-        (
-            5,
-            gone,
-            false,
-            "taxonomy/segment-1=ab taxonomy/pending-2=cd ",
-        ),
-        (
-            6,
-            gone,
-            false,
-            "taxonomy/segment-1=ab taxonomy/commit-2=cd ",
-        ),
-        (7, whole, true, "taxonomy/commit-2=cd "),
-        (
-            7,
-            whole,
-            false,
-            "taxonomy/segment-1=ab taxonomy/commit-2=cd ",
-        ),
-        (9, gone, true, "taxonomy/commit-2=cd "),
-        (
-            9,
-            whole,
-            true,
-            "taxonomy/segment-3=ef taxonomy/commit-2=cd ",
-        ),
-        (
-            9,
-            whole,
-            false,
-            "taxonomy/segment-1=ab taxonomy/pending-2=ef taxonomy/commit-2=cd ",
-        ),
-        (
-            10,
-            gone,
-            false,
-            "taxonomy/segment-3=ef taxonomy/commit-2=cd ",
-        ),
-        (
-            11,
-            gone,
-            false,
-            "taxonomy/segment-3=ef taxonomy/commit-2=cd ",
-        ),
-        (12, gone, false, "index/segment-3=ef "),
-        (99, zeroed, true, "index/segment-3=ef "),
-    ];
-    for (after_call, files, names_done, want) in stops {
-        let mut left = disk.stopped(alloc, after_call, Pick { files, names_done })?;
-        let got = show(alloc, &mut left)?;
-        assert!(rt;
-            got.as_str() == want,
-            "{after_call} {files:?} {names_done} {got}"
-        );
+    for crash in CRASHES {
+        let left = left_by(alloc, &disk, crash)?;
+        assert!(rt; left.as_str() == crash.3, "{crash:?} {left}");
     }
     Ok(())
 }
@@ -267,45 +277,54 @@ fn a_folder(rt: HostRuntime) -> Result<(), Fail> {
     Ok(())
 }
 
+// Entries of a directory, and whether they are names of ours.
+const ENTRIES: &[(&str, bool)] = &[
+    ("segment-0", true),
+    ("pending-18446744073709551615", true),
+    ("commit-7", true),
+    ("commit-18446744073709551616", false),
+    ("segment-07", false),
+    ("segment-+7", false),
+    ("segment--7", false),
+    ("segment-", false),
+    ("segment-7 ", false),
+    ("segments-7", false),
+    ("note", false),
+];
+
+// Whether the entry is read as a name of this text, or as none.
+fn is_read(alloc: Global, entry: &str, is_name: bool) -> Result<bool, Fail> {
+    match FileName::from_entry(Dir::Index, entry) {
+        Some(name) => {
+            let text = name.to_string(alloc)?;
+            Ok(is_name && text.as_str().strip_prefix("index/") == Some(entry))
+        }
+        None => Ok(!is_name),
+    }
+}
+
+// The names in the order of their directories, kinds and numbers.
+fn sorted_names<D: Disk>(alloc: Global, disk: &mut D) -> Result<Names, Fail> {
+    let mut names = disk.list(alloc, Dir::Index)?.into_vec();
+    names.sort()?;
+    Ok(Names::new(names))
+}
+
 #[test]
 fn entries(rt: HostRuntime) -> Result<(), Fail> {
     let alloc = rt.alloc();
     let mut disk = StdDisk::new(alloc, &rt, "store")?;
     disk.put(OUTER, b"")?;
-    let names = [
-        ("segment-0", true),
-        ("pending-18446744073709551615", true),
-        ("commit-7", true),
-        ("commit-18446744073709551616", false),
-        ("segment-07", false),
-        ("segment-+7", false),
-        ("segment--7", false),
-        ("segment-", false),
-        ("segment-7 ", false),
-        ("segments-7", false),
-        ("note", false),
-    ];
-    for (entry, is_name) in names {
+    for (entry, is_name) in ENTRIES {
         fs::write(&rt, format!(in alloc; "store/index/{entry}")?, "x")?;
-        let name = FileName::from_entry(Dir::Index, entry);
-        assert!(rt; name.is_some() == is_name, "{entry}");
-        if let Some(name) = name {
-            let text = name.to_string(alloc)?;
-            assert!(rt;
-                text.as_str().strip_prefix("index/") == Some(entry),
-                "{text}"
-            );
-        }
+        assert!(rt; is_read(alloc, *entry, *is_name)?, "{entry}");
     }
-    let listed = disk.list(alloc, Dir::Index)?;
-    let mut listed = listed.into_vec();
-    listed.sort()?;
+    let names = sorted_names(alloc, &mut disk)?;
     let first = FileName {
         dir: Dir::Index,
         kind: Kind::Segment,
         number: 0,
     };
-    assert_eq!(rt; listed.len(), 4);
-    assert!(rt; Names::new(listed).as_slice().first() == Some(&first));
+    assert!(rt; names.as_slice().len() == 4 && names.as_slice().first() == Some(&first));
     Ok(())
 }

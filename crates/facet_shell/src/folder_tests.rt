@@ -1,5 +1,5 @@
 use crate::Status;
-use crate::test_runs::run_over;
+use crate::test_runs::ends_over;
 use facet_disk::StdDisk;
 use std::fs;
 use std::test::Fail;
@@ -77,8 +77,7 @@ fn are_there(rt: &HostRuntime, paths: &[&str]) -> Result<bool, Fail> {
 // Makes a run over the store in a folder, and says whether it ends and writes as it should.
 fn goes_as(rt: &HostRuntime, dir: &str, run: &FolderRun) -> Result<bool, Fail> {
     let disk = StdDisk::new(rt.alloc(), rt, dir)?;
-    let (ended, sink) = run_over(rt, run.script.as_bytes(), &[], disk)?;
-    Ok(ended.status == run.status && sink.bytes() == run.output.as_bytes())
+    ends_over(rt, run.script, &[], disk, run.status, run.output)
 }
 
 #[test]

@@ -1,5 +1,5 @@
 use crate::Status;
-use crate::test_runs::{BOB, COMMIT, CONFIG, disk_with, empty_disk, run_over};
+use crate::test_runs::{BOB, COMMIT, CONFIG, disk_with, ends_over};
 use facet_disk::{Dir, Disk, FileName, Kind, MemoryDisk};
 use std::alloc::Global;
 use std::test::Fail;
@@ -155,12 +155,8 @@ fn opens_again(rt: HostRuntime) -> Result<(), Fail> {
     for row in REOPENINGS {
         let mut disk = disk_with(&rt, &[CONFIG, BOB, COMMIT])?;
         make(alloc, &mut disk, row.change)?;
-        let (ended, sink) = run_over(&rt, row.script.as_bytes(), &[], disk)?;
-        let output = str::from_utf8(sink.bytes())?;
-        assert!(rt;
-            ended.status == row.status && output == row.output,
-            "{output}"
-        );
+        let right = ends_over(&rt, row.script, &[], disk, row.status, row.output)?;
+        assert!(rt; right, "{}", row.output);
     }
     Ok(())
 }
@@ -224,12 +220,9 @@ fn failing_disk(alloc: Global, row: &FailingRun) -> Result<MemoryDisk, Fail> {
 fn failing_calls_and_lines(rt: HostRuntime) -> Result<(), Fail> {
     for row in FAILING_RUNS {
         let disk = failing_disk(rt.alloc(), row)?;
-        let (ended, sink) = run_over(&rt, CONFIG, row.writes, disk)?;
-        let output = str::from_utf8(sink.bytes())?;
-        assert!(rt;
-            ended.status == row.status && output == row.output,
-            "{output}"
-        );
+        let script = "{\"cmd\":\"config\"}\n";
+        let right = ends_over(&rt, script, row.writes, disk, row.status, row.output)?;
+        assert!(rt; right, "{:?} {:?}", row.calls, row.writes);
     }
     Ok(())
 }

@@ -86,6 +86,34 @@ pub fn run_over<D: Disk>(
     run_between(rt, source, sink, disk)
 }
 
+/// Whether a run over an empty disk ends and writes so; the reads and writes with these numbers fail.
+pub fn ends_on(
+    rt: &HostRuntime,
+    script: &[u8],
+    piece: usize,
+    faults: (&[u64], &[u64]),
+    status: Status,
+    output: &[u8],
+) -> Result<bool, Fail>
+    requires { 1 ≤ piece }
+{
+    let (found, sink) = run_on(rt, script, piece, faults.0, faults.1)?;
+    Ok(found == status && sink.bytes() == output)
+}
+
+/// Whether a run over a disk ends and writes so; the writes with these numbers fail.
+pub fn ends_over<D: Disk>(
+    rt: &HostRuntime,
+    script: &str,
+    writes: &[u64],
+    disk: D,
+    status: Status,
+    output: &str,
+) -> Result<bool, Fail> {
+    let (ended, sink) = run_over(rt, script.as_bytes(), writes, disk)?;
+    Ok(ended.status == status && sink.bytes() == output.as_bytes())
+}
+
 /// What a run of these lines leaves of an empty disk.
 pub fn disk_with(rt: &HostRuntime, lines: &[&[u8]]) -> Result<MemoryDisk, Fail> {
     let alloc = rt.alloc();

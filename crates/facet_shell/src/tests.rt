@@ -1,5 +1,5 @@
 use crate::rows::ROWS;
-use crate::test_runs::{BOB, CONFIG, LISA, REFRESH, empty_disk, joined, run_on, texts};
+use crate::test_runs::{BOB, CONFIG, LISA, REFRESH, empty_disk, ends_on, joined, run_on, texts};
 use crate::{Status, place, run};
 use facet_codec::{Cursor, put_text, put_u32};
 use facet_io::{MemorySink, MemorySource};
@@ -16,34 +16,44 @@ const REPLIES: &[u8] =
 
 #[test]
 fn books(rt: HostRuntime) -> Result<(), Fail> {
-    let alloc = rt.alloc();
-    let script = joined(alloc, BOOKS)?;
+    let script = joined(rt.alloc(), BOOKS)?;
     for piece in [1usize, 100, 4096] {
-        let (status, sink) = run_on(&rt, &script, piece, &[], &[])?;
-        assert!(rt; status == Status::Done && status.code() == 0);
-        assert!(rt; sink.bytes() == REPLIES, "pieces of {piece}");
+        let right = ends_on(&rt, &script, piece, (&[], &[]), Status::Done, REPLIES)?;
+        assert!(rt; right, "pieces of {piece}");
+    }
+    Ok(())
+}
+
+// The reads and writes that fail of a run with reads of 100 bytes, and how it ends and what it writes.
+type FailingRun = ((&'static [u64], &'static [u64]), Status, &'static [u8]);
+
+const READ_FAULT: &[u8] = b"{\"fault\":\"read_fault\"}\n";
+
+// The script has under 300 bytes: three reads of 100 at most, and one that finds the end.
+const FAILING_RUNS: &[FailingRun] = &[
+    ((&[1], &[]), Status::ReadFault, READ_FAULT),
+    ((&[2], &[]), Status::ReadFault, READ_FAULT),
+    ((&[3], &[]), Status::ReadFault, READ_FAULT),
+    ((&[4], &[]), Status::ReadFault, READ_FAULT),
+    ((&[5], &[]), Status::Done, REPLIES),
+    ((&[], &[1]), Status::WriteFault, b""),
+    // A fault whose line cannot be written stays that fault.
+    ((&[2], &[1]), Status::ReadFault, b""),
+];
+
+#[test]
+fn failing_reads_and_writes(rt: HostRuntime) -> Result<(), Fail> {
+    let script = joined(rt.alloc(), BOOKS)?;
+    for (faults, status, output) in FAILING_RUNS {
+        let right = ends_on(&rt, &script, 100, *faults, *status, *output)?;
+        assert!(rt; right, "{faults:?}");
     }
     Ok(())
 }
 
 #[test]
-fn failing_reads_and_writes(rt: HostRuntime) -> Result<(), Fail> {
-    let alloc = rt.alloc();
-    let script = joined(alloc, BOOKS)?;
-    // Under 300 bytes: three reads of 100 at most, and one that finds the end.
-    for read in 1u64..5 {
-        let (status, sink) = run_on(&rt, &script, 100, &[read], &[])?;
-        assert!(rt; status == Status::ReadFault, "read {read}");
-        assert!(rt; sink.bytes() == b"{\"fault\":\"read_fault\"}\n".as_slice());
-    }
-    let (status, _) = run_on(&rt, &script, 100, &[5], &[])?;
-    assert!(rt; status == Status::Done);
-    let (status, sink) = run_on(&rt, &script, 100, &[], &[1])?;
-    assert!(rt; status == Status::WriteFault && status.code() == 4);
-    assert!(rt; sink.bytes().is_empty());
-    // A fault whose line cannot be written stays that fault.
-    let (status, sink) = run_on(&rt, &script, 100, &[2], &[1])?;
-    assert!(rt; status == Status::ReadFault && sink.bytes().is_empty());
+fn codes(rt: HostRuntime) -> Result<(), Fail> {
+    assert!(rt; Status::Done.code() == 0 && Status::WriteFault.code() == 4);
     Ok(())
 }
 
@@ -212,9 +222,10 @@ fn stored_labels(rt: HostRuntime) -> Result<(), Fail> {
 #[test]
 fn rows(rt: HostRuntime) -> Result<(), Fail> {
     for row in ROWS {
-        let (status, sink) = run_on(&rt, row.script.as_bytes(), 4096, &[], &[])?;
-        assert!(rt; status == row.status, "{}", row.name);
-        assert!(rt; sink.bytes() == row.output.as_bytes(), "{}", row.name);
+        let script = row.script.as_bytes();
+        let output = row.output.as_bytes();
+        let right = ends_on(&rt, script, 4096, (&[], &[]), row.status, output)?;
+        assert!(rt; right, "{}", row.name);
     }
     Ok(())
 }

@@ -47,26 +47,16 @@ fn put(
 fn full_at_the_limit(rt: HostRuntime) -> Result<(), Fail> {
     let alloc = rt.alloc();
     let mut list = Taxonomy::new(alloc)?;
-    assert!(rt; put(&rt, alloc, &mut list, "Author", 3)? == Ok(1));
-    assert!(rt; put(&rt, alloc, &mut list, "Author/Bob", 3)? == Ok(2));
-    assert!(rt; put(&rt, alloc, &mut list, "Year", 3)? == Err(TaxoFault::LabelsFull { size: 3 }));
-    assert!(rt; put(&rt, alloc, &mut list, "Author/Bob", 3)? == Ok(2));
+    let puts = [
+        ("Author", Ok(1)),
+        ("Author/Bob", Ok(2)),
+        ("Year", Err(TaxoFault::LabelsFull { size: 3 })),
+        ("Author/Bob", Ok(2)),
+    ];
+    for (text, expected) in puts {
+        assert!(rt; put(&rt, alloc, &mut list, text, 3)? == expected);
+    }
     assert!(rt; list.size() == 3);
-    Ok(())
-}
-
-#[test]
-fn arrays_of_a_view(rt: HostRuntime) -> Result<(), Fail> {
-    let alloc = rt.alloc();
-    let mut list = Taxonomy::new(alloc)?;
-    assert!(rt; put(&rt, alloc, &mut list, "Author", 9)? == Ok(1));
-    assert!(rt; put(&rt, alloc, &mut list, "Author/Bob", 9)? == Ok(2));
-    let view = list.view()?;
-    assert!(rt; view.size() == 3);
-    let arrays = Arrays::from_scratch(alloc, &view)?;
-    assert!(rt; arrays.parent(2) == 1);
-    assert!(rt; arrays.child(1) == 2);
-    assert!(rt; arrays.sibling(2) == -1);
     Ok(())
 }
 
@@ -79,9 +69,6 @@ const BOOKS: &[&str] = &[
     "Publish Date/2010/10/15",
     "Author/Lisa",
     "Publish Date/2010/10/20",
-];
-
-const MORE_BOOKS: &[&str] = &[
     "Publish Date/2012",
     "Publish Date/2012/1",
     "Publish Date/2012/1/1",
@@ -106,38 +93,30 @@ fn put_all(rt: &impl Abort, alloc: Global, list: &mut Taxonomy, labels: &[&str])
     Ok(())
 }
 
-fn go_on(arrays: &mut Arrays, before: &TaxoView, now: &TaxoView) -> Result<(), NoMemory>
-    requires arrays { arrays.old ≡ arrays_of before.now }
-    requires views { GoesOn before.now now.now }
-    ensures { OnOk result (arrays.new ≡ arrays_of now.now) }
+// Puts these labels, and extends the arrays of the list before to those of the list now.
+fn go_on(
+    rt: &impl Abort,
+    alloc: Global,
+    list: &mut Taxonomy,
+    arrays: &mut Arrays,
+    labels: &[&str],
+) -> Result<(), Fail>
+    requires { arrays.old ≡ arrays_of list.old }
+    ensures { OnOk result (arrays.new ≡ arrays_of list.new) }
 {
-    arrays.extend(now)
+    put_all(rt, alloc, list, labels)?;
+    arrays.extend(&list.view()?)?;
+    Ok(())
 }
 
-// The arrays of these labels, extended at each of them.
-fn label_by_label(rt: &impl Abort, alloc: Global, labels: &[&str]) -> Result<Arrays, Fail> {
+// The arrays of these labels, extended after each so many of them.
+fn extended(rt: &impl Abort, alloc: Global, labels: &[&str], many: usize) -> Result<Arrays, Fail>
+    requires { 0 < many }
+{
     let mut list = Taxonomy::new(alloc)?;
-    let mut view = list.view()?;
-    let mut arrays = Arrays::from_scratch(alloc, &view)?;
-    for label in labels {
-        let _ = put(rt, alloc, &mut list, *label, 1000)?;
-        let next = list.view()?;
-        go_on(&mut arrays, &view, &next)?;
-        view = next;
-    }
-    Ok(arrays)
-}
-
-// The arrays of these parts of a list, extended at each of them.
-fn part_by_part(rt: &impl Abort, alloc: Global, parts: &[&[&str]]) -> Result<Arrays, Fail> {
-    let mut list = Taxonomy::new(alloc)?;
-    let mut view = list.view()?;
-    let mut arrays = Arrays::from_scratch(alloc, &view)?;
-    for labels in parts {
-        put_all(rt, alloc, &mut list, *labels)?;
-        let next = list.view()?;
-        go_on(&mut arrays, &view, &next)?;
-        view = next;
+    let mut arrays = Arrays::from_scratch(alloc, &list.view()?)?;
+    for part in labels.chunks(many) {
+        go_on(rt, alloc, &mut list, &mut arrays, part)?;
     }
     Ok(arrays)
 }
@@ -161,30 +140,29 @@ fn is_text(alloc: Global, arrays: &Arrays, text: &str) -> Result<bool, Fail> {
 }
 
 #[test]
-fn arrays_from_nine_labels(rt: HostRuntime) -> Result<(), Fail> {
+fn arrays_of_a_view(rt: HostRuntime) -> Result<(), Fail> {
     let alloc = rt.alloc();
-    let arrays = part_by_part(&rt, alloc, &[BOOKS, MORE_BOOKS])?;
-    assert!(rt; is_text(alloc, &arrays, ARRAYS)?);
+    let view = listed(&rt, alloc, &["Author", "Author/Bob"])?.view()?;
+    assert!(rt; view.size() == 3);
+    let arrays = Arrays::from_scratch(alloc, &view)?;
+    assert!(rt; (arrays.parent(2), arrays.child(1), arrays.sibling(2)) == (1, 2, -1));
     Ok(())
 }
 
 #[test]
 fn arrays_from_scratch(rt: HostRuntime) -> Result<(), Fail> {
-    let alloc = rt.alloc();
-    let mut labels = BOOKS.to_vec(alloc)?;
-    labels.extend_from_slice(MORE_BOOKS)?;
-    let arrays = from_scratch(&rt, alloc, &labels)?;
-    assert!(rt; is_text(alloc, &arrays, ARRAYS)?);
+    let arrays = from_scratch(&rt, rt.alloc(), BOOKS)?;
+    assert!(rt; is_text(rt.alloc(), &arrays, ARRAYS)?);
     Ok(())
 }
 
+// From the nine labels that stand after eight of them, from each label, and from the root to all.
 #[test]
-fn arrays_label_by_label(rt: HostRuntime) -> Result<(), Fail> {
-    let alloc = rt.alloc();
-    let mut labels = BOOKS.to_vec(alloc)?;
-    labels.extend_from_slice(MORE_BOOKS)?;
-    let arrays = label_by_label(&rt, alloc, &labels)?;
-    assert!(rt; is_text(alloc, &arrays, ARRAYS)?);
+fn extended_arrays(rt: HostRuntime) -> Result<(), Fail> {
+    for many in [8, 1, 17] {
+        let arrays = extended(&rt, rt.alloc(), BOOKS, many)?;
+        assert!(rt; is_text(rt.alloc(), &arrays, ARRAYS)?, "{many}");
+    }
     Ok(())
 }
 
@@ -227,12 +205,16 @@ fn described<L: Labelled>(alloc: Global, labels: &L) -> Result<String, Fail> {
     Ok(format!(in alloc; "{text}{paths}")?)
 }
 
+fn is_described<L: Labelled>(alloc: Global, labels: &L, expected: &str) -> Result<bool, Fail> {
+    Ok(described(alloc, labels)?.as_str() == expected)
+}
+
 #[test]
 fn a_list_and_its_view_alike(rt: HostRuntime) -> Result<(), Fail> {
     let alloc = rt.alloc();
     let list = listed(&rt, alloc, &["Author", "Author/Bob", "Year"])?;
     let expected = "Author/ Author/Bob/ Year/ 3";
-    assert!(rt; described(alloc, &list)?.as_str() == expected);
-    assert!(rt; described(alloc, &list.view()?)?.as_str() == expected);
+    assert!(rt; is_described(alloc, &list, expected)?);
+    assert!(rt; is_described(alloc, &list.view()?, expected)?);
     Ok(())
 }
