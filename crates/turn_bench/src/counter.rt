@@ -1,5 +1,5 @@
-ghost use Rattle.std.specs.Prelude.{◌≡◌, ◌<◌, false, All, IfOk};
-ghost use Rattle.chronicle.specs.Shown.{MayTake};
+ghost use Rattle.std.specs.Prelude.{◌≡◌, ◌<◌, ◌+◌, [], false, All, IfOk, length};
+ghost use Rattle.chronicle.specs.Shown.{mine, MayTake};
 
 use chronicle::{Chronicle, Standing, Token};
 use std::alloc::{AllocError, Global};
@@ -28,9 +28,10 @@ impl Standing for Counter {
 
 fn take_turns<R: Wait>(rt: &R, counter: &Chronicle<Counter>, token: &mut Token<()>, turns: u64)
     requires { (token.old.identity ≡ counter.now) × MayTake token.old }
-    ensures { (token.new.identity ≡ counter.now) × MayTake token.new }
+    ensures token { (token.new.identity ≡ counter.now) × MayTake token.new }
+    ensures taken { length (mine token.new) ≡ length (mine token.old) + turns }
 {
-    for _ in 0..turns {
+    for i in 0..turns {
         let mut value = counter.take(rt, token);
         value.turns = value.turns.saturating_add(1);
         counter.enter(token, ());
@@ -47,7 +48,8 @@ fn tokens_for(
 ) -> Result<Vec<Token<()>>, AllocError>
     requires own { first.old.identity ≡ counter.now }
     requires first { MayTake first.old × (first.old.number ≡ 0) × (first.old.made ≡ 0) }
-    ensures tokens { IfOk result (λ v. All (λ t. (t.identity ≡ counter.now) × MayTake t) v.items) }
+    ensures many { IfOk result (λ v. length v.items ≡ threads) }
+    ensures tokens { IfOk result (λ v. All (λ t. (t.identity ≡ counter.now) × MayTake t × (mine t ≡ [])) v.items) }
     ensures first { (first.new.identity ≡ counter.now) × MayTake first.new }
 {
     let mut tokens = Vec::new(alloc);
@@ -66,7 +68,8 @@ fn all_take_turns<R: Threads + Wait + Sync>(
     tokens: &mut [Token<()>],
     turns: u64,
 )
-    requires { All (λ t. (t.identity ≡ counter.now) × MayTake t) tokens.old }
+    requires { All (λ t. (t.identity ≡ counter.now) × MayTake t × (mine t ≡ [])) tokens.old }
+    ensures { All (λ t. length (mine t) ≡ turns) tokens.new }
 {
     if tokens.is_empty() {
         return;
@@ -77,7 +80,8 @@ fn all_take_turns<R: Threads + Wait + Sync>(
         tokens,
         threads,
         &|_, token| -> ()
-            requires { (token.now.identity ≡ counter.now) × MayTake token.now }
+            requires { (token.now.identity ≡ counter.now) × MayTake token.now × (mine token.now ≡ []) }
+            ensures { length (mine token.exit.now) ≡ turns }
         { take_turns(rt, counter, token, turns) },
     );
 }
