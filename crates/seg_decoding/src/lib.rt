@@ -12,6 +12,6 @@ mod sizes;
 #[cfg(test)]
 mod tests;
 
-pub use entries::{document_of, labels_at, ordinals_of};
+pub use entries::{document_of, ordinals_of};
 pub use fault::StoredFault;
 pub use opening::open_stored;

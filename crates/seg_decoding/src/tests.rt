@@ -2,7 +2,8 @@ ghost use Rattle.std.specs.Prelude.{◌≡◌, ◌<◌, All, IfOk, length};
 ghost use Rattle.facet_names.specs.Labels.{above, stands};
 ghost use Rattle.seg_decoding.specs.Answers.{IsLeaf};
 
-use crate::{StoredFault, document_of, labels_at, open_stored, ordinals_of};
+use crate::entries::labels_at;
+use crate::{StoredFault, document_of, open_stored, ordinals_of};
 use facet_config::FacetsConfig;
 use facet_model::{Counted, DimFlags, Document};
 use facet_names::{NoMemory, Path};
