@@ -1,6 +1,7 @@
 -- Which replies of one session are right, and which bytes are a script's output.
-use Rattle.std.specs.Prelude.{◌≡◌, ◌≤◌, ◌<◌, ◌⊎◌, ◌+◌, ◌-◌, ◌^◌, ℕ, max, nat_le, nat_lt, if◌then◌else◌, List, [], ◌∷◌, ◌++◌, length, take, map, filter, filter_map, flat_map, fold, slice_get, Option, Some, None, option_map}
+use Rattle.std.specs.Prelude.{◌≡◌, ◌≤◌, ◌<◌, ◌⊎◌, ◌+◌, ◌^◌, ℕ, max, nat_le, nat_lt, if◌then◌else◌, List, [], ◌∷◌, ◌++◌, length, take, map, filter, filter_map, flat_map, fold, slice_get, Option, Some, None, option_map}
 use Rattle.std.specs.List.{AllZip, enumerate_from}
+use Rattle.facet_io.specs.Faults.{Rose}
 use Rattle.facet_names.specs.Labels.{with_label, prefixes, place}
 use Rattle.facet_model.specs.Flags.{Config}
 use Rattle.facet_model.specs.Documents.{Doc}
@@ -99,10 +100,6 @@ numbers_of shelf = numbers (record { operations = shelf.taken; labels = shelf.ta
 
 -- ---- commit
 
--- a count of faults rose, or stands where it stays
-abbrev pub Rises : ℕ → ℕ → Type 0
-Rises before now = (before < now) ⊎ (2 ^ 64 - 1 ≤ now)
-
 -- how many files a commit puts at most: a segment of labels, a segment for each document, and two commit files
 abbrev pub most_files : ℕ
 most_files = 1000003
@@ -121,7 +118,7 @@ IsSpent shelf reply next = (number : ℕ) × (reply ≡ refused (numbers_spent n
 
 -- the disk failed
 abbrev pub IsFailed : Shelf → Reply → Shelf → Type 0
-IsFailed shelf reply next = (store : Store) × (count : ℕ) × (reply ≡ refused (disk_failed count)) × Rises shelf.store.faults count × (next ≡ record shelf { store = store }) × (store.closed ≡ Some count) × (store.faults ≡ count) × TakesFiles shelf.store store
+IsFailed shelf reply next = (store : Store) × (count : ℕ) × (reply ≡ refused (disk_failed count)) × Rose shelf.store.faults count × (next ≡ record shelf { store = store }) × (store.closed ≡ Some count) × (store.faults ≡ count) × TakesFiles shelf.store store
 
 -- The reply to a commit, given the count at which an earlier one failed.
 abbrev pub IsCommitted : Shelf → Option ℕ → Reply → Shelf → Type 0

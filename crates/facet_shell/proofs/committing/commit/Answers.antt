@@ -3,7 +3,8 @@ use Rattle.std.specs.Prelude.{max}
 use Rattle.std.specs.Arc.{arc_value}
 use Rattle.facet_model.specs.Flags.{Config}
 use Rattle.facet_model.specs.Stored.{Records, Decodes}
-use Rattle.facet_words.specs.Answers.{Shelf, Rises}
+use Rattle.facet_io.specs.Faults.{Rose}
+use Rattle.facet_words.specs.Answers.{Shelf}
 use Rattle.commit_store.specs.Plannings.{IsCommittedAt}
 use Rattle.seg_decoding.specs.Decoding.{docs_in}
 use Rattle.facet_shell.specs.Sessions.{State, shelf_of, store_of}
@@ -41,7 +42,7 @@ returns-in-Err-Disk-clause-right g c =
     let count : ℕ = c.in-Err-Disk.count in
     let none = none_unless c.args.committer.now.closed (λ k some. cc ((c.in-Err-Disk.ensures.closed k).0 some, c.in-Err-Disk.field-0-is)) in
     let d = c.in-Err-Disk.ensures.disk c.in-Err-Disk.count c.in-Err-Disk.field-0-is in
-    let rise : Rises before.store.faults count = subst (λ (n : ℕ). Rises (g.D.Disk.faults c.args.committer.now.disk) n) (sym d.1) d.0 in
+    let rise : Rose before.store.faults count = subst (λ (n : ℕ). Rose (g.D.Disk.faults c.args.committer.now.disk) n) (sym d.1) d.0 in
     failed_right c.args.session.now.settings before after c.in-Err-Disk.count none (after.store, count, refl, rise, λ i. shelf_of (flushed i) (store_of c.commit.new.self.closed c.commit.new.self.state.next (g.D.Disk.faults c.commit.new.self.disk)), d.2, sym d.1, (c.in-Err-Disk.ensures.takes.0, c.in-Err-Disk.ensures.takes.1, c.in-Err-Disk.ensures.room))
 
 pub returns-in-Err-Disk-clause-story : goal.returns-in-Err-Disk-clause-story
