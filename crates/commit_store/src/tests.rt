@@ -85,34 +85,79 @@ fn one_document(alloc: Global) -> Result<Batch, Fail>
     Ok(Batch { view, segments })
 }
 
+// Commits the batch to a disk: how that ended, how many calls it made, and the disk.
+fn committed(
+    alloc: Global,
+    disk: MemoryDisk,
+    batch: &Batch,
+) -> Result<(Result<(), CommitFault>, u64, MemoryDisk), Fail>
+    requires decodes { Decodes batch.now.view [] (map arc_value batch.now.segments.items) (docs_in batch.now.view (map arc_value batch.now.segments.items)) }
+    requires few { length (records_in (map arc_value batch.now.segments.items)) ≤ 1000000 }
+{
+    let Opened { mut committer, .. } = opened(alloc, disk)?;
+    let before = committer.disk.call_count();
+    let ended = committer.commit(&batch.view, &batch.segments);
+    let disk = committer.into_disk();
+    let calls = disk.call_count().saturating_sub(before);
+    Ok((ended, calls, disk))
+}
+
+// Whether a disk opens with so many labels and segments, this next number and so many files.
+fn opens_with(
+    alloc: Global,
+    disk: MemoryDisk,
+    labels: u32,
+    segments: usize,
+    next: u64,
+    files: usize,
+) -> Result<bool, Fail> {
+    let found = opened(alloc, disk)?;
+    let state = &found.committer.state;
+    let right = state.next == next && state.listed.len() == files;
+    Ok(right && found.labels.size() == labels && found.segments.len() == segments)
+}
+
 #[test]
 fn commits_and_opens_again(rt: HostRuntime) -> Result<(), Fail> {
     let alloc = rt.alloc();
     let batch = one_document(alloc)?;
-    let disk = MemoryDisk::new(alloc, Vec::new(alloc));
-    let Opened { mut committer, .. } = opened(alloc, disk)?;
-    assert!(rt; committer.commit(&batch.view, &batch.segments) == Ok(()));
-    let disk = committer.into_disk();
-    // Two calls listed the directories.
-    assert_eq!(rt; disk.call_count(), 14);
-    let again = opened(alloc, disk)?;
-    assert!(rt; again.labels.size() == 3 && again.segments.len() == 1);
-    assert!(rt; again.committer.state.next == 5 && again.committer.state.listed.len() == 4);
+    let (ended, calls, disk) = committed(alloc, MemoryDisk::new(alloc, Vec::new(alloc)), &batch)?;
+    assert!(rt; ended == Ok(()) && calls == 12);
+    assert!(rt; opens_with(alloc, disk, 3, 1, 5, 4)?);
     Ok(())
+}
+
+// How two commits end to a disk whose call of this number fails, and the disk.
+fn committed_twice(
+    alloc: Global,
+    failing: u64,
+    batch: &Batch,
+) -> Result<([Result<(), CommitFault>; 2], MemoryDisk), Fail>
+    requires decodes { Decodes batch.now.view [] (map arc_value batch.now.segments.items) (docs_in batch.now.view (map arc_value batch.now.segments.items)) }
+    requires few { length (records_in (map arc_value batch.now.segments.items)) ≤ 1000000 }
+{
+    let disk = MemoryDisk::new(alloc, vec![in alloc; failing]?);
+    let Opened { mut committer, .. } = opened(alloc, disk)?;
+    let first = committer.commit(&batch.view, &batch.segments);
+    let second = committer.commit(&batch.view, &batch.segments);
+    Ok(([first, second], committer.into_disk()))
 }
 
 #[test]
 fn is_closed_after_a_fault(rt: HostRuntime) -> Result<(), Fail> {
     let alloc = rt.alloc();
     let batch = one_document(alloc)?;
-    let disk = MemoryDisk::new(alloc, vec![in alloc; 7]?);
-    let Opened { mut committer, .. } = opened(alloc, disk)?;
-    let first = committer.commit(&batch.view, &batch.segments);
-    assert!(rt; first == Err(CommitFault::Disk { count: 1 }));
-    let second = committer.commit(&batch.view, &batch.segments);
-    assert!(rt; second == Err(CommitFault::Closed { count: 1 }));
-    let again = opened(alloc, committer.into_disk())?;
-    assert!(rt; again.labels.size() == 1 && again.segments.is_empty());
+    let (ended, disk) = committed_twice(alloc, 7, &batch)?;
+    let count = 1;
+    assert!(rt;
+        ended
+            == [
+                Err(CommitFault::Disk { count }),
+                Err(CommitFault::Closed { count })
+            ]
+    );
+    // The labels are put and synced, and no commit names them.
+    assert!(rt; opens_with(alloc, disk, 1, 0, 3, 2)?);
     Ok(())
 }
 
@@ -147,25 +192,26 @@ fn strays_left(alloc: Global, disk: &MemoryDisk, calls: u64) -> Result<usize, Fa
     Ok(count)
 }
 
-#[test]
-fn removes_strays_in_order(rt: HostRuntime) -> Result<(), Fail> {
-    let alloc = rt.alloc();
-    let batch = one_document(alloc)?;
+// The disk of one document, with the strays.
+fn stored_with_strays(alloc: Global) -> Result<MemoryDisk, Fail> {
     let mut disk = stored(alloc)?;
     for stray in strays().iter().rev() {
         disk.put(*stray, b"stray")?;
     }
-    let Opened { mut committer, .. } = opened(alloc, disk)?;
-    let opening = committer.disk.call_count();
-    assert!(rt; committer.commit(&batch.view, &batch.segments) == Ok(()));
-    let disk = committer.into_disk();
+    Ok(disk)
+}
+
+#[test]
+fn removes_strays_in_order(rt: HostRuntime) -> Result<(), Fail> {
+    let alloc = rt.alloc();
+    let batch = one_document(alloc)?;
+    let (ended, calls, disk) = committed(alloc, stored_with_strays(alloc)?, &batch)?;
+    assert!(rt; ended == Ok(()) && calls == 7);
+    let opening = disk.call_count().saturating_sub(calls);
     for removed in 0..8usize {
-        let calls = opening.saturating_add(removed as u64);
-        assert_eq!(rt; strays_left(alloc, &disk, calls)?, 7 - removed);
+        let left = strays_left(alloc, &disk, opening.saturating_add(removed as u64))?;
+        assert_eq!(rt; left, 7 - removed);
     }
-    assert_eq!(rt; disk.call_count(), opening.saturating_add(7));
-    let again = opened(alloc, disk)?;
-    assert!(rt; again.labels.size() == 3 && again.segments.len() == 1);
-    assert!(rt; again.committer.state.next == 5 && again.committer.state.listed.len() == 4);
+    assert!(rt; opens_with(alloc, disk, 3, 1, 5, 4)?);
     Ok(())
 }
