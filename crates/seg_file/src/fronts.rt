@@ -1,10 +1,19 @@
 //! Readers of what is known to stand at the front. None of them can meet a fault.
 
-ghost use Rattle.std.specs.Prelude.{◌≡◌, List, ℕ};
+ghost use Rattle.std.specs.Prelude.{◌≡◌, ◌≤◌, List, ℕ, drop, length};
 ghost use Rattle.seg_file.specs.Fronts.{BeginsText, BeginsList, BeginsPlaces};
 
 use facet_codec::Cursor;
 use seg_postings::{Ords, Postings};
+
+/// A cursor at a place of the bytes.
+pub(crate) fn cursor_at(bytes: &[u8], at: usize) -> Cursor<'_>
+    requires { at ≤ length bytes.now }
+    ensures { result.rest ≡ drop at bytes.now }
+{
+    let (_, rest) = bytes.split_at(at);
+    Cursor::new(rest)
+}
 
 /// The text at the front, which the cursor passes. Its bytes are known to be UTF-8, and are not looked at.
 pub(crate) fn text_front<'a>(cursor: &mut Cursor<'a>) -> &'a str

@@ -9,7 +9,7 @@ ghost use Rattle.seg_grammar.specs.Lookups.{record_of, places_of_term};
 ghost use Rattle.seg_file.specs.Fronts.{BeginsRecord, BeginsCounted, BeginsTerm};
 ghost use Rattle.seg_file.specs.Search.{term_of, IsFirstFrom};
 
-use crate::fronts::{list_front, places_front, text_front};
+use crate::fronts::{cursor_at, list_front, places_front, text_front};
 use facet_codec::Cursor;
 use facet_names::NoMemory;
 use seg_grammar::{Index, SegFault, read_index};
@@ -185,9 +185,7 @@ impl Segment {
         requires { at < length self.now.terms }
         ensures { BeginsTerm (length self.now.records) result.rest (term_of self.now.terms at) }
     {
-        let at = self.index.terms[at];
-        let (_, rest) = self.bytes.as_slice().split_at(at);
-        Cursor::new(rest)
+        cursor_at(self.bytes.as_slice(), self.index.terms[at])
     }
 
     // A cursor at a record.
@@ -195,9 +193,7 @@ impl Segment {
         requires { doc < length self.now.records }
         ensures { BeginsRecord result.rest (record_of self.now doc) }
     {
-        let at = self.index.records[doc as usize];
-        let (_, rest) = self.bytes.as_slice().split_at(at);
-        Cursor::new(rest)
+        cursor_at(self.bytes.as_slice(), self.index.records[doc as usize])
     }
 
     // A cursor at the counted ordinals of a record.
@@ -205,8 +201,6 @@ impl Segment {
         requires { doc < length self.now.records }
         ensures { BeginsCounted result.rest (record_of self.now doc) }
     {
-        let at = self.index.counted[doc as usize];
-        let (_, rest) = self.bytes.as_slice().split_at(at);
-        Cursor::new(rest)
+        cursor_at(self.bytes.as_slice(), self.index.counted[doc as usize])
     }
 }
