@@ -201,6 +201,16 @@ fn stored_with_strays(alloc: Global) -> Result<MemoryDisk, Fail> {
     Ok(disk)
 }
 
+// Whether each call after the opening ones has removed one more stray.
+fn go_one_by_one(alloc: Global, disk: &MemoryDisk, opening: u64) -> Result<bool, Fail> {
+    for removed in 0..8usize {
+        if strays_left(alloc, disk, opening.saturating_add(removed as u64))? != 7 - removed {
+            return Ok(false);
+        }
+    }
+    Ok(true)
+}
+
 #[test]
 fn removes_strays_in_order(rt: HostRuntime) -> Result<(), Fail> {
     let alloc = rt.alloc();
@@ -208,10 +218,7 @@ fn removes_strays_in_order(rt: HostRuntime) -> Result<(), Fail> {
     let (ended, calls, disk) = committed(alloc, stored_with_strays(alloc)?, &batch)?;
     assert!(rt; ended == Ok(()) && calls == 7);
     let opening = disk.call_count().saturating_sub(calls);
-    for removed in 0..8usize {
-        let left = strays_left(alloc, &disk, opening.saturating_add(removed as u64))?;
-        assert_eq!(rt; left, 7 - removed);
-    }
+    assert!(rt; go_one_by_one(alloc, &disk, opening)?);
     assert!(rt; opens_with(alloc, disk, 3, 1, 5, 4)?);
     Ok(())
 }

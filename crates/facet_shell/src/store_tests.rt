@@ -75,6 +75,12 @@ fn are_files(alloc: Global, mut disk: MemoryDisk, files: &str) -> Result<bool, F
     Ok(listing(alloc, &mut disk)?.as_str() == files)
 }
 
+// Whether these are the files after so many calls of the second commit.
+fn leaves(alloc: Global, disk: &MemoryDisk, calls: u64, files: &str) -> Result<bool, Fail> {
+    let left = stopped(alloc, disk, calls, Unsynced::Whole, true)?;
+    are_files(alloc, left, files)
+}
+
 #[test]
 fn two_commits(rt: HostRuntime) -> Result<(), Fail> {
     let alloc = rt.alloc();
@@ -82,9 +88,8 @@ fn two_commits(rt: HostRuntime) -> Result<(), Fail> {
     let (ended, sink) = run_over(&rt, &script, &[], empty_disk(alloc))?;
     assert!(rt; ended.status == Status::Done && sink.bytes() == TWO_REPLIES);
     assert_eq!(rt; ended.disk.call_count(), 28);
-    for (calls, want) in FILES {
-        let left = stopped(alloc, &ended.disk, *calls, Unsynced::Whole, true)?;
-        assert!(rt; are_files(alloc, left, *want)?, "{calls}");
+    for (calls, files) in FILES {
+        assert!(rt; leaves(alloc, &ended.disk, *calls, *files)?, "{calls}");
     }
     Ok(())
 }

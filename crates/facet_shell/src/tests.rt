@@ -1,4 +1,4 @@
-use crate::rows::ROWS;
+use crate::rows::{ROWS, Row};
 use crate::test_runs::{BOB, CONFIG, LISA, REFRESH, empty_disk, ends_on, joined, run_on, texts};
 use crate::{Status, place, run};
 use facet_codec::{Cursor, put_text, put_u32};
@@ -219,13 +219,16 @@ fn stored_labels(rt: HostRuntime) -> Result<(), Fail> {
     Ok(())
 }
 
+fn is_written(rt: &HostRuntime, row: &Row) -> Result<bool, Fail> {
+    let script = row.script.as_bytes();
+    let output = row.output.as_bytes();
+    ends_on(rt, script, 4096, (&[], &[]), row.status, output)
+}
+
 #[test]
 fn rows(rt: HostRuntime) -> Result<(), Fail> {
     for row in ROWS {
-        let script = row.script.as_bytes();
-        let output = row.output.as_bytes();
-        let right = ends_on(&rt, script, 4096, (&[], &[]), row.status, output)?;
-        assert!(rt; right, "{}", row.name);
+        assert!(rt; is_written(&rt, row)?, "{}", row.name);
     }
     Ok(())
 }

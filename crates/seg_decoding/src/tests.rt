@@ -1,4 +1,4 @@
-ghost use Rattle.std.specs.Prelude.{◌≡◌, ◌<◌, All, IfOk, length};
+ghost use Rattle.std.specs.Prelude.{◌≡◌, ◌≤◌, ◌<◌, All, IfOk, length};
 ghost use Rattle.facet_names.specs.Labels.{above, stands};
 ghost use Rattle.seg_decoding.specs.Answers.{IsLeaf};
 
@@ -90,22 +90,42 @@ fn fault_of(
     }
 }
 
+// The segment that ONE is, of whose labels the first `needs` are needed.
+fn one(alloc: Global, labels: &Taxonomy, needs: u32, hierarchical: bool) -> Result<Segment, Fail>
+    requires needs { needs ≤ length labels.now }
+    ensures some { IfOk result (λ s. 0 < length s.records) }
+    ensures leaves { IfOk result (λ s. All (λ r. All (IsLeaf needs) r.leaves) s.records) }
+{
+    let config = config(alloc, hierarchical)?;
+    let bytes = ONE.as_slice().to_vec(alloc)?;
+    match open_stored(alloc, &config, labels, needs, 1, bytes) {
+        Ok(segment) => Ok(segment),
+        Err(_) => Err("a segment".into()),
+    }
+}
+
+fn reads_as_one(segment: &Segment) -> bool
+    requires { 0 < length segment.now.records }
+{
+    let is_whole = segment.bytes() == ONE.as_slice() && segment.docs() == 1;
+    is_whole && segment.id(0) == "b1" && segment.text(0) == "Rust"
+}
+
 #[test]
 fn opens(rt: HostRuntime) -> Result<(), Fail> {
     let alloc = rt.alloc();
     let labels = labels(alloc)?;
     assert!(rt; labels.size() == 4);
     for hierarchical in [false, true] {
-        let config = config(alloc, hierarchical)?;
-        let bytes = ONE.as_slice().to_vec(alloc)?;
-        let Ok(segment) = open_stored(alloc, &config, &labels, 3, 1, bytes) else {
-            return Err("a segment".into());
-        };
-        assert!(rt; segment.bytes() == ONE.as_slice());
-        assert!(rt; segment.docs() == 1);
-        assert!(rt; segment.id(0) == "b1" && segment.text(0) == "Rust");
+        assert!(rt; reads_as_one(&one(alloc, &labels, 3, hierarchical)?));
     }
     Ok(())
+}
+
+fn is_one(doc: &Document, bob: &Path) -> bool {
+    let facets = doc.facets();
+    let is_labelled = facets.len() == 1 && facets[0] == *bob;
+    is_labelled && doc.id() == "b1" && doc.text() == "Rust"
 }
 
 // The first document of a segment is that of ONE.
@@ -117,23 +137,23 @@ fn has_one<L: Labelled>(alloc: Global, labels: &L, segment: &Segment) -> Result<
     let leaves = ordinals_of(alloc, segment.leaves(0))?;
     let paths = labels_at(alloc, labels, &leaves)?;
     let doc = document_of(alloc, labels, segment, 0, &leaves)?;
-    let facets = doc.facets();
-    let is_labelled = facets.len() == 1 && facets[0] == bob && paths.len() == 1 && paths[0] == bob;
-    Ok(is_labelled && doc.id() == "b1" && doc.text() == "Rust")
+    Ok(paths.len() == 1 && paths[0] == bob && is_one(&doc, &bob))
+}
+
+fn both_have_one(alloc: Global, labels: &Taxonomy, segment: &Segment) -> Result<bool, Fail>
+    requires some { 0 < length segment.now.records }
+    requires leaves { All (λ r. All (IsLeaf (length labels.now)) r.leaves) segment.now.records }
+{
+    let view = labels.view()?;
+    Ok(has_one(alloc, labels, segment)? && has_one(alloc, &view, segment)?)
 }
 
 #[test]
 fn one_document_by_a_list_and_by_its_view(rt: HostRuntime) -> Result<(), Fail> {
     let alloc = rt.alloc();
     let labels = labels(alloc)?;
-    let view = labels.view()?;
-    let config = config(alloc, false)?;
-    let bytes = ONE.as_slice().to_vec(alloc)?;
-    let Ok(segment) = open_stored(alloc, &config, &labels, labels.size(), 1, bytes) else {
-        return Err("a segment".into());
-    };
-    assert!(rt; has_one(alloc, &labels, &segment)?);
-    assert!(rt; has_one(alloc, &view, &segment)?);
+    let segment = one(alloc, &labels, labels.size(), false)?;
+    assert!(rt; both_have_one(alloc, &labels, &segment)?);
     Ok(())
 }
 
