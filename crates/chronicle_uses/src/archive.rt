@@ -1,4 +1,4 @@
-ghost use Rattle.std.specs.Prelude.{◌≡◌, ◌≤◌, true, false};
+ghost use Rattle.std.specs.Prelude.{◌≡◌, ◌≤◌, ◌∷◌, [], ℕ, true, false};
 ghost use Rattle.chronicle.specs.Shown.{SameToken, MayTake};
 
 use crate::loans::Loan;
@@ -54,7 +54,8 @@ pub(crate) fn end_archive<D: Disk, R: Wait>(
     token: &mut Token<Archived>,
 ) -> D
     requires { (token.old.identity ≡ archive.now) × MayTake token.old }
-    ensures { SameToken token.old token.new × (token.new.holds_turn ≡ true) }
+    ensures token { SameToken token.old token.new × (token.new.holds_turn ≡ true) }
+    ensures later { (started : ℕ) → token.old.frame.numbers ≡ started ∷ [] → started ≤ D.faults result }
 {
     let Archive {
         disk,

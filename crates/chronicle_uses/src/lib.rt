@@ -18,7 +18,9 @@ mod visit;
 
 pub use archive::{Archive, Archived, Disk};
 pub use held::{Held, lent_elsewhere, lent_in_both};
-pub use library::{Failed, Library, RunFault, Sink, Source, lend_title, lend_to_all, run};
+pub use library::{
+    Failed, LendFault, Library, RunFault, Sink, Source, lend_title, lend_to_all, run,
+};
 pub use loans::{Loan, LoanBook};
 pub use name::Name;
 pub use shelf::{Shelf, find_title};

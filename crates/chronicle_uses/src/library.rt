@@ -1,6 +1,9 @@
-ghost use Rattle.std.specs.Prelude.{◌≡◌, ◌≤◌, ◌<◌, ◌+◌, ◌-◌, ◌^◌, ◌++◌, ◌∷◌, ◌⊎◌, false, [], All, IfOk, IfErr, IfSome, IfNone, OnErr, IsErrOf};
+ghost use Rattle.std.specs.Prelude.{◌≡◌, ◌≢◌, ◌≤◌, ◌<◌, ◌+◌, ◌-◌, ◌^◌, ◌++◌, ◌∷◌, ◌⊎◌, ℕ, false, [], All, IfOk, IfErr, OnErr, IsErrOf, length, slice_index_or};
+ghost use Rattle.chronicle_uses.specs.declared.titles.Title.{Title};
+ghost use Rattle.chronicle_uses.specs.declared.visit.Visit.{Visit as VisitData};
+ghost use Rattle.chronicle_uses.specs.declared.library.LendFault.TheVariants.{Other};
 ghost use Rattle.chronicle.specs.Shown.{mine, MayTake};
-ghost use Rattle.chronicle_uses.specs.Places.{StandsAt};
+ghost use Rattle.chronicle_uses.specs.Places.{StandsAt, HasOneMoreAtMost};
 ghost use Rattle.chronicle_uses.specs.declared.library.RunFault.TheVariants.{NoMemory as Memory};
 
 use crate::archive::{Archive, Archived, Disk, end_archive};
@@ -122,28 +125,48 @@ impl<N: Name> Library<N> {
     }
 }
 
+/// Why a title was not lent: the shelf has another one, or there is no memory.
+#[derive(Drop, Clone, Copy, PartialEq, Eq)]
+pub enum LendFault {
+    Other { title: Title },
+    NoMemory,
+}
+
+impl From<AllocError> for LendFault {
+    ghost use Rattle.std.specs.Prelude.{◌≡◌};
+    ghost use Rattle.chronicle_uses.specs.declared.library.LendFault.TheVariants.{NoMemory as NoRoom};
+
+    ghost from_gives = { λ _ e. e ≡ NoRoom };
+
+    fn from(_: AllocError) -> LendFault {
+        LendFault::NoMemory
+    }
+}
+
 /// Lends the title to the visit's reader, if the shelf has it, and answers its place.
 pub fn lend_title<N: Name, R: Wait>(
     rt: &R,
     library: &Library<N>,
     visit: &mut Visit,
     title: Title,
-) -> Result<Option<u64>, AllocError>
+) -> Result<u64, LendFault>
     requires own { (visit.old.titles.identity ≡ library.now.titles) × (visit.old.loans.identity ≡ library.now.loans) }
     ensures own { (visit.new.titles.identity ≡ library.now.titles) × (visit.new.loans.identity ≡ library.now.loans) }
-    ensures place { IfOk result (λ o. IfSome o (StandsAt visit.new.titles.seen title)) }
-    ensures lent { IfOk result (λ o. IfSome o (λ place. mine visit.new.loans ≡ mine visit.old.loans ++ (visit.old.loans.number, record { reader = 1; place = place }) ∷ [])) }
-    ensures none { IfOk result (λ o. IfNone o (mine visit.new.loans ≡ mine visit.old.loans)) }
+    ensures place { IfOk result (StandsAt visit.new.titles.seen title) }
+    ensures lent { IfOk result (λ place. mine visit.new.loans ≡ mine visit.old.loans ++ (visit.old.loans.number, record { reader = 1; place = place }) ∷ []) }
+    ensures other { IfErr result (λ e. (has : Title) → e ≡ Other has → has ≢ title) }
     ensures refused { OnErr result (mine visit.new.loans ≡ mine visit.old.loans) }
 {
-    let Some(place) = find_title(
+    let found = find_title(
         rt,
         &library.shelf,
         &library.titles,
         &mut visit.titles,
         title,
-    ) else {
-        return Ok(None);
+    );
+    let place = match found {
+        Ok(place) => place,
+        Err(title) => return Err(LendFault::Other { title }),
     };
     lend(
         rt,
@@ -152,10 +175,22 @@ pub fn lend_title<N: Name, R: Wait>(
         visit,
         Loan { reader: 1, place },
     )?;
-    Ok(Some(place))
+    Ok(place)
 }
 
-/// Lends the first title in each of several visits, each on a thread of its own.
+// Lends the title if the shelf has it and there is memory.
+fn try_to_lend<N: Name, R: Wait>(rt: &R, library: &Library<N>, visit: &mut Visit, title: Title)
+    requires own { (visit.old.titles.identity ≡ library.now.titles) × (visit.old.loans.identity ≡ library.now.loans) }
+    ensures own { (visit.new.titles.identity ≡ library.now.titles) × (visit.new.loans.identity ≡ library.now.loans) }
+    ensures lent { HasOneMoreAtMost visit.old.loans.number (mine visit.old.loans) (mine visit.new.loans) }
+{
+    match lend_title(rt, library, visit, title) {
+        Ok(_) => {}
+        Err(_) => {}
+    }
+}
+
+/// Lends the first title in each of several visits, each on a thread of its own. Each visit enters one loan at most.
 pub fn lend_to_all<N: Name + Send + Sync, R: Threads + Wait + Sync>(
     rt: &R,
     library: &Library<N>,
@@ -164,6 +199,7 @@ pub fn lend_to_all<N: Name + Send + Sync, R: Threads + Wait + Sync>(
 )
     requires own { All (λ v. (v.titles.identity ≡ library.now.titles) × (v.loans.identity ≡ library.now.loans)) visits.old }
     ensures own { All (λ v. (v.titles.identity ≡ library.now.titles) × (v.loans.identity ≡ library.now.loans)) visits.new }
+    ensures lent { (i : ℕ) (d : VisitData) → i < length visits.old → HasOneMoreAtMost (slice_index_or visits.old i d).loans.number (mine (slice_index_or visits.old i d).loans) (mine (slice_index_or visits.new i d).loans) }
 {
     if visits.is_empty() {
         return;
@@ -175,9 +211,10 @@ pub fn lend_to_all<N: Name + Send + Sync, R: Threads + Wait + Sync>(
         threads,
         &|_, visit| -> ()
             requires { (visit.now.titles.identity ≡ library.now.titles) × (visit.now.loans.identity ≡ library.now.loans) }
-            ensures { (visit.exit.now.titles.identity ≡ library.entry.now.titles) × (visit.exit.now.loans.identity ≡ library.entry.now.loans) }
+            ensures own { (visit.exit.now.titles.identity ≡ library.entry.now.titles) × (visit.exit.now.loans.identity ≡ library.entry.now.loans) }
+            ensures lent { HasOneMoreAtMost visit.entry.now.loans.number (mine visit.entry.now.loans) (mine visit.exit.now.loans) }
         {
-            let _ = lend_title(rt, library, visit, title);
+            try_to_lend(rt, library, visit, title);
         },
     );
 }
@@ -202,10 +239,14 @@ fn lend_from<N: Name, R: Wait, S: Source, K: Sink>(
         let Some(number) = asked else {
             break;
         };
-        if let Some(place) = lend_title(rt, library, visit, Title { number })? {
-            if sink.write(place).is_err() {
-                return Err(RunFault::Failed);
+        match lend_title(rt, library, visit, Title { number }) {
+            Ok(place) => {
+                if sink.write(place).is_err() {
+                    return Err(RunFault::Failed);
+                }
             }
+            Err(LendFault::Other { .. }) => {}
+            Err(LendFault::NoMemory) => return Err(RunFault::NoMemory),
         }
     }
     Ok(())
@@ -220,6 +261,7 @@ pub(crate) fn set_up<N: Name, D: Disk>(
     ensures visit { IfOk result (λ r. (r.1.titles.identity ≡ r.0.titles) × (r.1.loans.identity ≡ r.0.loans)) }
     ensures first { IfOk result (λ r. (r.1.titles.number ≡ 0) × (r.1.titles.made ≡ 0) × (r.1.loans.number ≡ 0) × (r.1.loans.made ≡ 0)) }
     ensures archive { IfOk result (λ r. (r.3.identity ≡ r.2) × MayTake r.3) }
+    ensures started { IfOk result (λ r. r.3.frame.numbers ≡ D.faults opened.disk ∷ []) }
     ensures memory { IfErr result (λ e. e ≡ Memory) }
 {
     let Opened {
@@ -265,6 +307,7 @@ fn run_over<N: Name + Send + Sync, R: Threads + Wait + Sync, S: Source, K: Sink,
     sink: &mut K,
 ) -> Result<D, RunFault>
     requires name { opened.titles ≡ N.titles }
+    ensures disk { IfOk result (λ d. D.faults opened.disk ≤ D.faults d) }
     ensures source { S.faults source.old ≤ S.faults source.new }
     ensures sink { K.faults sink.old ≤ K.faults sink.new }
     ensures cause { IsErrOf result RunFault.Failed → (S.faults source.old < S.faults source.new) ⊎ (K.faults sink.old < K.faults sink.new) }
@@ -283,6 +326,7 @@ pub fn run<R: Threads + Wait + Sync, S: Source, K: Sink, D: Disk>(
     sink: &mut K,
     disk: D,
 ) -> Result<D, RunFault>
+    ensures disk { IfOk result (λ d. D.faults disk ≤ D.faults d) }
     ensures source { S.faults source.old ≤ S.faults source.new }
     ensures sink { K.faults sink.old ≤ K.faults sink.new }
     ensures cause { IsErrOf result RunFault.Failed → (S.faults source.old < S.faults source.new) ⊎ (K.faults sink.old < K.faults sink.new) }

@@ -1,4 +1,4 @@
-ghost use Rattle.std.specs.Prelude.{◌≡◌, ◌==◌, if◌then◌else◌, true, false, Some, None, IfSome};
+ghost use Rattle.std.specs.Prelude.{◌≡◌, ◌≢◌, ◌==◌, if◌then◌else◌, true, false, Ok, Err, IfOk, IfErr};
 ghost use Rattle.chronicle.specs.Shown.{SeesOn, SameToken, MayTake};
 ghost use Rattle.chronicle_uses.specs.Places.{StandsAt};
 
@@ -40,39 +40,40 @@ impl<N: Name> Shelf<N> {
         }
     }
 
-    // The place of the title, if this shelf has it. The token has then met the shelf's note.
+    // The place of the title, if this shelf has it, and else the title that it has. The token has then met the shelf's note.
     fn find<V: Standing<Entry = Title>>(
         &mut self,
         titles: &Chronicle<V>,
         token: &mut Token<Title>,
         title: Title,
-    ) -> Option<u64>
+    ) -> Result<u64, Title>
         requires { (token.old.identity ≡ titles.now) × (titles.now ≡ N.titles) × MayTake token.old }
         ensures token { SeesOn token.old token.new × SameToken token.old token.new × (token.new.holds_turn ≡ false) }
-        ensures found { IfSome result (λ place. StandsAt token.new.seen title place) }
-        ensures sought { result ≡ (if self.old.title.number == title.number then Some self.old.place else None) }
+        ensures found { IfOk result (λ place. StandsAt token.new.seen title place) }
+        ensures sought { result ≡ (if self.old.title.number == title.number then Ok self.old.place else Err self.old.title) }
         ensures same { (self.new.title ≡ self.old.title) × (self.new.place ≡ self.old.place) }
     {
         if self.title.number != title.number {
-            return None;
+            return Err(self.title);
         }
         let note = titles.note(&mut self.note);
         titles.meet(token, note);
-        Some(self.place)
+        Ok(self.place)
     }
 }
 
-/// Looks the title up on a locked shelf. An answer is its place in all that the token has then seen.
+/// Looks the title up on a locked shelf: its place in all that the token has then seen, or the other title that the shelf has.
 pub fn find_title<N: Name, V: Standing<Entry = Title>, R: Wait>(
     rt: &R,
     shelf: &Mutex<Shelf<N>>,
     titles: &Chronicle<V>,
     token: &mut Token<Title>,
     title: Title,
-) -> Option<u64>
+) -> Result<u64, Title>
     requires { (token.old.identity ≡ titles.now) × (titles.now ≡ N.titles) × MayTake token.old }
     ensures token { SeesOn token.old token.new × SameToken token.old token.new × (token.new.holds_turn ≡ false) }
-    ensures found { IfSome result (λ place. StandsAt token.new.seen title place) }
+    ensures found { IfOk result (λ place. StandsAt token.new.seen title place) }
+    ensures other { IfErr result (λ has. has ≢ title) }
 {
     shelf.lock(rt).find(titles, token, title)
 }
