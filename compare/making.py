@@ -1,0 +1,234 @@
+"""Scripts, damaged files and faulty lines, made at random from few names, so that they meet."""
+
+import copy
+import json
+
+from files import digest, sealed
+from shapes import NOT_JSON
+
+DIMENSIONS = ["A", "B", "Author", "é", "Z\x1f", "a"]
+PARTS = ["a", "b", "c", "aa", "B", "\x1e", "\x1f", "x\x1fy", "ß", "𝄞", '"', "\\", "\n", "\x7f", "0", "A"]
+WORDS = ["rust", "Rust", "go", "GO", "book", "É", "é", "x" * 130, "\x0b", "a,b"]
+FLAGS = ("hierarchical", "multi_valued", "require_dim_count")
+
+
+def some(random, most, make):
+    return [make() for _ in range(random.randint(0, most))]
+
+
+def path(random, deep):
+    dims, parts = DIMENSIONS[: random.choice([1, 2, 6])], PARTS[: random.choice([1, 3, 16])]
+    return [random.choice(dims)] + some(random, deep, lambda: random.choice(parts))
+
+
+def query(random, levels):
+    kind = random.random()
+    if kind < 0.2:
+        return {"all": True}
+    if kind < 0.6 or levels == 1:
+        word = random.choice(WORDS)
+        return {"term": word.lower() if random.random() < 0.7 else word}
+    clauses = [clause for clause in ("must", "should", "must_not") if random.random() < 0.5]
+    return {"bool": {clause: some(random, 3, lambda: query(random, levels - 1)) for clause in clauses}}
+
+
+def dimensions(random):
+    names = [dim for dim in DIMENSIONS if random.random() < 0.6]
+    return [{"dim": dim, **{flag: random.random() < 0.7 for flag in FLAGS if random.random() < 0.6}} for dim in names]
+
+
+def config(random, dims):
+    value = {"cmd": "config", "dims": dims}
+    limits = {"max_docs": [1, 3, 10, 50], "max_labels": [1, 2, 5, 10, 30], "stripes": [1, 64], "cache": [1, 65536]}
+    value.update({key: random.choice(numbers) for key, numbers in limits.items() if random.random() < 0.2})
+    if not dims and random.random() < 0.5:
+        del value["dims"]
+    return value
+
+
+def add(random, number):
+    if random.random() < 0.1:
+        return {"s": 1, "cmd": "add", "id": "twin"}
+    order = {"s": 1, "cmd": "add", "id": random.choice([f"b{number}", "é", "x", "k" * 256])}
+    if random.random() < 0.7:
+        blank = random.choice([" ", "\t", "\n", "\r", "  "])
+        order["text"] = random.choice(["", blank]) + blank.join(some(random, 5, lambda: random.choice(WORDS)))
+    if random.random() < 0.9:
+        order["facets"] = some(random, random.choice([0, 1, 2, 5]), lambda: path(random, random.choice([1, 1, 1, 2, 4])))
+        for label in order["facets"]:
+            if len(label) == 1 and random.random() < 0.95:
+                label.append(random.choice(PARTS))
+    return order
+
+
+def ask(random):
+    kind, number = random.random(), random.choice([1, 2, 5, 2**32 - 1]) if random.random() < 0.98 else 0
+    if kind < 0.4:
+        return {"top": path(random, 2), "n": number}
+    if kind < 0.7:
+        return {"specific": path(random, 2) + ["a"] * random.randint(0, 1)}
+    return {"all": number}
+
+
+def search(random):
+    keys = {
+        "query": lambda: query(random, 4),
+        "drill": lambda: some(random, 3, lambda: path(random, 2)),
+        "sideways": lambda: random.random() < 0.7,
+        "hits": lambda: random.choice([0, 1, 3, 1000000]),
+        "ask": lambda: some(random, 4, lambda: ask(random)),
+    }
+    return {"s": 1, "cmd": "search", **{key: make() for key, make in keys.items() if random.random() < 0.6}}
+
+
+def order(random, number):
+    kind = random.random()
+    if kind < 0.45:
+        return add(random, number)
+    if kind < 0.75:
+        return {"s": 1, "cmd": random.choice(["refresh", "refresh", "commit", "stats"])}
+    if kind < 0.8:
+        return {"s": 1, "cmd": "document", "at": random.choice([0, 1, 2, 5, number, 2**32 - 1])}
+    return search(random)
+
+
+# ---- damage
+
+
+def bent(random, data):
+    """Bytes that are near to these."""
+    data = bytearray(data)
+    at, other = (random.randrange(len(data) or 1) for _ in range(2))
+    kind, width = random.random(), random.choice([1, 1, 4, 8])
+    if not data or kind < 0.05:
+        data += bytes(random.randrange(256) for _ in range(width))
+    elif kind < 0.5:
+        data[at] = random.choice([0, 1, 2, 3, 7, 8, 127, 128, 255, data[at] ^ 1, data[at] ^ 32, (data[at] + 1) % 256, (data[at] - 1) % 256])
+    elif kind < 0.6:
+        del data[at:]
+    elif kind < 0.7:
+        del data[at : at + width]
+    elif kind < 0.8:
+        data[at:at] = bytes(random.choice([0, 1, 2, 128, 65]) for _ in range(width))
+    elif kind < 0.9:
+        data[at : at + width], data[other : other + width] = data[other : other + width], data[at : at + width]
+    else:
+        data[at:at] = data[at : at + random.randint(1, 12)]
+    return bytes(data)
+
+
+def bend(random, stored):
+    """Bends a file; most of the time the digests that are kept of it follow."""
+    name = random.choice(sorted(stored))
+    if "/commit-" in name:
+        stored[name] = sealed(bent(random, stored[name][:-32])) if random.random() < 0.95 else bent(random, stored[name])
+        return
+    old = digest(stored[name])
+    stored[name] = bent(random, stored[name])
+    if random.random() < 0.95:
+        for other, data in stored.items():
+            if "/commit-" in other and old in data:
+                stored[other] = sealed(data[:-32].replace(old, digest(stored[name])))
+
+
+def damage(random, stored):
+    """A bent file, one that is gone, or a stray whose number may be great."""
+    kind = random.random()
+    if stored and kind < 0.3:
+        bend(random, stored)
+    elif stored and kind < 0.5:
+        del stored[random.choice(sorted(stored))]
+    else:
+        great = [2**40, 2**63 - 1, 2**63 - 4, 2**63 - 6, 2**63]
+        number = random.choice(great) if random.random() < 0.2 else random.randint(0, 30)
+        stored.setdefault(random.choice(["taxonomy/", "index/"]) + random.choice(["segment-", "pending-"]) + str(number), b"stray")
+
+
+# ---- faulty lines
+
+
+def chain(levels, clause):
+    value = {"all": True}
+    for _ in range(levels - 1):
+        value = {"bool": {clause: [value]}}
+    return value
+
+
+EVERY = {"all": True}
+PATHS = [[], ["A"] * 32, ["A"] * 33, ["A", ""], ["A", "é" * 512], ["A", "é" * 513]]
+# values of a key at its limits and behind them
+LIMITS = {
+    "cmd": ["config", "add", "hold"],
+    "s": [0, 1, 2, 64, 65, 2**64 - 1, 2**64, -1, 1.5],
+    "id": ["", "x" * 256, "x" * 257, "é" * 128, "é" * 129],
+    "text": ["", "x" * 65536, "x" * 65537],
+    "facets": [[], [["A", "a"]] * 256, [["A", "a"]] * 257],
+    "at": [0, 2**32 - 1, 2**32],
+    "hits": [0, 1000000, 1000001],
+    "drill": [[], [["A"]] * 256, [["A"]] * 257],
+    "ask": [[], [{"all": 1}] * 64, [{"all": 1}] * 65],
+    "n": [0, 2**32 - 1, 2**32],
+    "all": [True, False, 0, 2**32 - 1, 2**32],
+    "top": PATHS,
+    "specific": PATHS,
+    "term": ["", "x" * 65536, "x" * 65537],
+    "query": [chain(32, "must"), chain(33, "should"), chain(42, "must_not"), chain(43, "must"), {"bool": {}}, {"bool": {"must": {}}}]
+    + [{"bool": {"must": [EVERY] * 255}}, {"bool": {"should": [EVERY] * 256}}, {"bool": {"must": [EVERY] * 127, "should": [EVERY] * 128}}],
+    "dims": [[{"dim": "A"}, {"dim": "A"}], [{"dim": "A"}, {"dim": "a"}], [{"dim": "A", "hierarchical": None}]],
+    "dim": ["", "é" * 512, "é" * 513],
+    "max_docs": [0, 1, 1000000, 1000001],
+    "max_labels": [0, 1, 1000000, 1000001],
+    "stripes": [0, 1, 64, 65],
+    "cache": [0, 1, 65536, 65537],
+}
+WRONG = [None, True, False, 0, 1, -1, 1.5, 1e2, 2**64, 10**30, "", "a", [], {}, [[]], [["a"]], [None], {"a": 1}, EVERY, {"all": 1}, {"term": "a"}]
+KEYS = list(LIMITS) + ["sideways", "must", "hierarchical", "on", "name", ""]
+
+# lines that are no JSON, and lines that Python would read as another value than RFC 8259 with the limits of docs/formats.md gives
+TEXTS = [(text, NOT_JSON) for text in (b"", b" ", b"{", b'{"cmd":"config"} x', b"{'cmd':'config'}", b'{"cmd":"config",}', b"NaN", b"Infinity", b"1e400", b"01", b"+1")]
+TEXTS += [(text, NOT_JSON) for text in (b".5", b'"\xff"', b'\xef\xbb\xbf{"cmd":"config"}', b'"\\ud800"', b'"\x01"', b"[1,]", b"tru", b'"a', b'{"a" 1}', b"\x0c1", b'"\\x41"')]
+TEXTS += [(text, NOT_JSON) for text in (b"- 1", b"1.", b"1e", b'{"cmd":"config","cmd":"\\q"}', b"[" * 128 + b"]" * 128)]
+TEXTS += [(b"-0", 0.5), (b'{"s":-0,"cmd":"stats"}', {"s": 0.5, "cmd": "stats"}), (b'{"s":1.0,"cmd":"stats"}', {"s": 0.5, "cmd": "stats"}), (b"[" * 127 + b"]" * 127, [])]
+TEXTS += [(b'{"cmd":"\\u0063onfig"}', {"cmd": "config"}), (b'{"cmd":"x","cmd":"config"}', {"cmd": "config"}), (b'{"s":1,"s":2,"cmd":"stats"}', {"s": 2, "cmd": "stats"})]
+TEXTS += [(b'\t{"s":1 ,\r"cmd" : "stats"} \r', {"s": 1, "cmd": "stats"}), (b'{"s":1,"cmd":"add","id":"\\ud834\\udd1e"}', {"s": 1, "cmd": "add", "id": "𝄞"})]
+
+
+def spots(value):
+    """Each place inside a value, as the container and its key."""
+    keys = list(value) if isinstance(value, dict) else range(len(value)) if isinstance(value, list) else []
+    return [spot for key in keys for spot in [(value, key)] + spots(value[key])]
+
+
+def wrong(random, value):
+    """A value that is near to this one."""
+    value = copy.deepcopy(value)
+    places = spots(value) if random.random() < 0.5 else [(value, key) for key in value]
+    container, key = random.choice(places)
+    kind = random.random()
+    if kind < 0.05:
+        return copy.deepcopy(random.choice(WRONG))
+    if kind < 0.5:
+        container[key] = copy.deepcopy(random.choice(LIMITS.get(key, PATHS)))
+    elif kind < 0.65:
+        container[key] = copy.deepcopy(random.choice(WRONG))
+    elif isinstance(container, list):
+        container.append(container[key])
+    elif kind < 0.8:
+        del container[key]
+    else:
+        added = random.choice(KEYS)
+        container[added] = copy.deepcopy(random.choice(LIMITS.get(added, WRONG)))
+    return value
+
+
+def faulty(random, values):
+    """A text for each line, one of them wrong, and the values of the lines."""
+    values = list(values)
+    texts = [json.dumps(value, ensure_ascii=random.random() < 0.5).encode() for value in values]
+    at = random.randrange(len(values))
+    if random.random() < 0.8:
+        values[at] = wrong(random, values[at])
+        texts[at] = json.dumps(values[at], ensure_ascii=random.random() < 0.5).encode()
+    else:
+        texts[at], values[at] = random.choice(TEXTS)
+    return texts, values
