@@ -72,50 +72,64 @@ fn done(answer: Result<(), DiskFault>) -> Result<usize, DiskFault> {
 
 const FAILED: Result<usize, DiskFault> = Err(DiskFault::Failed);
 
-fn absent(name: FileName) -> Result<usize, DiskFault> {
-    Err(DiskFault::Absent { name })
+const NO_PENDING: Result<usize, DiskFault> = Err(DiskFault::Absent { name: PENDING });
+
+const NO_COMMIT: Result<usize, DiskFault> = Err(DiskFault::Absent { name: COMMIT });
+
+const HAS_PENDING: Result<usize, DiskFault> = Err(DiskFault::Present { name: PENDING });
+
+const HAS_COMMIT: Result<usize, DiskFault> = Err(DiskFault::Present { name: COMMIT });
+
+// A call, and what it is to answer.
+type Call = (Step, Result<usize, DiskFault>);
+
+// Makes calls in order up to the first that does not answer so, and answers how many did.
+fn make_all<D: Disk>(alloc: Global, disk: &mut D, calls: &[Call]) -> usize {
+    let mut right = 0usize;
+    for (step, want) in calls {
+        if make(alloc, disk, *step) != *want {
+            break;
+        }
+        right = right.saturating_add(1);
+    }
+    right
 }
 
-fn present(name: FileName) -> Result<usize, DiskFault> {
-    Err(DiskFault::Present { name })
-}
+// The calls 3, 5, 8, 11, 16, 18 and 21 fail.
+const CALLS: &[Call] = &[
+    (Step::Put(PENDING, b"seven"), Ok(0)),
+    (Step::Put(PENDING, b"eight"), HAS_PENDING),
+    (Step::Put(COMMIT, b"nine"), FAILED),
+    (Step::Read(PENDING), Ok(5)),
+    (Step::Read(PENDING), FAILED),
+    (Step::Read(COMMIT), NO_COMMIT),
+    (Step::List(Dir::Taxonomy), Ok(1)),
+    (Step::List(Dir::Taxonomy), FAILED),
+    (Step::Sync(PENDING), Ok(0)),
+    (Step::Sync(COMMIT), NO_COMMIT),
+    (Step::Sync(PENDING), FAILED),
+    (Step::Rename(PENDING, COMMIT), Ok(0)),
+    (Step::Rename(PENDING, SEGMENT), NO_PENDING),
+    (Step::Put(PENDING, b""), Ok(0)),
+    (Step::Rename(PENDING, COMMIT), HAS_COMMIT),
+    (Step::Rename(PENDING, SEGMENT), FAILED),
+    (Step::SyncNames(Dir::Taxonomy), Ok(0)),
+    (Step::SyncNames(Dir::Taxonomy), FAILED),
+    (Step::Remove(PENDING), Ok(0)),
+    (Step::Remove(PENDING), NO_PENDING),
+    (Step::Remove(COMMIT), FAILED),
+    (Step::List(Dir::Index), Ok(0)),
+    (Step::List(Dir::Taxonomy), Ok(1)),
+    (Step::Rename(COMMIT, COMMIT), HAS_COMMIT),
+    (Step::Read(COMMIT), Ok(5)),
+];
 
 #[test]
 fn each_call_with_each_fault(rt: HostRuntime) -> Result<(), Fail> {
     let alloc = rt.alloc();
     let failing = Vec::from_slice(alloc, &[3u64, 5, 8, 11, 16, 18, 21])?;
     let mut disk = MemoryDisk::new(alloc, failing);
-    let steps = [
-        (Step::Put(PENDING, b"seven"), Ok(0)),
-        (Step::Put(PENDING, b"eight"), present(PENDING)),
-        (Step::Put(COMMIT, b"nine"), FAILED),
-        (Step::Read(PENDING), Ok(5)),
-        (Step::Read(PENDING), FAILED),
-        (Step::Read(COMMIT), absent(COMMIT)),
-        (Step::List(Dir::Taxonomy), Ok(1)),
-        (Step::List(Dir::Taxonomy), FAILED),
-        (Step::Sync(PENDING), Ok(0)),
-        (Step::Sync(COMMIT), absent(COMMIT)),
-        (Step::Sync(PENDING), FAILED),
-        (Step::Rename(PENDING, COMMIT), Ok(0)),
-        (Step::Rename(PENDING, SEGMENT), absent(PENDING)),
-        (Step::Put(PENDING, b""), Ok(0)),
-        (Step::Rename(PENDING, COMMIT), present(COMMIT)),
-        (Step::Rename(PENDING, SEGMENT), FAILED),
-        (Step::SyncNames(Dir::Taxonomy), Ok(0)),
-        (Step::SyncNames(Dir::Taxonomy), FAILED),
-        (Step::Remove(PENDING), Ok(0)),
-        (Step::Remove(PENDING), absent(PENDING)),
-        (Step::Remove(COMMIT), FAILED),
-        (Step::List(Dir::Index), Ok(0)),
-        (Step::List(Dir::Taxonomy), Ok(1)),
-        (Step::Rename(COMMIT, COMMIT), present(COMMIT)),
-        (Step::Read(COMMIT), Ok(5)),
-    ];
-    for (step, want) in steps {
-        let got = make(alloc, &mut disk, step);
-        assert!(rt; got == want, "{step:?} {got:?}");
-    }
+    assert_eq!(rt; make_all(alloc, &mut disk, CALLS), CALLS.len());
     assert_eq!(rt; disk.fault_count(), 14);
     assert_eq!(rt; disk.call_count(), 25);
     Ok(())
@@ -244,35 +258,36 @@ fn crashes(rt: HostRuntime) -> Result<(), Fail> {
     Ok(())
 }
 
+const FOLDER_CALLS: &[Call] = &[
+    (Step::List(Dir::Taxonomy), Ok(0)),
+    (Step::Read(PENDING), NO_PENDING),
+    (Step::SyncNames(Dir::Taxonomy), FAILED),
+    (Step::Put(PENDING, b"seven"), Ok(0)),
+    (Step::Put(PENDING, b"eight"), HAS_PENDING),
+    (Step::Sync(PENDING), Ok(0)),
+    (Step::Sync(COMMIT), NO_COMMIT),
+    (Step::Rename(COMMIT, SEGMENT), NO_COMMIT),
+    (Step::Rename(PENDING, PENDING), HAS_PENDING),
+    (Step::Rename(PENDING, COMMIT), Ok(0)),
+    (Step::SyncNames(Dir::Taxonomy), Ok(0)),
+    (Step::Remove(PENDING), NO_PENDING),
+    (Step::Read(COMMIT), Ok(5)),
+    (Step::List(Dir::Taxonomy), Ok(1)),
+    (Step::Rename(COMMIT, OUTER), Ok(0)),
+    (Step::List(Dir::Taxonomy), Ok(0)),
+    (Step::List(Dir::Index), Ok(1)),
+    (Step::Remove(OUTER), Ok(0)),
+    (Step::List(Dir::Index), Ok(0)),
+];
+
 #[test]
 fn a_folder(rt: HostRuntime) -> Result<(), Fail> {
     let alloc = rt.alloc();
     let mut disk = StdDisk::new(alloc, &rt, "store")?;
-    let steps = [
-        (Step::List(Dir::Taxonomy), Ok(0)),
-        (Step::Read(PENDING), absent(PENDING)),
-        (Step::SyncNames(Dir::Taxonomy), FAILED),
-        (Step::Put(PENDING, b"seven"), Ok(0)),
-        (Step::Put(PENDING, b"eight"), present(PENDING)),
-        (Step::Sync(PENDING), Ok(0)),
-        (Step::Sync(COMMIT), absent(COMMIT)),
-        (Step::Rename(COMMIT, SEGMENT), absent(COMMIT)),
-        (Step::Rename(PENDING, PENDING), present(PENDING)),
-        (Step::Rename(PENDING, COMMIT), Ok(0)),
-        (Step::SyncNames(Dir::Taxonomy), Ok(0)),
-        (Step::Remove(PENDING), absent(PENDING)),
-        (Step::Read(COMMIT), Ok(5)),
-        (Step::List(Dir::Taxonomy), Ok(1)),
-        (Step::Rename(COMMIT, OUTER), Ok(0)),
-        (Step::List(Dir::Taxonomy), Ok(0)),
-        (Step::List(Dir::Index), Ok(1)),
-        (Step::Remove(OUTER), Ok(0)),
-        (Step::List(Dir::Index), Ok(0)),
-    ];
-    for (step, want) in steps {
-        let got = make(alloc, &mut disk, step);
-        assert!(rt; got == want, "{step:?} {got:?}");
-    }
+    assert_eq!(rt;
+        make_all(alloc, &mut disk, FOLDER_CALLS),
+        FOLDER_CALLS.len()
+    );
     assert_eq!(rt; disk.fault_count(), 7);
     Ok(())
 }
