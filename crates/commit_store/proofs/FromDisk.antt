@@ -48,7 +48,7 @@ module _ (config : Config) (labels : Labels) where
   all_kept (p ∷ parts) [] named own = tt
   all_kept (p ∷ parts) (s ∷ ss) named own = (record { segment = own.0; documents = sym named.0.documents; digest = sym named.0.digest }, all_kept parts ss named.1 own.1)
 
-  all_segments : (parts : List DocumentPart) (ss : List Records) → AllZip (IsNamedAs config labels) parts ss → segments_in (kept_by parts ss) ≡ ss
+  pub all_segments : (parts : List DocumentPart) (ss : List Records) → AllZip (IsNamedAs config labels) parts ss → segments_in (kept_by parts ss) ≡ ss
   all_segments [] [] named = refl
   all_segments [] (s ∷ ss) named = absurd named
   all_segments (p ∷ parts) [] named = absurd named

@@ -5,6 +5,7 @@ pub mod Keeping
 pub mod Ordering
 pub mod Counting
 pub mod Numbers
+pub mod Counted
 pub mod LeadingLabels
 pub mod LeadingIndex
 pub mod Standing

@@ -15,6 +15,7 @@ ghost use Rattle.store_opening.specs.Files.{files, greatest_number};
 ghost use Rattle.store_opening.specs.Newest.{AreListed, next_after};
 ghost use Rattle.store_opening.specs.Quiet.{IsQuiet};
 ghost use Rattle.store_opening.specs.Settled.{IsSettled};
+ghost use Rattle.commit_store.specs.Committed.{segments_in};
 ghost use Rattle.commit_store.specs.Committing.{HasFiles, HasOneOfThree};
 ghost use Rattle.commit_store.specs.Drafts.{last_number, committed_after};
 ghost use Rattle.commit_store.specs.Plannings.{IsCommittedAt};
@@ -61,6 +62,9 @@ impl<D: Disk> Committer<D> {
         ensures still { IfOk result (λ o. D.faults o.committer.disk ≡ D.faults disk) }
         ensures still_not_opened { IfErr result (λ n. n.fault ≢ FaultOfDisk → D.faults n.disk ≡ D.faults disk) }
         ensures unfailed { IfOk result (λ o. D.failures o.committer.disk ≡ D.failures disk) }
+
+        // What is known of the newest commits are these labels and segments.
+        ensures kept { IfOk result (λ o. (segments_in o.committer.state.kept ≡ map arc_value o.segments.items) × (o.committer.state.labels ≡ length o.labels)) }
 
         // Commits go on from it.
         ensures decodes { IfOk result (λ o. Decodes o.labels config (map arc_value o.segments.items) (docs_in o.labels (map arc_value o.segments.items))) }
@@ -154,6 +158,8 @@ impl<D: Disk> Committer<D> {
 
         ensures fresh { OnOk result ((s u : Told) → D.told self.old.disk ≡ Some s → D.told self.new.disk ≡ Some u → Below self.old.state.next s.files → Below self.new.state.next u.files) }
 
+        // What is known stays where it fails.
+        ensures known { IfErr result (λ _. self.new.state ≡ self.old.state) }
         ensures refused { IfErr result (λ e. ((count : ℕ) → e ≢ OfDisk count) → self.new ≡ self.old) }
         ensures disk { IfErr result (λ e. (count : ℕ) → e ≡ OfDisk count → Rose (D.faults self.old.disk) (D.faults self.new.disk) × (count ≡ D.faults self.new.disk) × (self.new.closed ≡ Some count)) }
 

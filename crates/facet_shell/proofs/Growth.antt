@@ -1,12 +1,12 @@
 -- Each reply leaves labels and documents that go on.
-use Rattle.std.proofs.Common.{◌≡◌, ℕ, ◌≤◌, Bool, true, false, List, [], ◌∷◌, ◌++◌, length, take, Option, Some, None, refl, sym, ap, subst, ◌∙◌, arith, inl, inr, if◌then◌else◌}
+use Rattle.std.proofs.Common.{◌≡◌, ℕ, ◌≤◌, ◌+◌, Bool, true, false, List, [], ◌∷◌, ◌++◌, length, take, Option, Some, None, refl, sym, ap, subst, ◌∙◌, arith, inl, inr, ⊎_elim, if◌then◌else◌}
 use Rattle.std.specs.Prelude.{flat_map, nat_lt, nat_le}
 use Rattle.std.proofs.lemmas.List.{take_all, take_at, take-take, length-take, length-append}
 use Rattle.facet_names.specs.Labels.{GoesOn, prefixes}
 use Rattle.facet_names.proofs.LabelLists.{Labels}
 use Rattle.facet_model.specs.Accepts.{Broken, first_broken}
 use Rattle.facet_model.specs.Documents.{Doc}
-use Rattle.facet_words.specs.Answers.{Shelf, RightReply, IsCommitted, LeavesSome, added, room, with_labels}
+use Rattle.facet_words.specs.Answers.{Shelf, RightReply, IsCommitted, LeavesSome, added, flushed, room, with_labels}
 use Rattle.facet_words.specs.Commands.{Settings, Command, add, refresh, search, document, stats, commit}
 use Rattle.facet_replies.specs.Replies.{Reply, refused, placed, labels_full, docs_full}
 use Rattle.facet_shell.specs.Recovering.{AreFirst}
@@ -38,6 +38,9 @@ pub record Grows (shelf next : Shelf) : Type 0 where
 pub same_grows : (shelf next : Shelf) → next ≡ shelf → Grows shelf next
 same_grows shelf next same = subst (Grows shelf) (sym same) (record { labels = stays shelf.labels; docs = first_all shelf.docs })
 
+flush_grows : (shelf next : Shelf) → next ≡ flushed shelf → Grows shelf next
+flush_grows shelf next same = subst (Grows shelf) (sym same) (record { labels = stays shelf.labels; docs = first_all shelf.docs })
+
 added_grows : (settings : Settings) (shelf : Shelf) (doc : Doc) (broken : Option Broken) → Grows shelf (added settings shelf doc broken).1
 added_grows settings shelf doc (Some b) = record { labels = stays shelf.labels; docs = first_all shelf.docs }
 added_grows settings shelf doc None = by (nat_lt (room settings shelf) (length (with_labels shelf.labels doc))) (nat_le settings.max_docs (length shelf.docs))
@@ -52,7 +55,7 @@ added_grows settings shelf doc None = by (nat_lt (room settings shelf) (length (
     docs_are_full = (refused (docs_full (length shelf.docs)), record shelf { labels = with_labels shelf.labels doc })
 
     has_place : Reply × Shelf
-    has_place = (placed (length shelf.docs), record shelf { labels = with_labels shelf.labels doc; docs = shelf.docs ++ doc ∷ [] })
+    has_place = (placed (length shelf.docs), record shelf { labels = with_labels shelf.labels doc; docs = shelf.docs ++ doc ∷ []; waiting = shelf.waiting + 1 })
 
     by : (b c : Bool) → Grows shelf (if b then full else (if c then docs_are_full else has_place)).1
     by true c = record { labels = front_goes_on shelf.labels (with_labels shelf.labels doc) (room settings shelf) on (omega arith); docs = first_all shelf.docs }
@@ -72,14 +75,14 @@ right_grows settings shelf (document at) reply next (inl right) = same_grows she
 right_grows settings shelf stats reply next (inl right) = same_grows shelf next right.1
 right_grows settings shelf commit reply next (inl right) = by shelf.store.closed right
   where
-    by : (closed : Option ℕ) → IsCommitted shelf closed reply next → Grows shelf next
-    by (Some count) right = same_grows shelf next right.1
-    by None (inl made) = subst (Grows shelf) (sym made.2) (record { labels = stays shelf.labels; docs = first_all shelf.docs })
-    by None (inr (inl spent)) = same_grows shelf next spent.4
+    by : (closed : Option ℕ) → IsCommitted (flushed shelf) closed reply next → Grows shelf next
+    by (Some count) right = flush_grows shelf next right.1
+    by None (inl made) = subst (Grows shelf) (sym made.3) (record { labels = stays shelf.labels; docs = first_all shelf.docs })
+    by None (inr (inl spent)) = flush_grows shelf next spent.3
     by None (inr (inr failed)) = subst (Grows shelf) (sym failed.4) (record { labels = stays shelf.labels; docs = first_all shelf.docs })
 right_grows settings shelf (add doc) reply next (inr left) = left_grows settings shelf doc (first_broken settings.config doc) next left.1
 right_grows settings shelf refresh reply next (inr left) = same_grows shelf next left.1
 right_grows settings shelf (search s) reply next (inr left) = same_grows shelf next left.1
 right_grows settings shelf (document at) reply next (inr left) = same_grows shelf next left.1
 right_grows settings shelf stats reply next (inr left) = absurd left.1
-right_grows settings shelf commit reply next (inr left) = same_grows shelf next left.1
+right_grows settings shelf commit reply next (inr left) = ⊎_elim (same_grows shelf next) (flush_grows shelf next) left.1

@@ -1,5 +1,6 @@
 -- What a session keeps true of its fields, where labels are added, the buffer becomes a segment, and all of it is published.
-use Rattle.std.proofs.Common.{◌≡◌, ℕ, ◌+◌, ◌≤◌, List, [], ◌∷◌, ◌++◌, length, take, refl, sym, ap, subst, ◌∙◌, arith, append_assoc, inl}
+use Rattle.std.proofs.Common.{◌≡◌, ℕ, ◌+◌, ◌≤◌, List, [], ◌∷◌, ◌++◌, length, take, refl, sym, ap, subst, ◌∙◌, arith, append_assoc, inl, nat_lt, if◌then◌else◌}
+use Rattle.std.proofs.lemmas.Bool.{lt-ltb}
 use Rattle.std.proofs.lemmas.List.{append-nil, length-append, length-map, take_all, take_at, take-append-le}
 use Rattle.facet_names.specs.Labels.{IsLabelList, GoesOn}
 use Rattle.facet_names.proofs.LabelLists.{Labels}
@@ -14,9 +15,19 @@ use Rattle.seg_terms.specs.Entries.{segment_of}
 use Rattle.seg_decoding.specs.Decoding.{docs_in, flushed}
 use Rattle.seg_decoding.specs.Entries.{AreEntries, docs_of}
 use Rattle.facet_shell.specs.Kept.{IsKept}
+use Rattle.facet_shell.specs.Sessions.{FollowOn}
 use Rattle.seg_decoding.proofs.Decoded.{decoded, decodes_stay, flushed_decodes}
 use Rattle.seg_decoding.proofs.Prefixes.{stays}
 use Rattle.facet_shell.proofs.Grown.{and_on}
+
+-- a buffer becomes one segment, unless it is empty
+pub flushed_count : (segments : List Records) (buffer : List Entry) → length (flushed segments buffer) ≡ length segments + (if nat_lt 0 (length buffer) then 1 else 0)
+flushed_count segments [] = omega arith
+flushed_count segments (e ∷ es) = rw (lt-ltb 0 (length (e ∷ es)) (omega arith)) (length-append segments (segment_of (e ∷ es) ∷ []))
+
+pub flushed_follow : (segments : List Records) (buffer : List Entry) → FollowOn segments (flushed segments buffer)
+flushed_follow segments [] = ([], sym (append-nil segments))
+flushed_follow segments (e ∷ es) = (segment_of (e ∷ es) ∷ [], refl)
 
 module _ (config : Config) (labels view : Labels) (segments : List Records) (published : ℕ) (buffer : List Entry) (taken stored : ℕ) (list : IsLabelList labels) (kept : IsKept config labels view segments published buffer taken stored) where
   -- ---- labels are added
@@ -72,11 +83,11 @@ module _ (config : Config) (labels view : Labels) (segments : List Records) (pub
 
   -- a refresh takes all documents and labels
   pub refreshed : (n : ℕ) → n ≡ length buffer → (settings : Settings) (store : Store)
-      → RightReply settings (record { labels = labels; docs = docs_in labels segments ++ docs_of buffer; taken = taken; taken_labels = length view; store = store }) refresh (numbered (stored + n))
-      (record { labels = labels; docs = docs_in labels (flushed segments buffer) ++ []; taken = stored + n; taken_labels = length labels; store = store })
+      → RightReply settings (record { labels = labels; docs = docs_in labels segments ++ docs_of buffer; taken = taken; taken_labels = length view; segments = length segments; waiting = length buffer; store = store }) refresh (numbered (stored + n))
+      (record { labels = labels; docs = docs_in labels (flushed segments buffer) ++ []; taken = stored + n; taken_labels = length labels; segments = length (flushed segments buffer); waiting = 0; store = store })
   refreshed n added settings store =
       let size : stored + n ≡ length (docs_in labels segments ++ docs_of buffer) = omega (arith, kept.stored_size, added, length-append (docs_in labels segments) (docs_of buffer), length-map buffer (λ (e : Entry). e.doc)) in
-      inl (ap numbered size, λ i. record { labels = labels; docs = (append-nil (docs_in labels (flushed segments buffer)) ∙ flushed_docs) i; taken = size i; taken_labels = length labels; store = store })
+      inl (ap numbered size, λ i. record { labels = labels; docs = (append-nil (docs_in labels (flushed segments buffer)) ∙ flushed_docs) i; taken = size i; taken_labels = length labels; segments = flushed_count segments buffer i; waiting = 0; store = store })
 
 -- all segments are published
 pub kept_published : (config : Config) (labels view : Labels) (segments : List Records) (published taken stored : ℕ) → IsKept config labels view segments published [] taken stored → IsKept config labels labels segments (length segments) [] stored stored

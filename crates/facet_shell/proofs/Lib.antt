@@ -6,6 +6,7 @@ pub mod Stored
 pub mod Keeping
 pub mod Growth
 pub mod Storied
+pub mod Commits
 pub mod Going
 pub mod Served
 pub mod Started

@@ -9,9 +9,7 @@ use Rattle.facet_model.specs.Stored.{Records, Decodes}
 use Rattle.facet_names.specs.Labels.{GoesOn, IsLabelList}
 use Rattle.facet_names.proofs.LabelLists.{Labels}
 use Rattle.facet_words.specs.Answers as words
-use Rattle.facet_words.specs.Answers.{Shelf, RightReply, IsFailed, IsSpent}
-use Rattle.facet_words.specs.Commands.{Settings, commit}
-use Rattle.facet_replies.specs.Replies.{refused, disk_failed, numbers_spent, closed}
+use Rattle.facet_words.specs.Answers.{Shelf}
 use Rattle.commit_calls.specs.Moments.{LeavesOnly}
 use Rattle.commit_calls.proofs.Runs.{leaves_on, leaves_more}
 use Rattle.commit_store.specs.Committed.{Committed}
@@ -78,24 +76,8 @@ committed_files may_leave config state disk labels segments law at c left = law 
 
 -- ---- a flush
 
-pub session_grows : (session flushed : sessions.State) (store : words.Store) → flushed ≡ record session { waiting = 0 } → Grows (sessions.shelf_of session store) (sessions.shelf_of flushed store)
-session_grows session flushed store is = subst (λ (s : sessions.State). Grows (sessions.shelf_of session store) (sessions.shelf_of s store)) (sym is) (record { labels = stays session.labels; docs = first_all session.docs })
-
--- ---- causes
-
--- no commit failed, unless one did
-pub none_unless : (o : Option ℕ) → ((count : ℕ) → o ≡ Some count → ⊥) → o ≡ None
-none_unless None not = refl
-none_unless (Some count) not = absurd (not count refl)
-
-pub failed_right : (settings : Settings) (shelf next : Shelf) (count : ℕ) → shelf.store.closed ≡ None → IsFailed shelf (refused (disk_failed count)) next → RightReply settings shelf commit (refused (disk_failed count)) next
-failed_right settings shelf next count none failed = inl (subst (λ (o : Option ℕ). words.IsCommitted shelf o (refused (disk_failed count)) next) (sym none) (inr (inr failed)))
-
-pub spent_right : (settings : Settings) (shelf next : Shelf) (last : ℕ) → shelf.store.closed ≡ None → IsSpent shelf (refused (numbers_spent last)) next → RightReply settings shelf commit (refused (numbers_spent last)) next
-spent_right settings shelf next last none spent = inl (subst (λ (o : Option ℕ). words.IsCommitted shelf o (refused (numbers_spent last)) next) (sym none) (inr (inl spent)))
-
-pub closed_right : (settings : Settings) (shelf next : Shelf) (count : ℕ) → shelf.store.closed ≡ Some count → next ≡ shelf → RightReply settings shelf commit (refused (closed count)) next
-closed_right settings shelf next count some same = inl (subst (λ (o : Option ℕ). words.IsCommitted shelf o (refused (closed count)) next) (sym some) (refl, same))
+pub session_grows : (session flushed : sessions.State) (store : words.Store) → sessions.IsFlushed session flushed → Grows (sessions.shelf_of session store) (sessions.shelf_of flushed store)
+session_grows session flushed store is = subst (λ (s : sessions.State). Grows (sessions.shelf_of session store) (sessions.shelf_of s store)) (sym is.rest) (record { labels = stays session.labels; docs = first_all session.docs })
 
 module _ {D : Type 0} (told : D → Option Told) (may_leave : D → Image → Type 0) (moment : D → ℕ) (left_since : D → ℕ → Image → Type 0) (opened : Shelf) (start : D) where
   -- ---- an order that makes no call of the device

@@ -49,12 +49,13 @@ TellsOfScript left_before left_now faults_before faults_now written_before writt
 
 -- ---- the store
 
--- A store was opened, all of which searches see; where its disk tells the files, it is what these stand for.
+-- A store was opened, all of which searches see and all of whose labels and segments are committed; where its disk tells the files, it is what these stand for.
 pub record Opens {D : Type 0} (told : D → Option Told) (faults : D → ℕ) (config : Config) (disk : D) (opened : Shelf) : Type 0 where
   pub whole : opened ≡ opened_shelf opened.labels opened.docs opened.store
   pub unfailed : opened.store.closed ≡ None
   pub counted : opened.store.faults ≡ faults disk
-  pub stored : (s : Told) → told disk ≡ Some s → (f : Found) × (files config s.files ≡ Ok f) × (opened.labels ≡ f.labels) × (opened.docs ≡ docs_found f) × (opened.store.next ≡ next_after (greatest_number s.files))
+  pub committed : opened.store.labels ≡ length opened.labels
+  pub stored : (s : Told) → told disk ≡ Some s → (f : Found) × (files config s.files ≡ Ok f) × (opened.labels ≡ f.labels) × (opened.docs ≡ docs_found f) × (opened.store.next ≡ next_after (greatest_number s.files)) × (opened.store.segments ≡ length f.segments)
 
 -- The first orders of a script have these replies, which are right for the opened store; where its disk is settled, what commits were acknowledged is kept, and where none failed on the disk, it is settled again.
 pub record Ran {D : Type 0} (told : D → Option Told) (may_leave : D → Image → Type 0) (moment : D → ℕ) (left_since : D → ℕ → Image → Type 0) (faults : D → ℕ) (s : Script) (many : ℕ) (replies : List Reply) (old new : D) : Type 0 where

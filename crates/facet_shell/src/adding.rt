@@ -96,7 +96,7 @@ fn place(
     requires as_long { AreAsLong doc.labels resolved.now }
     requires short { All IsShort doc.labels }
     requires few { stored + length entries.old.items ≤ 1000000 }
-    ensures placed { (docs : List Doc) → length docs ≡ stored → IsPlaced settings.now.max_docs (docs ++ docs_of entries.old.items) doc (docs ++ docs_of entries.new.items) (reply_view result) }
+    ensures placed { (docs : List Doc) → length docs ≡ stored → IsPlaced settings.now.max_docs (docs ++ docs_of entries.old.items) doc (docs ++ docs_of entries.new.items) (length entries.old.items) (length entries.new.items) (reply_view result) }
     ensures few { stored + length entries.new.items ≤ 1000000 }
     ensures entries { (labels : List (List (List ℕ))) → IsLabelList labels → AreResolved labels doc.labels resolved.now → Accepts settings.now.config doc → AreEntries settings.now.config labels entries.old.items → AreEntries settings.now.config labels entries.new.items }
 {
@@ -124,9 +124,9 @@ pub fn add(
 ) -> Reply
     requires few { stored + length entries.old.items ≤ 1000000 }
     requires entries { AreEntries settings.now.config labels.old entries.old.items }
-    ensures right { (docs : List Doc) (taken taken_labels : ℕ) (store : Store) → length docs ≡ stored
-        → RightReply (settings_view settings.now) (record { labels = labels.old; docs = docs ++ docs_of entries.old.items; taken = taken; taken_labels = taken_labels; store = store })
-        (add_command doc) (reply_view result) (record { labels = labels.new; docs = docs ++ docs_of entries.new.items; taken = taken; taken_labels = taken_labels; store = store }) }
+    ensures right { (docs : List Doc) (taken taken_labels segments : ℕ) (store : Store) → length docs ≡ stored
+        → RightReply (settings_view settings.now) (record { labels = labels.old; docs = docs ++ docs_of entries.old.items; taken = taken; taken_labels = taken_labels; segments = segments; waiting = length entries.old.items; store = store })
+        (add_command doc) (reply_view result) (record { labels = labels.new; docs = docs ++ docs_of entries.new.items; taken = taken; taken_labels = taken_labels; segments = segments; waiting = length entries.new.items; store = store }) }
     ensures goes_on { GoesOn labels.old labels.new }
     ensures entries { AreEntries settings.now.config labels.new entries.new.items }
     ensures few { stored + length entries.new.items ≤ 1000000 }

@@ -8,7 +8,7 @@ ghost use Rattle.facet_words.specs.Answers.{RightReply, Shelf, durable_by};
 ghost use Rattle.facet_words.specs.CommandViews.{command_view};
 ghost use Rattle.facet_words.specs.Commands.{commit as commit_command};
 ghost use Rattle.facet_replies.specs.ReplyViews.{reply_view};
-ghost use Rattle.facet_shell.specs.Sessions.{shelf_of, store_of};
+ghost use Rattle.facet_shell.specs.Sessions.{GoesOnFrom, shelf_of, store_of};
 ghost use Rattle.facet_shell.specs.Stories.{IsStory};
 
 use crate::session::Session;
@@ -22,7 +22,8 @@ use taxo_list::Labelled;
 /// Makes all documents and labels durable, and answers it.
 pub fn commit<D: Disk>(session: &mut Session, committer: &mut Committer<D>) -> Reply
     requires config { committer.old.config ≡ session.old.settings.config }
-    ensures right { RightReply session.old.settings (shelf_of session.old (store_of committer.old.closed committer.old.state.next (D.faults committer.old.disk))) commit_command (reply_view result) (shelf_of session.new (store_of committer.new.closed committer.new.state.next (D.faults committer.new.disk))) }
+    requires goes_on { GoesOnFrom committer.old.state session.old }
+    ensures right { RightReply session.old.settings (shelf_of session.old (store_of committer.old.closed committer.old.state (D.faults committer.old.disk))) commit_command (reply_view result) (shelf_of session.new (store_of committer.new.closed committer.new.state (D.faults committer.new.disk))) }
 
     // Where numbers are spent, the number told is the last one that the commit of all documents would have taken.
     ensures spent { (number : ℕ) → reply_view result ≡ refused (numbers_spent number) → (segments : List Records) × (docs_in session.new.labels segments ≡ session.new.docs)
@@ -30,9 +31,10 @@ pub fn commit<D: Disk>(session: &mut Session, committer: &mut Committer<D>) -> R
 
     ensures same { session.new.settings ≡ session.old.settings }
     ensures config { committer.new.config ≡ committer.old.config }
+    ensures goes_on { GoesOnFrom committer.new.state session.new }
     ensures story { (opened : Shelf) (start : D) (durable : ℕ)
-        → IsStory D.told D.may_leave D.moment D.left_since opened start (shelf_of session.old (store_of committer.old.closed committer.old.state.next (D.faults committer.old.disk))) durable committer.old.config committer.old.state committer.old.disk
-        → IsStory D.told D.may_leave D.moment D.left_since opened start (shelf_of session.new (store_of committer.new.closed committer.new.state.next (D.faults committer.new.disk))) (max durable (durable_by commit_command (reply_view result))) committer.new.config committer.new.state committer.new.disk }
+        → IsStory D.told D.may_leave D.moment D.left_since opened start (shelf_of session.old (store_of committer.old.closed committer.old.state (D.faults committer.old.disk))) durable committer.old.config committer.old.state committer.old.disk
+        → IsStory D.told D.may_leave D.moment D.left_since opened start (shelf_of session.new (store_of committer.new.closed committer.new.state (D.faults committer.new.disk))) (max durable (durable_by commit_command (reply_view result))) committer.new.config committer.new.state committer.new.disk }
 {
     let Ok(()) = session.flush() else {
         return Reply::Refused(Refusal::NoMemory);
@@ -59,12 +61,14 @@ pub fn commit<D: Disk>(session: &mut Session, committer: &mut Committer<D>) -> R
 /// Carries out a command, and answers it.
 pub fn step<D: Disk>(session: &mut Session, committer: &mut Committer<D>, command: Command) -> Reply
     requires config { committer.old.config ≡ session.old.settings.config }
-    ensures right { RightReply session.old.settings (shelf_of session.old (store_of committer.old.closed committer.old.state.next (D.faults committer.old.disk))) (command_view command) (reply_view result) (shelf_of session.new (store_of committer.new.closed committer.new.state.next (D.faults committer.new.disk))) }
+    requires goes_on { GoesOnFrom committer.old.state session.old }
+    ensures right { RightReply session.old.settings (shelf_of session.old (store_of committer.old.closed committer.old.state (D.faults committer.old.disk))) (command_view command) (reply_view result) (shelf_of session.new (store_of committer.new.closed committer.new.state (D.faults committer.new.disk))) }
     ensures same { session.new.settings ≡ session.old.settings }
     ensures config { committer.new.config ≡ committer.old.config }
+    ensures goes_on { GoesOnFrom committer.new.state session.new }
     ensures story { (opened : Shelf) (start : D) (durable : ℕ)
-        → IsStory D.told D.may_leave D.moment D.left_since opened start (shelf_of session.old (store_of committer.old.closed committer.old.state.next (D.faults committer.old.disk))) durable committer.old.config committer.old.state committer.old.disk
-        → IsStory D.told D.may_leave D.moment D.left_since opened start (shelf_of session.new (store_of committer.new.closed committer.new.state.next (D.faults committer.new.disk))) (max durable (durable_by (command_view command) (reply_view result))) committer.new.config committer.new.state committer.new.disk }
+        → IsStory D.told D.may_leave D.moment D.left_since opened start (shelf_of session.old (store_of committer.old.closed committer.old.state (D.faults committer.old.disk))) durable committer.old.config committer.old.state committer.old.disk
+        → IsStory D.told D.may_leave D.moment D.left_since opened start (shelf_of session.new (store_of committer.new.closed committer.new.state (D.faults committer.new.disk))) (max durable (durable_by (command_view command) (reply_view result))) committer.new.config committer.new.state committer.new.disk }
 {
     match command {
         Command::Add { doc } => session.add(doc),

@@ -2,6 +2,7 @@ ghost use Rattle.std.specs.Prelude.{◌≡◌, ◌≢◌, ◌≤◌, ◌⊎◌, 
 ghost use Rattle.std.specs.Arc.{arc_value};
 ghost use Rattle.facet_disk.specs.Images.{Told};
 ghost use Rattle.facet_disk.specs.Calls.{Rose};
+ghost use Rattle.commit_store.specs.Committed.{segments_in};
 ghost use Rattle.facet_model.specs.Stored.{Decodes};
 ghost use Rattle.facet_words.specs.Answers.{opened_shelf};
 ghost use Rattle.facet_words.specs.CommandViews.{script_view};
@@ -31,9 +32,10 @@ fn serve<K: Sink, D: Disk>(
 ) -> Ended<D>
     requires fresh { opened.committer.closed ≡ None }
     requires config { opened.committer.config ≡ script.settings.config }
+    requires kept { (segments_in opened.committer.state.kept ≡ map arc_value opened.segments.items) × (opened.committer.state.labels ≡ length opened.labels) }
     requires decodes { Decodes opened.labels script.settings.config (map arc_value opened.segments.items) (docs_in opened.labels (map arc_value opened.segments.items)) }
     requires few { length (docs_in opened.labels (map arc_value opened.segments.items)) ≤ 1000000 }
-    ensures served { Served D.told D.may_leave D.moment D.left_since D.faults (script_view script) (opened_shelf opened.labels (docs_in opened.labels (map arc_value opened.segments.items)) (store_of None opened.committer.state.next (D.faults opened.committer.disk))) script.settings.config opened.committer.state opened.committer.disk result.disk (K.faults sink.old) (K.faults sink.new) (K.written sink.old) (K.written sink.new) result.status }
+    ensures served { Served D.told D.may_leave D.moment D.left_since D.faults (script_view script) (opened_shelf opened.labels (docs_in opened.labels (map arc_value opened.segments.items)) (store_of None opened.committer.state (D.faults opened.committer.disk))) script.settings.config opened.committer.state opened.committer.disk result.disk (K.faults sink.old) (K.faults sink.new) (K.written sink.old) (K.written sink.new) result.status }
     ensures opened { result.status ≢ Status.DiskFault }
 {
     let Opened {

@@ -7,7 +7,7 @@ ghost use Rattle.facet_words.specs.Commands.{add as add_command, refresh as refr
 ghost use Rattle.facet_replies.specs.ReplyViews.{reply_view};
 ghost use Rattle.facet_shell.specs.Searching.{search_view};
 ghost use Rattle.seg_decoding.specs.Decoding.{docs_in};
-ghost use Rattle.facet_shell.specs.Sessions.{shelf_of};
+ghost use Rattle.facet_shell.specs.Sessions.{FollowOn, IsFlushed, shelf_of};
 
 use crate::adding::add;
 use crate::flushing::flush;
@@ -51,7 +51,7 @@ impl Model for Session {
 
     ghost Value = { State };
 
-    ghost view = { λ s. record { settings = settings_view s.settings; labels = s.labels; docs = docs_in s.labels (map arc_value s.segments.items) ++ docs_of s.buffer.items; taken = s.taken; taken_labels = length s.view; waiting = length s.buffer.items } };
+    ghost view = { λ s. record { settings = settings_view s.settings; labels = s.labels; docs = docs_in s.labels (map arc_value s.segments.items) ++ docs_of s.buffer.items; taken = s.taken; taken_labels = length s.view; segments = map arc_value s.segments.items; waiting = length s.buffer.items } };
 
     ghost invariant = { λ s. IsKept s.settings.config s.labels s.view (map arc_value s.segments.items) s.published s.buffer.items s.taken s.stored };
 }
@@ -66,7 +66,7 @@ impl Session {
     ) -> Result<Session, NoMemory>
         requires decodes { Decodes labels settings.config (map arc_value segments.items) (docs_in labels (map arc_value segments.items)) }
         requires few { length (docs_in labels (map arc_value segments.items)) ≤ 1000000 }
-        ensures { IfOk result (λ s. s ≡ record { settings = settings_view settings; labels = labels; docs = docs_in labels (map arc_value segments.items); taken = length (docs_in labels (map arc_value segments.items)); taken_labels = length labels; waiting = 0 }) }
+        ensures { IfOk result (λ s. s ≡ record { settings = settings_view settings; labels = labels; docs = docs_in labels (map arc_value segments.items); taken = length (docs_in labels (map arc_value segments.items)); taken_labels = length labels; segments = map arc_value segments.items; waiting = 0 }) }
     {
         // Its clause says that these are a label list.
         let _ = labels.size();
@@ -90,6 +90,7 @@ impl Session {
     pub fn add(&mut self, doc: Document) -> Reply
         ensures right { (store : Store) → RightReply self.old.settings (shelf_of self.old store) (add_command doc) (reply_view result) (shelf_of self.new store) }
         ensures same { self.new.settings ≡ self.old.settings }
+        ensures segments { self.new.segments ≡ self.old.segments }
     {
         // Their clauses say that these are label lists.
         let _ = self.view.size();
@@ -110,6 +111,7 @@ impl Session {
     pub fn refresh(&mut self) -> Reply
         ensures right { (store : Store) → RightReply self.old.settings (shelf_of self.old store) refresh_command (reply_view result) (shelf_of self.new store) }
         ensures same { self.new.settings ≡ self.old.settings }
+        ensures segments { FollowOn self.old.segments self.new.segments }
     {
         // Their clauses say that these are label lists.
         let _ = self.view.size();
@@ -184,7 +186,7 @@ impl Session {
 
     /// The documents that wait become a segment.
     pub fn flush(&mut self) -> Result<(), NoMemory>
-        ensures flushed { OnOk result (self.new ≡ record self.old { waiting = 0 }) }
+        ensures flushed { OnOk result (IsFlushed self.old self.new) }
         ensures same { OnErr result (self.new ≡ self.old) }
     {
         // Its clause says that these are a label list.
@@ -204,6 +206,7 @@ impl Session {
 
     /// The segments of all documents but those that wait.
     pub fn segments(&self) -> &[Arc<Segment>]
+        ensures value { map arc_value result.now ≡ self.now.segments }
         ensures docs { self.now.waiting ≡ 0 → docs_in self.now.labels (map arc_value result.now) ≡ self.now.docs }
         ensures decodes { Decodes self.now.labels self.now.settings.config (map arc_value result.now) (docs_in self.now.labels (map arc_value result.now)) }
         ensures few { length (docs_in self.now.labels (map arc_value result.now)) ≤ 1000000 }

@@ -11,7 +11,7 @@ returns-in-Ok-open-clause-served g c =
     let e = c.in-Ok-open.ensures in
     inl (serves g.D.Disk.told g.D.Disk.may_leave g.D.Disk.moment g.D.Disk.left_since g.D.Disk.faults law (script_view c.args.script) c.in-Ok.config c.in-Ok.ensures c.args.disk _ _ _ _ _
     c.in-Ok-open.opened.labels (map arc_value c.in-Ok-open.opened.segments.items) c.in-Ok-open.opened.committer.state c.in-Ok-open.opened.committer.disk c.serve.result.disk
-    e.quiet e.still e.ok e.next e.committed c.size.ensures.list e.decodes (subst (λ xs. docs_in c.in-Ok-open.opened.labels (map arc_value xs) ≡ [] → map arc_value xs ≡ []) c.deref.ensures.value c.have_documents.ensures) c.serve.ensures.served)
+    e.quiet e.still e.ok e.next e.committed c.size.ensures.list e.decodes (subst (λ xs. docs_in c.in-Ok-open.opened.labels (map arc_value xs) ≡ [] → map arc_value xs ≡ []) c.deref.ensures.value c.have_documents.ensures) e.kept c.serve.ensures.served)
 
 pub returns-in-Err-clause-served : goal.returns-in-Err-clause-served
 returns-in-Err-clause-served g c =

@@ -7,9 +7,13 @@ use Rattle.facet_words.specs.Commands.{Settings}
 use Rattle.seg_decoding.specs.Decoding.{docs_in}
 use Rattle.facet_shell.specs.Serving.{IsWritten}
 use Rattle.facet_shell.specs.Stories.{IsStory}
-use Rattle.facet_shell.specs.Sessions.{State, shelf_of, store_of}
+use Rattle.facet_shell.specs.Sessions.{State, GoesOnFrom, shelf_of, store_of}
 use Rattle.facet_shell.proofs.Served.{served_none, served_some, writes_all}
+use Rattle.facet_shell.proofs.Started.{first_shelf, first_on_from}
 use Rattle.facet_shell.proofs.serving.serve.Goals as goal
+
+pub answer_all-requires-clause-goes_on : goal.answer_all-requires-clause-goes_on
+answer_all-requires-clause-goes_on g c κs within = subst (λ (s : State). GoesOnFrom c.args.opened.committer.state s) (sym c.in-Ok.ensures) (first_on_from (script_view c.args.script).settings c.args.opened.labels (map arc_value c.args.opened.segments.items) c.args.opened.committer.state c.requires.kept)
 
 pub returns-in_default-clause-served : goal.returns-in_default-clause-served
 returns-in_default-clause-served g c =
@@ -20,12 +24,13 @@ pub returns-in-Ok-answer_all-clause-served : goal.returns-in-Ok-answer_all-claus
 returns-in-Ok-answer_all-clause-served g c =
     let o = c.args.opened in
     let a = c.in-Ok-answer_all.ensures.answered in
-    let store = store_of c.args.opened.committer.closed c.args.opened.committer.state.next (g.D.Disk.faults c.args.opened.committer.disk) in
-    let opened : Shelf = opened_shelf c.args.opened.labels (docs_in c.args.opened.labels (map arc_value c.args.opened.segments.items)) (store_of None c.args.opened.committer.state.next (g.D.Disk.faults c.args.opened.committer.disk)) in
-    let is : shelf_of c.in-Ok.session (store_of c.args.opened.committer.closed c.args.opened.committer.state.next (g.D.Disk.faults c.args.opened.committer.disk)) ≡ opened =
-    λ i. shelf_of (c.in-Ok.ensures i) (store_of (c.requires.fresh i) c.args.opened.committer.state.next (g.D.Disk.faults c.args.opened.committer.disk)) in
+    let store = store_of c.args.opened.committer.closed c.args.opened.committer.state (g.D.Disk.faults c.args.opened.committer.disk) in
+    let opened : Shelf = opened_shelf c.args.opened.labels (docs_in c.args.opened.labels (map arc_value c.args.opened.segments.items)) (store_of None c.args.opened.committer.state (g.D.Disk.faults c.args.opened.committer.disk)) in
+    let is : shelf_of c.in-Ok.session (store_of c.args.opened.committer.closed c.args.opened.committer.state (g.D.Disk.faults c.args.opened.committer.disk)) ≡ opened =
+    (λ i. shelf_of (c.in-Ok.ensures i) (store_of (c.requires.fresh i) c.args.opened.committer.state (g.D.Disk.faults c.args.opened.committer.disk)))
+    ∙ first_shelf (script_view c.args.script).settings c.args.opened.labels (map arc_value c.args.opened.segments.items) c.args.opened.committer.state (g.D.Disk.faults c.args.opened.committer.disk) c.requires.kept.0 in
     let settings : c.in-Ok.session.settings ≡ (script_view c.args.script).settings = ap (λ (s : State). s.settings) c.in-Ok.ensures in
-    let last : Shelf = shelf_of c.answer_all.new.session (store_of c.answer_all.new.committer.closed c.answer_all.new.committer.state.next (g.D.Disk.faults c.answer_all.new.committer.disk)) in
+    let last : Shelf = shelf_of c.answer_all.new.session (store_of c.answer_all.new.committer.closed c.answer_all.new.committer.state (g.D.Disk.faults c.answer_all.new.committer.disk)) in
     let right : RightReplies (script_view c.args.script).settings opened (take a.many (script_view c.args.script).orders) a.replies last =
     subst (λ (s : Settings). RightReplies s opened (take a.many (script_view c.args.script).orders) a.replies last) settings (subst (λ (shelf : Shelf). RightReplies c.in-Ok.session.settings shelf (take a.many (script_view c.args.script).orders) a.replies last) is a.right) in
     served_some g.D.Disk.told g.D.Disk.may_leave g.D.Disk.moment g.D.Disk.left_since g.D.Disk.faults (script_view c.args.script) opened c.args.script.settings.config c.args.opened.committer.state c.args.opened.committer.disk _ _ _ _ _ _ (g.met.D.Disk g.world.𝓛 g.world.𝓜 g.world.𝓡 ((λ s x. x), (λ x. x), (λ x. x), λ x. x)).own
@@ -40,12 +45,13 @@ pub returns-clause-served : goal.returns-clause-served
 returns-clause-served g c =
     let o = c.args.opened in
     let a = c.in-Err.ensures.answered in
-    let store = store_of c.args.opened.committer.closed c.args.opened.committer.state.next (g.D.Disk.faults c.args.opened.committer.disk) in
-    let opened : Shelf = opened_shelf c.args.opened.labels (docs_in c.args.opened.labels (map arc_value c.args.opened.segments.items)) (store_of None c.args.opened.committer.state.next (g.D.Disk.faults c.args.opened.committer.disk)) in
-    let is : shelf_of c.in-Ok.session (store_of c.args.opened.committer.closed c.args.opened.committer.state.next (g.D.Disk.faults c.args.opened.committer.disk)) ≡ opened =
-    λ i. shelf_of (c.in-Ok.ensures i) (store_of (c.requires.fresh i) c.args.opened.committer.state.next (g.D.Disk.faults c.args.opened.committer.disk)) in
+    let store = store_of c.args.opened.committer.closed c.args.opened.committer.state (g.D.Disk.faults c.args.opened.committer.disk) in
+    let opened : Shelf = opened_shelf c.args.opened.labels (docs_in c.args.opened.labels (map arc_value c.args.opened.segments.items)) (store_of None c.args.opened.committer.state (g.D.Disk.faults c.args.opened.committer.disk)) in
+    let is : shelf_of c.in-Ok.session (store_of c.args.opened.committer.closed c.args.opened.committer.state (g.D.Disk.faults c.args.opened.committer.disk)) ≡ opened =
+    (λ i. shelf_of (c.in-Ok.ensures i) (store_of (c.requires.fresh i) c.args.opened.committer.state (g.D.Disk.faults c.args.opened.committer.disk)))
+    ∙ first_shelf (script_view c.args.script).settings c.args.opened.labels (map arc_value c.args.opened.segments.items) c.args.opened.committer.state (g.D.Disk.faults c.args.opened.committer.disk) c.requires.kept.0 in
     let settings : c.in-Ok.session.settings ≡ (script_view c.args.script).settings = ap (λ (s : State). s.settings) c.in-Ok.ensures in
-    let last : Shelf = shelf_of c.answer_all.new.session (store_of c.answer_all.new.committer.closed c.answer_all.new.committer.state.next (g.D.Disk.faults c.answer_all.new.committer.disk)) in
+    let last : Shelf = shelf_of c.answer_all.new.session (store_of c.answer_all.new.committer.closed c.answer_all.new.committer.state (g.D.Disk.faults c.answer_all.new.committer.disk)) in
     let right : RightReplies (script_view c.args.script).settings opened (take a.many (script_view c.args.script).orders) a.replies last =
     subst (λ (s : Settings). RightReplies s opened (take a.many (script_view c.args.script).orders) a.replies last) settings (subst (λ (shelf : Shelf). RightReplies c.in-Ok.session.settings shelf (take a.many (script_view c.args.script).orders) a.replies last) is a.right) in
     served_some g.D.Disk.told g.D.Disk.may_leave g.D.Disk.moment g.D.Disk.left_since g.D.Disk.faults (script_view c.args.script) opened c.args.script.settings.config c.args.opened.committer.state c.args.opened.committer.disk _ _ _ _ _ _ (g.met.D.Disk g.world.𝓛 g.world.𝓜 g.world.𝓡 ((λ s x. x), (λ x. x), (λ x. x), λ x. x)).own

@@ -1,12 +1,12 @@
-use Rattle.std.proofs.Common.{rules, ◌≡◌, map, sym, subst}
+use Rattle.std.proofs.Common.{rules, ◌≡◌, ◌∙◌, map, sym, ap, subst}
 use Rattle.std.specs.Arc.{arc_value}
 use Rattle.facet_disk.specs.declared.name.Dir.TheVariants.{Taxonomy, Index}
 use Rattle.commit_calls.specs.Held.{Below}
 use Rattle.store_opening.specs.Settled.{held_in}
-use Rattle.commit_store.specs.Committed.{Committed}
+use Rattle.commit_store.specs.Committed.{Committed, segments_in}
 use Rattle.commit_store.specs.Openings.{committed_read}
 use Rattle.commit_store.specs.Plannings.{IsCommittedAt}
-use Rattle.commit_store.proofs.FromDisk.{read_known, at_unchanged}
+use Rattle.commit_store.proofs.FromDisk.{all_segments, read_known, at_unchanged}
 use Rattle.commit_store.proofs.committer.Committer.open.Goals as goal
 
 pub returns-clause-committed : goal.returns-clause-committed
@@ -26,3 +26,11 @@ returns-clause-fresh g c = λ s is.
     let state : c.in-Ok-state_of.state ≡ committed_read c.in-Ok.read.newest c.in-Ok.read.labels (map arc_value c.in-Ok.read.segments.items) = search rules in
     let below : Below c.in-Ok.read.newest.next s.files = λ name some. c.in-Ok.ensures.below name ((c.in-Ok.ensures.listed s is).all name some) in
     subst (λ (st : Committed). Below st.next s.files) (sym state) below
+
+pub returns-clause-kept : goal.returns-clause-kept
+returns-clause-kept g c =
+    let labels = c.in-Ok.read.labels in let ss = map arc_value c.in-Ok.read.segments.items in let n = c.in-Ok.read.newest in
+    let state : c.in-Ok-state_of.state ≡ committed_read n labels ss = search rules in (
+      ap (λ (st : Committed). segments_in st.kept) state ∙ all_segments c.args.config labels n.document_parts.items ss c.in-Ok.ensures.named,
+      ap (λ (st : Committed). st.labels) state,
+    )

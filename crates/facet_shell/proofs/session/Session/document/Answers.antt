@@ -34,7 +34,7 @@ returns-in-Ok c =
     let docs : docs_in s.labels all ++ docs_of s.buffer.items ≡ docs_in s.view seen ++ rest = ap (λ (ds : List Doc). ds ++ docs_of s.buffer.items) c.self.invariant.first.1 ∙ append_assoc (docs_in s.view seen) c.self.invariant.first.0 (docs_of s.buffer.items) in
     record {
       right = λ store.
-          let state : State = record { settings = settings_view s.settings; labels = s.labels; docs = docs_in s.labels all ++ docs_of s.buffer.items; taken = s.taken; taken_labels = length s.view; waiting = length s.buffer.items } in
+          let state : State = record { settings = settings_view s.settings; labels = s.labels; docs = docs_in s.labels all ++ docs_of s.buffer.items; taken = s.taken; taken_labels = length s.view; segments = all; waiting = length s.buffer.items } in
           let is = shown_is s.settings.config (shelf_of state store) s.view seen rest c.args.at (reply_view c.in-Ok.reply) c.size.ensures.list c.size-2.ensures.list c.self.invariant.goes_on c.self.invariant.seen docs c.self.invariant.taken_size shown in
           subst (λ (now : State). RightReply now.settings (shelf_of now store) (document c.args.at) (reply_view c.in-Ok.reply) (shelf_of now store)) c.self.view_is (inl (is, refl));
     }

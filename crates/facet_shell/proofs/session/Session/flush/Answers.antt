@@ -8,8 +8,8 @@ use Rattle.facet_words.specs.CommandViews.{settings_view}
 use Rattle.seg_decoding.specs.Decoding.{docs_in, flushed}
 use Rattle.seg_decoding.specs.Entries.{docs_of}
 use Rattle.facet_shell.specs.Kept.{IsKept}
-use Rattle.facet_shell.specs.Sessions.{State}
-use Rattle.facet_shell.proofs.Keeping.{flushed_docs, kept_flushed}
+use Rattle.facet_shell.specs.Sessions.{State, IsFlushed}
+use Rattle.facet_shell.proofs.Keeping.{flushed_count, flushed_docs, flushed_follow, kept_flushed}
 use Rattle.facet_shell.proofs.session.Session.flush.Goals as goal
 
 pub invariant_of-self-2 : goal.invariant_of-self-2
@@ -27,5 +27,10 @@ returns-clause-flushed c =
     let all = map arc_value s.segments.items in
     let same : docs_in s.labels (map arc_value c.flush.new.segments.items) ++ docs_of c.flush.new.entries.items ≡ docs_in s.labels all ++ docs_of s.buffer.items =
     (λ i. docs_in s.labels (c.in_ok-flush.ensures.segments i) ++ docs_of (c.in_ok-flush.ensures.entries i)) ∙ append-nil (docs_in s.labels (flushed all s.buffer.items)) ∙ flushed_docs s.settings.config s.labels s.view all s.published s.buffer.items s.taken s.stored c.size.ensures.list c.self.invariant in
-    let after : List Doc → ℕ → State = λ docs waiting. record { settings = settings_view s.settings; labels = s.labels; docs = docs; taken = s.taken; taken_labels = length s.view; waiting = waiting } in
-    (λ i. after (same i) (length (c.in_ok-flush.ensures.entries i))) ∙ ap (λ (old : State). record old { waiting = 0 }) c.self.view_is
+    let after : List Doc → ℕ → State = λ docs waiting. record { settings = settings_view s.settings; labels = s.labels; docs = docs; taken = s.taken; taken_labels = length s.view; segments = map arc_value c.flush.new.segments.items; waiting = waiting } in
+    let follow = flushed_follow all s.buffer.items in
+    subst (λ (old : State). IsFlushed old (after (docs_in s.labels (map arc_value c.flush.new.segments.items) ++ docs_of c.flush.new.entries.items) (length c.flush.new.entries.items))) c.self.view_is (record {
+      rest = λ i. after (same i) (length (c.in_ok-flush.ensures.entries i));
+      count = ap length c.in_ok-flush.ensures.segments ∙ flushed_count all s.buffer.items;
+      on = (follow.0, c.in_ok-flush.ensures.segments ∙ follow.1);
+    })

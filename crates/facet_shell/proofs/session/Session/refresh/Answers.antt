@@ -1,4 +1,4 @@
-use Rattle.std.proofs.Common.{◌≡◌, ◌+◌, ◌++◌, ℕ, List, map, length, ap, sym, subst, arith}
+use Rattle.std.proofs.Common.{◌≡◌, ◌∙◌, ◌+◌, ◌++◌, ℕ, List, map, length, ap, sym, subst, arith}
 use Rattle.std.proofs.lemmas.List.{length-map}
 use Rattle.std.specs.Arc.{arc_value}
 use Rattle.facet_model.specs.Stored.{Records}
@@ -10,8 +10,8 @@ use Rattle.facet_replies.specs.Replies.{numbered}
 use Rattle.seg_decoding.specs.Decoding.{docs_in, flushed}
 use Rattle.seg_decoding.specs.Entries.{docs_of}
 use Rattle.facet_shell.specs.Kept.{IsKept}
-use Rattle.facet_shell.specs.Sessions.{State, shelf_of}
-use Rattle.facet_shell.proofs.Keeping.{kept_flushed, kept_published, refreshed}
+use Rattle.facet_shell.specs.Sessions.{State, FollowOn, shelf_of}
+use Rattle.facet_shell.proofs.Keeping.{flushed_follow, kept_flushed, kept_published, refreshed}
 use Rattle.facet_shell.proofs.session.Session.refresh.Goals as goal
 
 pub invariant_of-self : goal.invariant_of-self
@@ -31,10 +31,17 @@ returns-in-Ok-flush-clause-right c store =
     let s = c.self.inside in
     let all = map arc_value s.segments.items in
     let n : ℕ = s.stored + c.len-added.result in
-    let before : State = record { settings = settings_view s.settings; labels = s.labels; docs = docs_in s.labels all ++ docs_of s.buffer.items; taken = s.taken; taken_labels = length s.view; waiting = length s.buffer.items } in
-    let after : List (List (List ℕ)) → List Records → List Entry → State = λ v segments entries. record { settings = settings_view s.settings; labels = s.labels; docs = docs_in s.labels segments ++ docs_of entries; taken = n; taken_labels = length v; waiting = length entries } in
+    let before : State = record { settings = settings_view s.settings; labels = s.labels; docs = docs_in s.labels all ++ docs_of s.buffer.items; taken = s.taken; taken_labels = length s.view; segments = all; waiting = length s.buffer.items } in
+    let after : List (List (List ℕ)) → List Records → List Entry → State = λ v segments entries. record { settings = settings_view s.settings; labels = s.labels; docs = docs_in s.labels segments ++ docs_of entries; taken = n; taken_labels = length v; segments = segments; waiting = length entries } in
     let right = refreshed s.settings.config s.labels s.view all s.published s.buffer.items s.taken s.stored c.size-2.ensures.list c.self.invariant c.len-added.result (omega (arith, c.len-added.ensures)) (settings_view s.settings) store in
     subst (λ (old : State). RightReply old.settings (shelf_of old store) refresh (numbered n) (shelf_of (after c.in-Ok.view (map arc_value c.flush.new.segments.items) c.flush.new.entries.items) store)) c.self.view_is
     (subst (λ (v : List (List (List ℕ))). RightReply (settings_view s.settings) (shelf_of before store) refresh (numbered n) (shelf_of (after v (map arc_value c.flush.new.segments.items) c.flush.new.entries.items) store)) (sym c.in-Ok.ensures)
     (subst (λ (segments : List Records). RightReply (settings_view s.settings) (shelf_of before store) refresh (numbered n) (shelf_of (after s.labels segments c.flush.new.entries.items) store)) (sym c.in-Ok-flush.ensures.segments)
     (subst (λ (entries : List Entry). RightReply (settings_view s.settings) (shelf_of before store) refresh (numbered n) (shelf_of (after s.labels (flushed all s.buffer.items) entries) store)) (sym c.in-Ok-flush.ensures.entries) right)))
+
+pub returns-in-Ok-flush-clause-segments : goal.returns-in-Ok-flush-clause-segments
+returns-in-Ok-flush-clause-segments c =
+    let s = c.self.inside in
+    let all = map arc_value s.segments.items in
+    let follow = flushed_follow all s.buffer.items in
+    subst (λ (old : State). FollowOn old.segments (map arc_value c.flush.new.segments.items)) c.self.view_is (follow.0, c.in-Ok-flush.ensures.segments ∙ follow.1)
