@@ -100,6 +100,10 @@ def bent(random, data):
     data = bytearray(data)
     at, other = (random.randrange(len(data) or 1) for _ in range(2))
     kind, width = random.random(), random.choice([1, 1, 4, 8])
+    # half of the time the last byte of a small number, as an ordinal, a place or a count
+    low = [place + 3 for place in range(len(data) - 3) if not any(data[place : place + 3])]
+    if low and random.random() < 0.5:
+        at = random.choice(low)
     if not data or kind < 0.05:
         data += bytes(random.randrange(256) for _ in range(width))
     elif kind < 0.5:
