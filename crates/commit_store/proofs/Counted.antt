@@ -12,7 +12,7 @@ use Rattle.seg_grammar.specs.Spelling.{seg_bytes}
 use Rattle.commit_store.specs.Committed.{Committed, Kept, segments_in}
 use Rattle.commit_store.specs.Drafts.{Drafted, Placed, taken, placed_by, place, placed, are_same, with_index, with_labels, nothing_drafted, labels_first, is_longer, drafted, committed_after}
 use Rattle.commit_store.proofs.Held.{Labels}
-use Rattle.commit_store.proofs.SameBytes.{same_length, lengths_differ}
+use Rattle.commit_store.proofs.SameBytes.{taken_none, same_length, lengths_differ}
 
 same_bytes : (bytes : List ℕ) → bytes_eq bytes bytes ≡ true
 same_bytes bytes = (bytes_decides bytes bytes).1 refl
@@ -22,10 +22,6 @@ same_bytes bytes = (bytes_decides bytes bytes).1 refl
 taken_first : (k : Kept) (ks : List Kept) → taken (k ∷ ks) (seg_bytes k.segment) ≡ Some (k.part, ks)
 unfolding taken
 taken_first k ks = rw (same_bytes (seg_bytes k.segment)) refl
-
-taken_of_none : (bytes : List ℕ) → taken [] bytes ≡ None
-unfolding taken
-taken_of_none bytes = refl
 
 same_again : (ks : List Kept) → are_same ks (segments_in ks) ≡ true
 unfolding are_same
@@ -47,7 +43,7 @@ new_placed d before [] = omega arith
 new_placed d before (s ∷ more) =
     let p : Placed = record { draft = d; behind = []; kept = before } in
     let one = placed_by p s None in
-    let first = ap (λ o. (fold place (placed_by p s o) more).draft.next) (taken_of_none (seg_bytes s)) in
+    let first = ap (λ o. (fold place (placed_by p s o) more).draft.next) (taken_none [] 0 (seg_bytes s) (omega arith)) in
     let others = new_placed one.draft one.kept more in
     omega (arith, first, others)
 
