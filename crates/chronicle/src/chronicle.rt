@@ -1,7 +1,7 @@
 ghost use Rattle.std.specs.Prelude.{◌≡◌, ◌<◌, ◌^◌, ◌-◌, ◌⊎◌, true, false, ◌++◌, [], ◌∷◌, IfOk, IfErr};
 ghost use mathlib.Core.List.{IsPrefix};
 ghost use Rattle.chronicle.specs.History.{entries, numbered, longer};
-ghost use Rattle.chronicle.specs.Shown.{mine, MayTake, MayEnter, SameToken, SeesOn, MakesOne, IsMadeFrom, IsNoteOf, IsCounted};
+ghost use Rattle.chronicle.specs.Shown.{mine, MayTake, MayGive, MayEnter, SameToken, EndsWith, SeesOn, MakesOne, IsMadeFrom, IsNoteOf, IsCounted};
 
 use crate::board;
 use crate::knowledge::Knowledge;
@@ -64,6 +64,7 @@ impl<V: Standing> Chronicle<V> {
                     badge: seat.into_badge(),
                     number: 0,
                     made: 0,
+                    ended: false,
                 };
                 Ok((Chronicle { table }, token))
             }
@@ -93,6 +94,7 @@ impl<V: Standing> Chronicle<V> {
             badge: made.into_badge(),
             number: first.made,
             made: 0,
+            ended: false,
         }
     }
 
@@ -110,6 +112,7 @@ impl<V: Standing> Chronicle<V> {
             badge: note.into_badge(),
             number: 0,
             made: 0,
+            ended: false,
         }
     }
 
@@ -130,6 +133,7 @@ impl<V: Standing> Chronicle<V> {
             badge: teller,
             number: _,
             made: _,
+            ended: _,
         } = from;
         board::tell_seat::<V>(&self.table.shared, &mut told, teller.into_seat());
         into.badge = told.into_badge();
@@ -173,7 +177,7 @@ impl<V: Standing> Chronicle<V> {
     /// Gives the value back, and passes the turn on. It never waits.
     pub fn give(&self, token: &mut Token<V::Entry>, value: V)
         requires own { token.old.identity ≡ self.now }
-        requires turn { token.old.holds_turn ≡ true }
+        requires turn { MayGive token.old }
         requires value { V.stands value (entries token.old.seen) × (V.frame value ≡ token.old.frame) }
         ensures idle { SameToken token.old token.new × (token.new.holds_turn ≡ false) }
         ensures seen { (token.new.seen ≡ token.old.seen) × (mine token.new ≡ mine token.old) }
@@ -184,16 +188,18 @@ impl<V: Standing> Chronicle<V> {
         token.badge = holder.into_badge();
     }
 
-    /// Takes the turn for good: as [`take`](Chronicle::take), and the value is not to come back. Every later `take` waits for ever. A note of
-    /// the token can still be made.
+    /// Takes the turn for good: as [`take`](Chronicle::take), and no call gives the turn back. Every later `take` waits for ever. The token can
+    /// enter nothing more; a note of it can still be made.
     pub fn end<R: Wait>(&self, rt: &R, token: &mut Token<V::Entry>) -> V
         requires own { token.old.identity ≡ self.now }
         requires idle { MayTake token.old }
-        ensures turn { SameToken token.old token.new × (token.new.holds_turn ≡ true) }
+        ensures ended { EndsWith token.old token.new }
         ensures value { V.stands result (entries token.new.seen) × (V.frame result ≡ token.new.frame) }
         ensures more { SeesOn token.old token.new }
         ensures counted { IsCounted token.new }
     {
-        self.take(rt, token)
+        let value = self.take(rt, token);
+        token.ended = true;
+        value
     }
 }

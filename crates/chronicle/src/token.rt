@@ -7,13 +7,15 @@ use std::marker::Model;
 /// What its holder has seen of a chronicle, or a note of that. Contracts see a [`Shown`]: the seen entries, the token's number, the chronicle's
 /// identity and its frame.
 ///
-/// A token is two words of memory, owns nothing, and may cross threads and be shared. Dropping one loses nothing, unless it has the turn: then
+/// A token is three words of memory, owns nothing, and may cross threads and be shared. Dropping one loses nothing, unless it has the turn: then
 /// nobody gets the turn again.
 #[derive(Drop)]
 pub struct Token<E> {
     pub(crate) badge: Badge<Knowledge<E>>,
     pub(crate) number: u64,
     pub(crate) made: u64,
+    // It took the turn for good.
+    pub(crate) ended: bool,
 }
 
 impl<E> Model for Token<E> {

@@ -1,5 +1,5 @@
 ghost use Rattle.std.specs.Prelude.{◌≡◌, ◌≤◌, ◌∷◌, [], ℕ, true, false};
-ghost use Rattle.chronicle.specs.Shown.{SameToken, MayTake};
+ghost use Rattle.chronicle.specs.Shown.{EndsWith, MayTake};
 
 use crate::loans::Loan;
 use crate::titles::Title;
@@ -54,7 +54,7 @@ pub(crate) fn end_archive<D: Disk, R: Wait>(
     token: &mut Token<Archived>,
 ) -> D
     requires { (token.old.identity ≡ archive.now) × MayTake token.old }
-    ensures token { SameToken token.old token.new × (token.new.holds_turn ≡ true) }
+    ensures token { EndsWith token.old token.new }
     ensures later { (started : ℕ) → token.old.frame.numbers ≡ started ∷ [] → started ≤ D.faults result }
 {
     let Archive {

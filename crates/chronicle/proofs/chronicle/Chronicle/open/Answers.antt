@@ -1,4 +1,4 @@
-use Rattle.std.proofs.Common.{rules, ◌≡◌, ◌∙◌, ap, inl, subst, sym, [], ◌∷◌, Some}
+use Rattle.std.proofs.Common.{rules, ◌≡◌, ◌∙◌, ap, inl, subst, sym, false, [], ◌∷◌, Some}
 use Rattle.chronicle.specs.History.{entries, numbered, NumbersUpTo}
 use Rattle.chronicle.specs.TokenView.{shown}
 use Rattle.chronicle.proofs.Entries.{NumbersUpTo-numbered, entries-numbered}
@@ -18,16 +18,16 @@ invariant_of-token g c =
 
 pub returns-in-Ok-clause-entries : goal.returns-in-Ok-clause-entries
 returns-in-Ok-clause-entries g c =
-    let token = shown c.into_badge.result.table_id c.into_badge.result.views in
+    let token = shown c.into_badge.result.table_id false c.into_badge.result.views in
     let begun = g.V.Standing.opening c.args.value in
     let seen : token.seen ≡ numbered 0 begun = search rules in
     ap entries seen ∙ entries-numbered 0 begun
 
 pub returns-in-Ok-clause-mine : goal.returns-in-Ok-clause-mine
 returns-in-Ok-clause-mine g c =
-    mine-numbered (shown c.into_badge.result.table_id c.into_badge.result.views) (g.V.Standing.opening c.args.value) (search rules) (search rules) (search rules)
+    mine-numbered (shown c.into_badge.result.table_id false c.into_badge.result.views) (g.V.Standing.opening c.args.value) (search rules) (search rules) (search rules)
 
 pub returns-in-Ok-clause-counted : goal.returns-in-Ok-clause-counted
 returns-in-Ok-clause-counted g c =
     let seen : c.in-Ok.seat.me.0.seen ≡ numbered 0 (g.V.Standing.opening c.args.value) = search rules in
-    counted c.into_badge.result.table_id c.into_badge.result.views c.in-Ok.seat.me.0 (search rules) (λ m by. subst (λ l. NumbersUpTo m l) (sym seen) (NumbersUpTo-numbered m (g.V.Standing.opening c.args.value)))
+    counted c.into_badge.result.table_id false c.into_badge.result.views c.in-Ok.seat.me.0 (search rules) (λ m by. subst (λ l. NumbersUpTo m l) (sym seen) (NumbersUpTo-numbered m (g.V.Standing.opening c.args.value)))
