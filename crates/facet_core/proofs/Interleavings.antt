@@ -26,4 +26,4 @@ keeps_run s [] v = v
 keeps_run s (e ∷ events) v = keeps_run (step s e) events (keeps_step s e v)
 
 pub valid_from_empty : (events : List CoreEvent) → Valid (fold step empty_core events)
-valid_from_empty events = keeps_run empty_core events (record { labels = refl; known = refl; published = refl; refresh = refl; commit = refl; renamed = refl; tax_may = refl; idx_may = refl; kept = refl; tax_read = refl; idx_read = refl })
+valid_from_empty events = keeps_run empty_core events (record { labels = refl; known = refl; published = refl; refresh = refl; commit = refl; calls = refl; renamed = refl; tax_may = refl; idx_may = refl; kept = refl; tax_read = refl; idx_read = refl })

@@ -61,10 +61,10 @@ all_cover s n v =
 -- ---- the events
 
 with_refresh : (s : State) (r : Refresh) → Valid s → is_good_refresh s r ≡ true → Valid (record s { refresh = Some r })
-with_refresh s r v good = record { labels = v.labels; known = v.known; published = v.published; refresh = good; commit = v.commit; renamed = v.renamed; tax_may = v.tax_may; idx_may = v.idx_may; kept = v.kept; tax_read = v.tax_read; idx_read = v.idx_read }
+with_refresh s r v good = record { labels = v.labels; known = v.known; published = v.published; refresh = good; commit = v.commit; calls = v.calls; renamed = v.renamed; tax_may = v.tax_may; idx_may = v.idx_may; kept = v.kept; tax_read = v.tax_read; idx_read = v.idx_read }
 
 no_refresh : (s : State) → Valid s → Valid (record s { refresh = None })
-no_refresh s v = record { labels = v.labels; known = v.known; published = v.published; refresh = refl; commit = v.commit; renamed = v.renamed; tax_may = v.tax_may; idx_may = v.idx_may; kept = v.kept; tax_read = v.tax_read; idx_read = v.idx_read }
+no_refresh s v = record { labels = v.labels; known = v.known; published = v.published; refresh = refl; commit = v.commit; calls = v.calls; renamed = v.renamed; tax_may = v.tax_may; idx_may = v.idx_may; kept = v.kept; tax_read = v.tax_read; idx_read = v.idx_read }
 
 pub chosen : (b : Bool) (s t : State) → Valid s → Valid t → Valid (cond b s t)
 chosen true s t v w = v
@@ -90,12 +90,12 @@ keeps_take_labels s session (Some r) is v =
 
 pub keeps_begin_commit : (s : State) → Valid s → Valid (with_commit s)
 keeps_begin_commit s v = chosen (is_none s.commit && not s.closed) (record s { commit = Some (record { operations = length s.history; labels = None; calls = 0 }) }) s
-    (record { labels = v.labels; known = v.known; published = v.published; refresh = v.refresh; commit = and_from _ true (and_from _ true (and_from _ _ (itself (length s.history)) (indexes_below s v)) refl) refl; renamed = refl; tax_may = v.tax_may; idx_may = v.idx_may; kept = v.kept; tax_read = v.tax_read; idx_read = v.idx_read }) v
+    (record { labels = v.labels; known = v.known; published = v.published; refresh = v.refresh; commit = and_from _ true (and_from _ true (and_from _ _ (itself (length s.history)) (indexes_below s v)) refl) refl; calls = refl; renamed = refl; tax_may = v.tax_may; idx_may = v.idx_may; kept = v.kept; tax_read = v.tax_read; idx_read = v.idx_read }) v
 
 pub keeps_drop_commit : (s : State) (o : Option Commit) → Valid s → Valid (without_commit s o)
 keeps_drop_commit s None v = v
 keeps_drop_commit s (Some c) v = chosen (c.calls == 0) (record s { commit = None }) s
-    (record { labels = v.labels; known = v.known; published = v.published; refresh = v.refresh; commit = refl; renamed = refl; tax_may = v.tax_may; idx_may = v.idx_may; kept = v.kept; tax_read = v.tax_read; idx_read = v.idx_read }) v
+    (record { labels = v.labels; known = v.known; published = v.published; refresh = v.refresh; commit = refl; calls = refl; renamed = refl; tax_may = v.tax_may; idx_may = v.idx_may; kept = v.kept; tax_read = v.tax_read; idx_read = v.idx_read }) v
 
 pub map_push : {A B : Type 0} (f : A → B) (xs : List A) (x : A) → map f (xs ++ x ∷ []) ≡ map f xs ++ f x ∷ []
 map_push f [] x = refl
@@ -121,7 +121,7 @@ published_if s r (Some m) is good v =
     let parts = and_parts (nat_le r.operations (length s.history) && is_at_least r.operations (operations_of s.published)) (are_labels_taken s (labels_of s.published) r.operations r.labels) good in
     let first = and_parts (nat_le r.operations (length s.history)) (is_at_least r.operations (operations_of s.published)) parts.0 in
     let taken : are_labels_taken s (labels_of s.published) r.operations (Some m) ≡ true = sym (ap (are_labels_taken s (labels_of s.published) r.operations) is) ∙ parts.1 in
-    record { labels = v.labels; known = v.known; published = published_more s r.operations m v first.0 first.1 taken; refresh = refl; commit = v.commit; renamed = v.renamed; tax_may = v.tax_may; idx_may = v.idx_may; kept = v.kept; tax_read = v.tax_read; idx_read = v.idx_read }
+    record { labels = v.labels; known = v.known; published = published_more s r.operations m v first.0 first.1 taken; refresh = refl; commit = v.commit; calls = v.calls; renamed = v.renamed; tax_may = v.tax_may; idx_may = v.idx_may; kept = v.kept; tax_read = v.tax_read; idx_read = v.idx_read }
 
 pub keeps_publish : (s : State) (session : ℕ) (o : Option Refresh) → s.refresh ≡ o → Valid s → Valid (with_publication s session o)
 keeps_publish s session None is v = v

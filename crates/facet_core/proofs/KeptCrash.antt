@@ -1,8 +1,8 @@
 -- A crash keeps the core valid.
-use Rattle.std.proofs.Common.{zero, suc, ◌≡◌, ℕ, ◌+◌, ◌*◌, ◌/◌, ◌%◌, ◌<◌, ◌≤◌, Bool, true, false, List, [], ◌∷◌, length, take, Option, Some, None, refl, sym, ap, ◌∙◌, arith, length-take-le}
+use Rattle.std.proofs.Common.{zero, suc, ◌≡◌, ℕ, ◌+◌, ◌*◌, ◌/◌, ◌%◌, ◌<◌, ◌≤◌, Bool, true, false, List, [], ◌∷◌, length, take, refl, sym, ap, ◌∙◌, arith, length-take-le}
 use Rattle.std.proofs.Math.Nat.{div-lt_iff_lt-mul, mod-lt, mul-zero}
 use Rattle.std.specs.Prelude.{◌==◌, ◌&&◌, ◌||◌, not, nat_lt, nat_le, if◌then◌else◌, slice_index, slice_index_or}
-use Rattle.std.specs.List.{list_all, enumerate_from, last_or}
+use Rattle.std.specs.List.{list_all, enumerate_from}
 use Rattle.std.proofs.lemmas.Bool.{and_parts, and_from, le-leb, leb-true, ltb-true, lt-ltb, eq-eqb}
 use Rattle.std.proofs.lemmas.List.Sums.{AllPass-from_list_all}
 use Rattle.std.proofs.lemmas.List.Folds.{list_all-map}
@@ -65,13 +65,14 @@ module _ (s : State) (a : ℕ) (i : ℕ × ℕ) (v : Valid s) (least : 1 ≤ a) 
   enough_operations : nat_le i.0 (length (take i.0 s.history)) ≡ true
   enough_operations = le-leb i.0 (length (take i.0 s.history)) (omega (arith, all_operations))
 
-  crash_valid : is_kept (after_crash s a i) (last_or None s.acknowledged) ≡ true → Valid (after_crash s a i)
+  crash_valid : list_all (is_kept (after_crash s a i)) s.acknowledged ≡ true → Valid (after_crash s a i)
   crash_valid kept = record {
     labels = kept_list;
     known = sym (list_all-map (λ doc. list_all (stands (take a s.labels)) doc.labels) (λ (o : Operation). o.doc) (take i.0 s.history)) ∙ kept_stand;
     published = and_from _ true (and_from _ _ (and_from _ _ enough_operations enough_labels) pair_covers) refl;
     refresh = refl;
     commit = refl;
+    calls = refl;
     renamed = refl;
     tax_may = and_from _ true (and_from _ _ (le-leb 1 a least) enough_labels) refl;
     idx_may = and_from _ true (and_from _ _ (and_from _ _ enough_operations index_covers) (and_from _ true (le-leb i.1 a needs) refl)) refl;
@@ -101,16 +102,15 @@ module _ (s : State) (at at_index : ℕ) (v : Valid s) (lt : at < length s.tax_m
   needed : i.1 ≤ a
   needed = leb-true i.1 a (AllPass-from_list_all (nat_le i.1) s.tax_may (and_parts (nat_le i.0 (length s.history) && covers s.labels i.1 s.history i.0) (list_all (nat_le i.1) s.tax_may) good).1 at 0 lt)
 
-  nothing_lost : (o : Option (ℕ × ℕ)) → is_kept s o ≡ true → is_kept (after_crash s a i) o ≡ true
-  nothing_lost None h = refl
-  nothing_lost (Some p) h =
+  nothing_lost : (p : ℕ × ℕ) → is_kept s p ≡ true → is_kept (after_crash s a i) p ≡ true
+  nothing_lost p h =
       let both = and_parts (list_all (nat_le p.1) s.tax_may) (list_all (λ j. nat_le p.0 j.0) s.idx_may) h in
       let first : nat_le p.1 a ≡ true = AllPass-from_list_all (nat_le p.1) s.tax_may both.0 at 0 lt in
       let second : nat_le p.0 i.0 ≡ true = AllPass-from_list_all (λ (j : ℕ × ℕ). nat_le p.0 j.0) s.idx_may both.1 at_index s.idx_read lt_index in
       and_from _ _ (and_from _ true first refl) (and_from _ true second refl)
 
   picked_valid : Valid (after_crash s a i)
-  picked_valid = crash_valid s a i v (leb-true 1 a bounds.0) (leb-true a (length s.labels) bounds.1) good needed (nothing_lost (last_or None s.acknowledged) v.kept)
+  picked_valid = crash_valid s a i v (leb-true 1 a bounds.0) (leb-true a (length s.labels) bounds.1) good needed (weaker (is_kept s) (is_kept (after_crash s a i)) nothing_lost s.acknowledged v.kept)
 
 pub keeps_crash : (s : State) (keep : ℕ) → Valid s → Valid (with_crash s keep)
 keeps_crash s keep v = by (nat_lt keep (length s.tax_may * length s.idx_may)) refl
@@ -121,16 +121,3 @@ keeps_crash s keep v = by (nat_lt keep (length s.tax_may * length s.idx_may)) re
         let some : 0 < length s.idx_may = not_zero keep (length s.tax_may) (length s.idx_may) below in
         rw e (picked_valid s (keep / length s.idx_may) (keep % length s.idx_may) v ((div-lt_iff_lt-mul some).1 below) (mod-lt keep some))
     by false e = rw e v
-
-pub crash_keeps_acknowledged : (s : State) (keep : ℕ) → Valid s → list_all (λ p. is_kept s (Some p)) s.acknowledged ≡ true → list_all (λ p. is_kept (with_crash s keep) (Some p)) (with_crash s keep).acknowledged ≡ true
-crash_keeps_acknowledged s keep v h = by (nat_lt keep (length s.tax_may * length s.idx_may)) refl
-  where
-    by : (b : Bool) → nat_lt keep (length s.tax_may * length s.idx_may) ≡ b → list_all (λ p. is_kept (with_crash s keep) (Some p)) (with_crash s keep).acknowledged ≡ true
-    by true e =
-        let below : keep < length s.tax_may * length s.idx_may = ltb-true keep (length s.tax_may * length s.idx_may) e in
-        let some : 0 < length s.idx_may = not_zero keep (length s.tax_may) (length s.idx_may) below in
-        let at = keep / length s.idx_may in
-        let at_index = keep % length s.idx_may in
-        let t = after_crash s (slice_index s.tax_may at) (slice_index_or s.idx_may at_index s.idx_read) in
-        rw e (weaker (λ p. is_kept s (Some p)) (λ p. is_kept t (Some p)) (λ p. nothing_lost s at at_index v ((div-lt_iff_lt-mul some).1 below) (mod-lt keep some) (Some p)) s.acknowledged h)
-    by false e = rw e h

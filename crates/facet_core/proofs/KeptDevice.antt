@@ -1,9 +1,9 @@
 -- A device call keeps the core valid.
-use Rattle.std.proofs.Common.{◌≡◌, ℕ, ◌+◌, ◌<◌, ◌≤◌, ◌⊎◌, Bool, true, false, List, [], ◌∷◌, ◌++◌, length, Option, Some, None, refl, sym, ap, ◌∙◌, arith, rules, inl, inr}
+use Rattle.std.proofs.Common.{◌≡◌, ℕ, ◌+◌, ◌<◌, ◌≤◌, Bool, true, false, List, [], ◌∷◌, ◌++◌, length, Option, Some, None, refl, sym, ap, ◌∙◌, arith, rules}
 use Rattle.std.specs.Prelude.{◌==◌, ◌&&◌, ◌||◌, not, nat_lt, nat_le, is_none, unwrap_or}
-use Rattle.std.specs.List.{list_all, list_any, last_or}
+use Rattle.std.specs.List.{list_all, list_any}
 use Rattle.std.specs.Option.{option_map_or}
-use Rattle.std.proofs.lemmas.Bool.{and_parts, and_from, or_left, or_right, le-leb, leb-true, lt-ltb, le-ltb, eqb-true, eqb-false, eq-eqb, ne_eqb, cases_lt}
+use Rattle.std.proofs.lemmas.Bool.{and_parts, and_from, or_left, or_right, le-leb, leb-true, lt-ltb, le-ltb, eqb-true, eqb-false, ltb-true, eq-eqb, ne_eqb}
 use Rattle.std.proofs.lemmas.List.Folds.{list_all-append, list_all-map, list_any-append}
 use Rattle.facet_model.specs.Histories.{covers}
 use Rattle.facet_model.specs.Core.{State, Commit, device_done, device_failed, labels_of_commit, with_device}
@@ -56,9 +56,8 @@ module _ (s : State) (n k m : ℕ) (v : Valid s)
   index_pushed = weaker (is_good_index s) (λ i. nat_le i.0 (length s.history) && covers s.labels i.1 s.history i.0 && list_all (nat_le i.1) (s.tax_may ++ m ∷ []))
       (λ i h. let both = and_parts (nat_le i.0 (length s.history) && covers s.labels i.1 s.history i.0) (list_all (nat_le i.1) s.tax_may) h in and_from _ _ both.0 (push (nat_le i.1) s.tax_may m both.1 (at_most i.1 both.1))) s.idx_may v.idx_may
 
-  kept_pushed : (o : Option (ℕ × ℕ)) → is_kept s o ≡ true → is_kept (record s { tax_may = s.tax_may ++ m ∷ [] }) o ≡ true
-  kept_pushed None h = refl
-  kept_pushed (Some p) h = let both = and_parts (list_all (nat_le p.1) s.tax_may) (list_all (λ i. nat_le p.0 i.0) s.idx_may) h in and_from _ _ (push (nat_le p.1) s.tax_may m both.0 (at_most p.1 both.0)) both.1
+  kept_pushed : (p : ℕ × ℕ) → is_kept s p ≡ true → is_kept (record s { tax_may = s.tax_may ++ m ∷ [] }) p ≡ true
+  kept_pushed p h = let both = and_parts (list_all (nat_le p.1) s.tax_may) (list_all (λ i. nat_le p.0 i.0) s.idx_may) h in and_from _ _ (push (nat_le p.1) s.tax_may m both.0 (at_most p.1 both.0)) both.1
 
   -- call 9 failed: its rename may have happened
   pub failed_at_9 : Valid (record s { commit = None; closed = true; tax_may = s.tax_may ++ m ∷ [] })
@@ -68,10 +67,11 @@ module _ (s : State) (n k m : ℕ) (v : Valid s)
     published = v.published;
     refresh = v.refresh;
     commit = refl;
+    calls = refl;
     renamed = refl;
     tax_may = tax_pushed;
     idx_may = index_pushed;
-    kept = kept_pushed (last_or None s.acknowledged) v.kept;
+    kept = weaker (is_kept s) (is_kept (record s { tax_may = s.tax_may ++ m ∷ [] })) kept_pushed s.acknowledged v.kept;
     tax_read = list_any-append (λ a. a == s.tax_read) s.tax_may (m ∷ []) ∙ or_left _ _ v.tax_read;
     idx_read = v.idx_read;
   }
@@ -83,17 +83,18 @@ module _ (s : State) (n k m : ℕ) (v : Valid s)
     published = v.published;
     refresh = v.refresh;
     commit = and_from _ _ (and_from _ _ (and_from _ _ there above) (or_right (k == 0) true refl)) (and_from _ _ (and_from _ _ bound.0 (push (λ a. nat_le a m) s.tax_may m bound.1 (le-leb m m (omega arith)))) covered);
+    calls = lt-ltb k 12 (omega (arith, is));
     renamed = and_from _ _ (and_from _ _ (or_right (nat_lt k 9) _ (eq-eqb m m refl)) (or_left _ _ (lt-ltb k 10 (omega (arith, is))))) (or_left _ _ (lt-ltb k 11 (omega (arith, is))));
     tax_may = tax_pushed;
     idx_may = index_pushed;
-    kept = kept_pushed (last_or None s.acknowledged) v.kept;
+    kept = weaker (is_kept s) (is_kept (record s { tax_may = s.tax_may ++ m ∷ [] })) kept_pushed s.acknowledged v.kept;
     tax_read = list_any-append (λ a. a == m) s.tax_may (m ∷ []) ∙ or_right _ _ (ap (λ b. b || false) (eq-eqb m m refl));
     idx_read = v.idx_read;
   }
 
   -- any other call that failed
   pub failed_else : Valid (record s { commit = None; closed = true })
-  failed_else = record { labels = v.labels; known = v.known; published = v.published; refresh = v.refresh; commit = refl; renamed = refl; tax_may = v.tax_may; idx_may = v.idx_may; kept = v.kept; tax_read = v.tax_read; idx_read = v.idx_read }
+  failed_else = record { labels = v.labels; known = v.known; published = v.published; refresh = v.refresh; commit = refl; calls = refl; renamed = refl; tax_may = v.tax_may; idx_may = v.idx_may; kept = v.kept; tax_read = v.tax_read; idx_read = v.idx_read }
 
 pub in_pairs : (q : ℕ → Bool) (xs : List (ℕ × ℕ)) (x : ℕ × ℕ) → list_any (is_same_pair x) xs ≡ true → list_all (λ i. q i.0) xs ≡ true → q x.0 ≡ true
 in_pairs q [] x some each = absurd (search (rules, some))
@@ -108,10 +109,6 @@ alone_least m [] h = refl
 alone_least m (x ∷ []) h = let same : x ≡ m = eqb-true x m h in and_from _ true (le-leb m x (omega (arith, same))) refl
 alone_least m (x ∷ y ∷ ys) h = absurd cc
 
-last_push : {A : Type 0} (o : Option A) (xs : List A) (x : A) → last_or o (xs ++ x ∷ []) ≡ Some x
-last_push o [] x = refl
-last_push o (y ∷ xs) x = last_push (Some y) xs x
-
 module _ (s : State) (n k m : ℕ) (v : Valid s)
     (there : nat_le n (length s.history) ≡ true) (above : is_at_least n (operations_of s.idx_may) ≡ true)
     (taken : are_labels_taken s s.tax_may n (Some m) ≡ true) (read : (s.tax_read == m) ≡ true) where
@@ -124,9 +121,8 @@ module _ (s : State) (n k m : ℕ) (v : Valid s)
   itself_pair : is_same_pair (n, m) (n, m) ≡ true
   itself_pair = and_from _ _ (eq-eqb n n refl) (eq-eqb m m refl)
 
-  kept_one : (o : Option (ℕ × ℕ)) → is_kept s o ≡ true → is_kept (record s { tax_may = m ∷ [] }) o ≡ true
-  kept_one None h = refl
-  kept_one (Some p) h = let both = and_parts (list_all (nat_le p.1) s.tax_may) (list_all (λ i. nat_le p.0 i.0) s.idx_may) h in and_from _ _ (and_from _ true (at_most s n k m v there above taken p.1 both.0) refl) both.1
+  kept_one : (p : ℕ × ℕ) → is_kept s p ≡ true → is_kept (record s { tax_may = m ∷ [] }) p ≡ true
+  kept_one p h = let both = and_parts (list_all (nat_le p.1) s.tax_may) (list_all (λ i. nat_le p.0 i.0) s.idx_may) h in and_from _ _ (and_from _ true (at_most s n k m v there above taken p.1 both.0) refl) both.1
 
   pub done_10 : k ≡ 10 → Valid (record s { commit = Some (next s n k m v there above taken); tax_may = m ∷ [] })
   done_10 is = record {
@@ -135,11 +131,12 @@ module _ (s : State) (n k m : ℕ) (v : Valid s)
     published = v.published;
     refresh = v.refresh;
     commit = and_from _ _ (and_from _ _ (and_from _ _ there above) (or_right (k == 0) true refl)) (and_from _ _ (and_from _ _ bounds.0 (and_from _ true (le-leb m m (omega arith)) refl)) covers_it);
+    calls = lt-ltb k 12 (omega (arith, is));
     renamed = and_from _ _ (and_from _ _ (or_right (nat_lt k 9) _ read) (or_right (nat_lt k 10) _ (eq-eqb m m refl))) (or_left _ _ (lt-ltb k 11 (omega (arith, is))));
     tax_may = and_from _ true (and_from _ _ (least s n k m v there above taken) bounds.0) refl;
     idx_may = weaker (is_good_index s) (λ i. nat_le i.0 (length s.history) && covers s.labels i.1 s.history i.0 && list_all (nat_le i.1) (m ∷ []))
         (λ i h. let both = and_parts (nat_le i.0 (length s.history) && covers s.labels i.1 s.history i.0) (list_all (nat_le i.1) s.tax_may) h in and_from _ _ both.0 (and_from _ true (at_most s n k m v there above taken i.1 both.1) refl)) s.idx_may v.idx_may;
-    kept = kept_one (last_or None s.acknowledged) v.kept;
+    kept = weaker (is_kept s) (is_kept (record s { tax_may = m ∷ [] })) kept_one s.acknowledged v.kept;
     tax_read = ap (λ b. b || false) (eq-eqb m s.tax_read (sym (eqb-true s.tax_read m read)));
     idx_read = v.idx_read;
   }
@@ -154,11 +151,10 @@ module _ (s : State) (n k m : ℕ) (v : Valid s)
         let high : s.idx_read.0 ≤ n = leb-true s.idx_read.0 n (in_pairs (λ j. nat_le j n) s.idx_may s.idx_read v.idx_read (sym (list_all-map (λ j. nat_le j n) (λ (i : ℕ × ℕ). i.0) s.idx_may) ∙ above)) in
         le-leb q n (omega (arith, low, high))
 
-    kept_more : (o : Option (ℕ × ℕ)) → is_kept s o ≡ true → is_kept (record s { idx_may = s.idx_may ++ (n, m) ∷ [] }) o ≡ true
-    kept_more None h = refl
-    kept_more (Some p) h = let both = and_parts (list_all (nat_le p.1) s.tax_may) (list_all (λ i. nat_le p.0 i.0) s.idx_may) h in and_from _ _ both.0 (push (λ i. nat_le p.0 i.0) s.idx_may (n, m) both.1 (index_read_below p.0 both.1))
+    kept_more : (p : ℕ × ℕ) → is_kept s p ≡ true → is_kept (record s { idx_may = s.idx_may ++ (n, m) ∷ [] }) p ≡ true
+    kept_more p h = let both = and_parts (list_all (nat_le p.1) s.tax_may) (list_all (λ i. nat_le p.0 i.0) s.idx_may) h in and_from _ _ both.0 (push (λ i. nat_le p.0 i.0) s.idx_may (n, m) both.1 (index_read_below p.0 both.1))
 
-    kept_last : (p : ℕ × ℕ) → is_kept s (Some p) ≡ true → is_kept (record s { idx_may = (n, m) ∷ [] }) (Some p) ≡ true
+    kept_last : (p : ℕ × ℕ) → is_kept s p ≡ true → is_kept (record s { idx_may = (n, m) ∷ [] }) p ≡ true
     kept_last p h = let both = and_parts (list_all (nat_le p.1) s.tax_may) (list_all (λ i. nat_le p.0 i.0) s.idx_may) h in and_from _ _ both.0 (and_from _ true (index_read_below p.0 both.1) refl)
 
     pub failed_at_11 : Valid (record s { commit = None; closed = true; idx_may = s.idx_may ++ (n, m) ∷ [] })
@@ -168,10 +164,11 @@ module _ (s : State) (n k m : ℕ) (v : Valid s)
       published = v.published;
       refresh = v.refresh;
       commit = refl;
+      calls = refl;
       renamed = refl;
       tax_may = v.tax_may;
       idx_may = push (is_good_index s) s.idx_may (n, m) v.idx_may new_index;
-      kept = kept_more (last_or None s.acknowledged) v.kept;
+      kept = weaker (is_kept s) (is_kept (record s { idx_may = s.idx_may ++ (n, m) ∷ [] })) kept_more s.acknowledged v.kept;
       tax_read = v.tax_read;
       idx_read = list_any-append (is_same_pair s.idx_read) s.idx_may ((n, m) ∷ []) ∙ or_left _ _ v.idx_read;
     }
@@ -183,10 +180,11 @@ module _ (s : State) (n k m : ℕ) (v : Valid s)
       published = v.published;
       refresh = v.refresh;
       commit = and_from _ _ (and_from _ _ (and_from _ _ there (ap (is_at_least n) (map_push (λ (i : ℕ × ℕ). i.0) s.idx_may (n, m)) ∙ push (λ j. nat_le j n) (operations_of s.idx_may) n above (le-leb n n (omega arith)))) (or_right (k == 0) true refl)) taken;
+      calls = lt-ltb k 12 (omega (arith, is));
       renamed = and_from _ _ (and_from _ _ (or_right (nat_lt k 9) _ read) (or_right (nat_lt k 10) _ alone)) (or_right (nat_lt k 11) _ itself_pair);
       tax_may = v.tax_may;
       idx_may = push (is_good_index s) s.idx_may (n, m) v.idx_may new_index;
-      kept = kept_more (last_or None s.acknowledged) v.kept;
+      kept = weaker (is_kept s) (is_kept (record s { idx_may = s.idx_may ++ (n, m) ∷ [] })) kept_more s.acknowledged v.kept;
       tax_read = v.tax_read;
       idx_read = list_any-append (is_same_pair (n, m)) s.idx_may ((n, m) ∷ []) ∙ or_right _ _ (ap (λ b. b || false) itself_pair);
     }
@@ -198,17 +196,20 @@ module _ (s : State) (n k m : ℕ) (v : Valid s)
       published = v.published;
       refresh = v.refresh;
       commit = refl;
+      calls = refl;
       renamed = refl;
       tax_may = v.tax_may;
       idx_may = and_from _ true new_index refl;
-      kept = ap (is_kept (record s { idx_may = (n, m) ∷ [] })) (last_push None s.acknowledged (n, m)) ∙ and_from _ _ (alone_least m s.tax_may alone) (and_from _ true (le-leb n n (omega arith)) refl);
+      kept = push (is_kept (record s { idx_may = (n, m) ∷ [] })) s.acknowledged (n, m)
+          (weaker (is_kept s) (is_kept (record s { idx_may = (n, m) ∷ [] })) kept_last s.acknowledged v.kept)
+          (and_from _ _ (alone_least m s.tax_may alone) (and_from _ true (le-leb n n (omega arith)) refl));
       tax_read = v.tax_read;
       idx_read = ap (λ b. b || false) pair;
     }
 
 -- ---- the calls by their number
 
-module _ (s : State) (c : Commit) (v : Valid s) (good : is_good_commit s c ≡ true) (renamed : has_renamed s c c.labels ≡ true) where
+module _ (s : State) (c : Commit) (v : Valid s) (good : is_good_commit s c ≡ true) (few : nat_lt c.calls 12 ≡ true) (renamed : has_renamed s c c.labels ≡ true) where
   abbrev n : ℕ
   n = c.operations
 
@@ -253,13 +254,14 @@ module _ (s : State) (c : Commit) (v : Valid s) (good : is_good_commit s c ≡ t
   after_11 : 11 ≤ c.calls → is_same_pair s.idx_read (n, m) ≡ true
   after_11 le = second (nat_lt c.calls 11) (is_same_pair s.idx_read (n, m)) (le-ltb c.calls 11 le) (and_parts ((nat_lt c.calls 9 || s.tax_read == m) && (nat_lt c.calls 10 || two)) (nat_lt c.calls 11 || is_same_pair s.idx_read (n, m)) (fixed (omega (arith, le)))).1
 
-  other_call : has_renamed s (record { operations = n; labels = Some m; calls = k }) (Some m) ≡ true → Valid (record s { commit = Some (record { operations = n; labels = Some m; calls = k }) })
-  other_call r = record {
+  other_call : nat_lt k 12 ≡ true → has_renamed s (record { operations = n; labels = Some m; calls = k }) (Some m) ≡ true → Valid (record s { commit = Some (record { operations = n; labels = Some m; calls = k }) })
+  other_call few_calls r = record {
     labels = v.labels;
     known = v.known;
     published = v.published;
     refresh = v.refresh;
     commit = and_from _ _ (and_from _ _ (and_from _ _ there above) (or_right (k == 0) true refl)) taken;
+    calls = few_calls;
     renamed = r;
     tax_may = v.tax_may;
     idx_may = v.idx_may;
@@ -268,21 +270,19 @@ module _ (s : State) (c : Commit) (v : Valid s) (good : is_good_commit s c ≡ t
     idx_read = v.idx_read;
   }
 
-  other_renamed : (k == 9) ≡ false → (k == 10) ≡ false → (k == 11) ≡ false → (k == 12) ≡ false → has_renamed s (record { operations = n; labels = Some m; calls = k }) (Some m) ≡ true
-  other_renamed e9 e10 e11 e12 = by (cases_lt k 9)
-    where
-      by : (k < 9) ⊎ (9 ≤ k) → has_renamed s (record { operations = n; labels = Some m; calls = k }) (Some m) ≡ true
-      by (inl lt) = and_from _ _ (and_from _ _ (or_left _ _ (lt-ltb k 9 lt)) (or_left _ _ (lt-ltb k 10 (omega (arith, lt))))) (or_left _ _ (lt-ltb k 11 (omega (arith, lt))))
-      by (inr ge) =
-          let late : 12 ≤ c.calls = omega (arith, ge, eqb-false k 9 e9, eqb-false k 10 e10, eqb-false k 11 e11, eqb-false k 12 e12) in
-          and_from _ _ (and_from _ _ (or_right (nat_lt k 9) _ (after_9 (omega (arith, late)))) (or_right (nat_lt k 10) _ (after_10 (omega (arith, late))))) (or_right (nat_lt k 11) _ (after_11 (omega (arith, late))))
+  -- a call that is none of the last four comes before them
+  other_calls : (k == 9) ≡ false → (k == 10) ≡ false → (k == 11) ≡ false → (k == 12) ≡ false → k < 9
+  other_calls e9 e10 e11 e12 = omega (arith, ltb-true c.calls 12 few, eqb-false k 9 e9, eqb-false k 10 e10, eqb-false k 11 e11, eqb-false k 12 e12)
+
+  other_renamed : k < 9 → has_renamed s (record { operations = n; labels = Some m; calls = k }) (Some m) ≡ true
+  other_renamed lt = and_from _ _ (and_from _ _ (or_left _ _ (lt-ltb k 9 lt)) (or_left _ _ (lt-ltb k 10 (omega (arith, lt))))) (or_left _ _ (lt-ltb k 11 (omega (arith, lt))))
 
   keeps_done : (t9 t10 t11 t12 : Bool) → (k == 9) ≡ t9 → (k == 10) ≡ t10 → (k == 11) ≡ t11 → (k == 12) ≡ t12 → Valid (device_done s k n m)
   keeps_done true t10 t11 t12 e9 e10 e11 e12 = rw e9 (done_9 s n k m v there above taken (eqb-true k 9 e9))
   keeps_done false true t11 t12 e9 e10 e11 e12 = rw (e9, e10) (let is : k ≡ 10 = eqb-true k 10 e10 in done_10 s n k m v there above taken (after_9 (omega (arith, is))) is)
   keeps_done false false true t12 e9 e10 e11 e12 = rw (e9, e10, e11) (let is : k ≡ 11 = eqb-true k 11 e11 in done_11 s n k m v there above taken (after_9 (omega (arith, is))) (after_10 (omega (arith, is))) is)
   keeps_done false false false true e9 e10 e11 e12 = rw (e9, e10, e11, e12) (let is : k ≡ 12 = eqb-true k 12 e12 in done_12 s n k m v there above taken (after_9 (omega (arith, is))) (after_10 (omega (arith, is))) (after_11 (omega (arith, is))))
-  keeps_done false false false false e9 e10 e11 e12 = rw (e9, e10, e11, e12) (other_call (other_renamed e9 e10 e11 e12))
+  keeps_done false false false false e9 e10 e11 e12 = rw (e9, e10, e11, e12) (let lt = other_calls e9 e10 e11 e12 in other_call (lt-ltb k 12 (omega (arith, lt))) (other_renamed lt))
 
   keeps_failed : (t9 t11 : Bool) → (k == 9) ≡ t9 → (k == 11) ≡ t11 → Valid (device_failed s k n m)
   keeps_failed true t11 e9 e11 = rw e9 (failed_at_9 s n k m v there above taken)
@@ -293,42 +293,8 @@ module _ (s : State) (c : Commit) (v : Valid s) (good : is_good_commit s c ≡ t
   keeps_call true = keeps_done (k == 9) (k == 10) (k == 11) (k == 12) refl refl refl refl
   keeps_call false = keeps_failed (k == 9) (k == 11) refl refl
 
-  -- ---- what was acknowledged stays
-
-  abbrev Acknowledged : State → Type 0
-  Acknowledged t = list_all (λ p. is_kept t (Some p)) t.acknowledged ≡ true
-
-  each_kept : (t : State) → ((p : ℕ × ℕ) → is_kept s (Some p) ≡ true → is_kept t (Some p) ≡ true) → Acknowledged s → list_all (λ p. is_kept t (Some p)) s.acknowledged ≡ true
-  each_kept t so h = weaker (λ p. is_kept s (Some p)) (λ p. is_kept t (Some p)) so s.acknowledged h
-
-  all_done : (t9 t10 t11 t12 : Bool) → (k == 9) ≡ t9 → (k == 10) ≡ t10 → (k == 11) ≡ t11 → (k == 12) ≡ t12 → Acknowledged s → Acknowledged (device_done s k n m)
-  all_done true t10 t11 t12 e9 e10 e11 e12 h = rw e9 (each_kept (record s { tax_may = s.tax_may ++ m ∷ [] }) (λ p. kept_pushed s n k m v there above taken (Some p)) h)
-  all_done false true t11 t12 e9 e10 e11 e12 h = rw (e9, e10) (let is : k ≡ 10 = eqb-true k 10 e10 in each_kept (record s { tax_may = m ∷ [] }) (λ p. kept_one s n k m v there above taken (after_9 (omega (arith, is))) (Some p)) h)
-  all_done false false true t12 e9 e10 e11 e12 h =
-      rw (e9, e10, e11) (let is : k ≡ 11 = eqb-true k 11 e11 in each_kept (record s { idx_may = s.idx_may ++ (n, m) ∷ [] }) (λ p. kept_more s n k m v there above taken (after_9 (omega (arith, is))) (after_10 (omega (arith, is))) (Some p)) h)
-  all_done false false false true e9 e10 e11 e12 h =
-      rw (e9, e10, e11, e12) (let is : k ≡ 12 = eqb-true k 12 e12 in
-      push (λ p. is_kept (record s { idx_may = (n, m) ∷ [] }) (Some p)) s.acknowledged (n, m)
-      (each_kept (record s { idx_may = (n, m) ∷ [] }) (kept_last s n k m v there above taken (after_9 (omega (arith, is))) (after_10 (omega (arith, is)))) h)
-      (and_from _ _ (alone_least m s.tax_may (after_10 (omega (arith, is)))) (and_from _ true (le-leb n n (omega arith)) refl)))
-  all_done false false false false e9 e10 e11 e12 h = rw (e9, e10, e11, e12) h
-
-  all_failed : (t9 t11 : Bool) → (k == 9) ≡ t9 → (k == 11) ≡ t11 → Acknowledged s → Acknowledged (device_failed s k n m)
-  all_failed true t11 e9 e11 h = rw e9 (each_kept (record s { tax_may = s.tax_may ++ m ∷ [] }) (λ p. kept_pushed s n k m v there above taken (Some p)) h)
-  all_failed false true e9 e11 h =
-      rw (e9, e11) (let is : k ≡ 11 = eqb-true k 11 e11 in each_kept (record s { idx_may = s.idx_may ++ (n, m) ∷ [] }) (λ p. kept_more s n k m v there above taken (after_9 (omega (arith, is))) (after_10 (omega (arith, is))) (Some p)) h)
-  all_failed false false e9 e11 h = rw (e9, e11) h
-
-  all_call : (done : Bool) → Acknowledged s → Acknowledged (with_device s done (Some c))
-  all_call true h = all_done (k == 9) (k == 10) (k == 11) (k == 12) refl refl refl refl h
-  all_call false h = all_failed (k == 9) (k == 11) refl refl h
-
 pub keeps_device : (s : State) (done : Bool) (o : Option Commit) → s.commit ≡ o → Valid s → Valid (with_device s done o)
 keeps_device s done None is v = v
 keeps_device s done (Some c) is v =
-    keeps_call s c v (sym (ap (λ o. option_map_or (is_good_commit s) o true) is) ∙ v.commit) (sym (ap (λ o. option_map_or (λ c. has_renamed s c c.labels) o true) is) ∙ v.renamed) done
-
-pub device_keeps_acknowledged : (s : State) (done : Bool) (o : Option Commit) → s.commit ≡ o → Valid s → list_all (λ p. is_kept s (Some p)) s.acknowledged ≡ true → list_all (λ p. is_kept (with_device s done o) (Some p)) (with_device s done o).acknowledged ≡ true
-device_keeps_acknowledged s done None is v h = h
-device_keeps_acknowledged s done (Some c) is v h =
-    all_call s c v (sym (ap (λ o. option_map_or (is_good_commit s) o true) is) ∙ v.commit) (sym (ap (λ o. option_map_or (λ c. has_renamed s c c.labels) o true) is) ∙ v.renamed) done h
+    keeps_call s c v (sym (ap (λ o. option_map_or (is_good_commit s) o true) is) ∙ v.commit) (sym (ap (λ o. option_map_or (λ c. nat_lt c.calls 12) o true) is) ∙ v.calls)
+    (sym (ap (λ o. option_map_or (λ c. has_renamed s c c.labels) o true) is) ∙ v.renamed) done

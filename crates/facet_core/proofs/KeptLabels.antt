@@ -115,6 +115,7 @@ module _ (s : State) (path : List (List ℕ)) where
         published = and_from _ _ pairs.0 (weaker (is_pair s.labels s.history) (is_pair (s.labels ++ path ∷ []) s.history) still_pair s.published pairs.1);
         refresh = still_refresh s.refresh v.refresh;
         commit = still_commit s.commit v.commit;
+        calls = v.calls;
         renamed = v.renamed;
         tax_may = weaker (λ a. nat_le 1 a && nat_le a (length s.labels)) (λ a. nat_le 1 a && nat_le a (length (s.labels ++ path ∷ []))) (λ a h. let both = and_parts (nat_le 1 a) (nat_le a (length s.labels)) h in and_from _ _ both.0 (still_le (path ∷ []) s.labels a both.1)) s.tax_may v.tax_may;
         idx_may = weaker (is_good_index s) (is_good_index longer) still_index s.idx_may v.idx_may;

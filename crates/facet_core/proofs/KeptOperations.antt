@@ -67,6 +67,7 @@ module _ (s : State) (o : Operation) where
         published = and_from _ _ pairs.0 (weaker (is_pair s.labels s.history) (is_pair s.labels (s.history ++ o ∷ [])) still_pair s.published pairs.1);
         refresh = still_refresh s.refresh v.refresh;
         commit = still_commit s.commit v.commit;
+        calls = v.calls;
         renamed = v.renamed;
         tax_may = v.tax_may;
         idx_may = weaker (is_good_index s) (is_good_index longer) still_index s.idx_may v.idx_may;

@@ -1,74 +1,24 @@
 -- What was promised, over every list of events.
-use Rattle.std.proofs.Common.{zero, suc, ◌≡◌, ℕ, ◌*◌, ◌/◌, ◌%◌, ◌<◌, ◌≤◌, Bool, true, false, cond, List, [], ◌∷◌, length, map, take, get_or, Option, Some, None, refl, sym, ap, arith, take_all}
-use Rattle.std.specs.Prelude.{◌==◌, ◌&&◌, not, nat_lt, nat_le, is_none, All, slice_index, slice_index_or, IsTrue}
+use Rattle.std.proofs.Common.{zero, suc, ◌≡◌, ℕ, ◌*◌, ◌/◌, ◌%◌, ◌<◌, ◌≤◌, Bool, true, false, List, [], ◌∷◌, length, map, take, get_or, refl, sym, ap, arith, take_all}
+use Rattle.std.specs.Prelude.{◌&&◌, nat_lt, nat_le, All, slice_index, slice_index_or, IsTrue}
 use Rattle.std.specs.List.{list_all}
 use Rattle.std.proofs.lemmas.Bool.{and_parts, and_from, leb-true}
 use Rattle.std.proofs.lemmas.List.{get_or-map, length-map}
 use Rattle.std.proofs.lemmas.List.Sums.{AllPass-from_list_all}
-use Rattle.facet_names.specs.Labels.{stands, above, prefixes}
+use Rattle.facet_names.specs.Labels.{stands, prefixes}
 use Rattle.facet_model.specs.Documents.{Doc}
 use Rattle.facet_model.specs.Histories.{docs, knows, covers, never_falls, is_pair}
-use Rattle.facet_model.specs.Core.{State, Refresh, Commit, CoreEvent, label, append, take_index, take_labels, publish, drop_refresh, begin_commit, drop_commit, device, crash, step, empty_core, with_index, with_labels_taken, with_publication, publish_pair, without_refresh, without_commit, with_crash, after_crash}
+use Rattle.facet_model.specs.Core.{State, crash, step, with_crash, after_crash}
 use Rattle.facet_model.specs.CoreStates.{Valid, is_kept, is_good_index, operations_of, labels_of}
 use Rattle.facet_core.specs.Laws.{ran, Keeps, CrashesKeepAcknowledged, NamesItsLabels, PublishedLabelsStand, PublicationsNeverFall}
-use Rattle.facet_core.proofs.Interleavings.{keeps_step, valid_from_empty}
-use Rattle.facet_core.proofs.KeptDevice.{in_numbers, in_pairs, device_keeps_acknowledged}
-use Rattle.facet_core.proofs.KeptCrash.{crash_keeps_acknowledged}
-
--- ---- every acknowledged commit is kept, and not the last one alone
-
-abbrev AllKept : State → Type 0
-AllKept s = list_all (λ p. is_kept s (Some p)) s.acknowledged ≡ true
-
-either : (b : Bool) (s t : State) → AllKept s → AllKept t → AllKept (cond b s t)
-either true s t h g = h
-either false s t h g = g
-
-index_kept : (s : State) (session : ℕ) (o : Option Refresh) → AllKept s → AllKept (with_index s session o)
-index_kept s session None h = h
-index_kept s session (Some r) h = h
-
-labels_kept : (s : State) (session : ℕ) (o : Option Refresh) → AllKept s → AllKept (with_labels_taken s session o)
-labels_kept s session None h = h
-labels_kept s session (Some r) h = either (r.session == session && is_none r.labels) (record s { refresh = Some (record r { labels = Some (length s.labels) }) }) s h h
-
-pair_kept : (s : State) (n : ℕ) (o : Option ℕ) → AllKept s → AllKept (publish_pair s n o)
-pair_kept s n None h = h
-pair_kept s n (Some m) h = h
-
-publication_kept : (s : State) (session : ℕ) (o : Option Refresh) → AllKept s → AllKept (with_publication s session o)
-publication_kept s session None h = h
-publication_kept s session (Some r) h = either (r.session == session) (publish_pair s r.operations r.labels) s (pair_kept s r.operations r.labels h) h
-
-refresh_kept : (s : State) (session : ℕ) (o : Option Refresh) → AllKept s → AllKept (without_refresh s session o)
-refresh_kept s session None h = h
-refresh_kept s session (Some r) h = either (r.session == session) (record s { refresh = None }) s h h
-
-commit_kept : (s : State) (o : Option Commit) → AllKept s → AllKept (without_commit s o)
-commit_kept s None h = h
-commit_kept s (Some c) h = either (c.calls == 0) (record s { commit = None }) s h h
-
-step_kept : (s : State) (e : CoreEvent) → Valid s → AllKept s → AllKept (step s e)
-step_kept s (label session path) v h = either (not (stands s.labels path) && stands s.labels (above path)) _ s h h
-step_kept s (append session doc) v h = either (list_all (stands s.labels) doc.labels) _ s h h
-step_kept s (take_index session) v h = index_kept s session s.refresh h
-step_kept s (take_labels session) v h = labels_kept s session s.refresh h
-step_kept s (publish session) v h = publication_kept s session s.refresh h
-step_kept s (drop_refresh session) v h = refresh_kept s session s.refresh h
-step_kept s (begin_commit session) v h = either (is_none s.commit && not s.closed) _ s h h
-step_kept s drop_commit v h = commit_kept s s.commit h
-step_kept s (device done) v h = device_keeps_acknowledged s done s.commit refl v h
-step_kept s (crash keep) v h = crash_keeps_acknowledged s keep v h
-
-run_kept : (s : State) (events : List CoreEvent) → Valid s → AllKept s → AllKept (ran s events)
-run_kept s [] v h = h
-run_kept s (e ∷ events) v h = run_kept (step s e) events (keeps_step s e v) (step_kept s e v h)
+use Rattle.facet_core.proofs.Interleavings.{keeps_step, keeps_run}
+use Rattle.facet_core.proofs.KeptDevice.{in_numbers, in_pairs}
 
 -- what is kept is within the labels and the operations that are there
-within : (s : State) → Valid s → AllKept s → All (λ p. p.0 ≤ length s.history × p.1 ≤ length s.labels) s.acknowledged
-within s v all k d lt =
+within : (s : State) → Valid s → All (λ p. p.0 ≤ length s.history × p.1 ≤ length s.labels) s.acknowledged
+within s v k d lt =
     let p = get_or s.acknowledged k d in
-    let kept = and_parts (list_all (nat_le p.1) s.tax_may) (list_all (λ i. nat_le p.0 i.0) s.idx_may) (AllPass-from_list_all (λ p. is_kept s (Some p)) s.acknowledged all k d lt) in
+    let kept = and_parts (list_all (nat_le p.1) s.tax_may) (list_all (λ i. nat_le p.0 i.0) s.idx_may) (AllPass-from_list_all (is_kept s) s.acknowledged v.kept k d lt) in
     let labels : p.1 ≤ s.tax_read = leb-true p.1 s.tax_read (in_numbers (nat_le p.1) s.tax_may s.tax_read v.tax_read kept.0) in
     let most = and_parts (nat_le 1 s.tax_read) (nat_le s.tax_read (length s.labels)) (in_numbers (λ a. nat_le 1 a && nat_le a (length s.labels)) s.tax_may s.tax_read v.tax_read v.tax_may) in
     let there : s.tax_read ≤ length s.labels = leb-true s.tax_read (length s.labels) most.1 in
@@ -97,11 +47,9 @@ crashed s keep true e all =
 crashed s keep false e all = rw e (record { labels = sym (take_all (length s.labels) s.labels (omega arith)); operations = sym (take_all (length s.history) s.history (omega arith)); acknowledged = rw e at all })
 
 pub crashes_keep : CrashesKeepAcknowledged
-crashes_keep events keep =
-    let s = ran empty_core events in
-    let v = valid_from_empty events in
-    let all = run_kept empty_core events (valid_from_empty []) refl in
-    crashed s keep (nat_lt keep (length s.tax_may * length s.idx_may)) refl (within (step s (crash keep)) (keeps_step s (crash keep) v) (step_kept s (crash keep) v all))
+crashes_keep start events keep valid =
+    let s = ran start events in
+    crashed s keep (nat_lt keep (length s.tax_may * length s.idx_may)) refl (within (step s (crash keep)) (keeps_step s (crash keep) (keeps_run start events valid)))
 
 -- ---- publications
 
@@ -121,9 +69,9 @@ names_its_labels s p h =
     )
 
 pub published_stand : PublishedLabelsStand
-published_stand events =
-    let s = ran empty_core events in
-    let v = valid_from_empty events in
+published_stand start events valid =
+    let s = ran start events in
+    let v = keeps_run start events valid in
     let pairs = (and_parts (never_falls (operations_of s.published) && never_falls (labels_of s.published)) (list_all (is_pair s.labels s.history) s.published) v.published).1 in
     all_from (is_pair s.labels s.history) (NamesItsLabels s) (names_its_labels s) s.published pairs
 
@@ -149,8 +97,8 @@ rising_by f xs i k d h le lt =
     omega (arith, low, high, both)
 
 pub never_fall : PublicationsNeverFall
-never_fall events i k d le lt =
-    let s = ran empty_core events in
-    let v = valid_from_empty events in
+never_fall start events valid i k d le lt =
+    let s = ran start events in
+    let v = keeps_run start events valid in
     let falls = and_parts (never_falls (operations_of s.published)) (never_falls (labels_of s.published)) (and_parts _ (list_all (is_pair s.labels s.history) s.published) v.published).0 in
     (rising_by (λ p. p.0) s.published i k d falls.0 le lt, rising_by (λ p. p.1) s.published i k d falls.1 le lt)

@@ -1,6 +1,6 @@
 -- The events of two documents, replayed by the definitions.
-use Rattle.std.specs.Prelude.{false, ◌≡◌, ◌++◌, ℕ, true, List, [], ◌∷◌, codes, fold, length, replicate, refl, Bool, zero, suc, nat_lt, nat_le, ◌&&◌, ◌==◌, None}
-use Rattle.std.specs.List.{list_all, list_any, enumerate_from, last_or}
+use Rattle.std.specs.Prelude.{false, ◌≡◌, ◌++◌, ℕ, true, List, [], ◌∷◌, codes, fold, length, replicate, refl, Bool, zero, suc, nat_lt, nat_le, ◌&&◌, ◌==◌}
+use Rattle.std.specs.List.{list_all, list_any, enumerate_from}
 use Rattle.std.specs.Option.{option_map_or}
 use Rattle.facet_names.specs.Labels.{is_in_place, stands}
 use Rattle.facet_model.specs.Histories.{are_publications}
@@ -79,23 +79,24 @@ labels_first = refl
 -- ---- each of these states is valid
 
 empty_valid : Valid empty_core
-empty_valid = record { labels = refl; known = refl; published = refl; refresh = refl; commit = refl; renamed = refl; tax_may = refl; idx_may = refl; kept = refl; tax_read = refl; idx_read = refl }
+empty_valid = record { labels = refl; known = refl; published = refl; refresh = refl; commit = refl; calls = refl; renamed = refl; tax_may = refl; idx_may = refl; kept = refl; tax_read = refl; idx_read = refl }
 
 crashed_valid : Valid crashed
-crashed_valid = record { labels = refl; known = refl; published = refl; refresh = refl; commit = refl; renamed = refl; tax_may = refl; idx_may = refl; kept = refl; tax_read = refl; idx_read = refl }
+crashed_valid = record { labels = refl; known = refl; published = refl; refresh = refl; commit = refl; calls = refl; renamed = refl; tax_may = refl; idx_may = refl; kept = refl; tax_read = refl; idx_read = refl }
 
 middle_valid : Valid (after 9 [])
-middle_valid = record { labels = refl; known = refl; published = refl; refresh = refl; commit = refl; renamed = refl; tax_may = refl; idx_may = refl; kept = refl; tax_read = refl; idx_read = refl }
+middle_valid = record { labels = refl; known = refl; published = refl; refresh = refl; commit = refl; calls = refl; renamed = refl; tax_may = refl; idx_may = refl; kept = refl; tax_read = refl; idx_read = refl }
 
 after_11_valid : Valid (after 11 (take_index 1 ∷ take_labels 1 ∷ []))
-after_11_valid = record { labels = refl; known = refl; published = refl; refresh = refl; commit = refl; renamed = refl; tax_may = refl; idx_may = refl; kept = refl; tax_read = refl; idx_read = refl }
+after_11_valid = record { labels = refl; known = refl; published = refl; refresh = refl; commit = refl; calls = refl; renamed = refl; tax_may = refl; idx_may = refl; kept = refl; tax_read = refl; idx_read = refl }
 
 -- ---- every state within two events of these is valid
 
 abbrev is_valid : State → Bool
 is_valid s = (nat_lt 0 (length s.labels) && list_all (is_in_place s.labels) (enumerate_from 0 s.labels)) && list_all (λ o. list_all (stands s.labels) o.doc.labels) s.history && are_publications s.labels s.history s.published
-    && option_map_or (is_good_refresh s) s.refresh true && option_map_or (is_good_commit s) s.commit true && option_map_or (λ c. has_renamed s c c.labels) s.commit true
-    && list_all (λ a. nat_le 1 a && nat_le a (length s.labels)) s.tax_may && list_all (is_good_index s) s.idx_may && is_kept s (last_or None s.acknowledged)
+    && option_map_or (is_good_refresh s) s.refresh true && option_map_or (is_good_commit s) s.commit true && option_map_or (λ c. nat_lt c.calls 12) s.commit true
+    && option_map_or (λ c. has_renamed s c c.labels) s.commit true
+    && list_all (λ a. nat_le 1 a && nat_le a (length s.labels)) s.tax_may && list_all (is_good_index s) s.idx_may && list_all (is_kept s) s.acknowledged
     && list_any (λ a. a == s.tax_read) s.tax_may && list_any (is_same_pair s.idx_read) s.idx_may
 
 abbrev every_event : List CoreEvent

@@ -2,7 +2,7 @@
 use Rattle.std.specs.Prelude.{◌≡◌, ◌≤◌, ◌<◌, ℕ, List, length, take, All, IsTrue, fold, slice_index_or}
 use Rattle.facet_names.specs.Labels.{stands, prefixes}
 use Rattle.facet_model.specs.Histories.{docs}
-use Rattle.facet_model.specs.Core.{State, CoreEvent, crash, empty_core, step}
+use Rattle.facet_model.specs.Core.{State, CoreEvent, crash, step}
 use Rattle.facet_model.specs.CoreStates.{Valid}
 
 -- the core after these events
@@ -19,9 +19,9 @@ pub record Keeps (s t : State) : Type 0 where
   pub operations : t.history ≡ take (length t.history) s.history
   pub acknowledged : All (λ p. p.0 ≤ length t.history × p.1 ≤ length t.labels) s.acknowledged
 
--- a crash at any time after any events
+-- a crash at any time after any events, from any valid core on
 abbrev pub CrashesKeepAcknowledged : Type 0
-CrashesKeepAcknowledged = (events : List CoreEvent) (keep : ℕ) → let s = ran empty_core events in Keeps s (step s (crash keep))
+CrashesKeepAcknowledged = (start : State) (events : List CoreEvent) (keep : ℕ) → Valid start → let s = ran start events in Keeps s (step s (crash keep))
 
 -- A pair of n operations and m labels names no label outside its list: each prefix of each label of its documents is among the first m labels.
 abbrev pub NamesItsLabels : State → ℕ × ℕ → Type 0
@@ -30,9 +30,9 @@ NamesItsLabels s p = p.0 ≤ length s.history × p.1 ≤ length s.labels
 
 -- every published pair is such a pair
 abbrev pub PublishedLabelsStand : Type 0
-PublishedLabelsStand = (events : List CoreEvent) → let s = ran empty_core events in All (NamesItsLabels s) s.published
+PublishedLabelsStand = (start : State) (events : List CoreEvent) → Valid start → let s = ran start events in All (NamesItsLabels s) s.published
 
 -- a later publication has no fewer operations and no fewer labels
 abbrev pub PublicationsNeverFall : Type 0
-PublicationsNeverFall = (events : List CoreEvent) → let s = ran empty_core events in
+PublicationsNeverFall = (start : State) (events : List CoreEvent) → Valid start → let s = ran start events in
     (i k : ℕ) (d : ℕ × ℕ) → i ≤ k → k < length s.published → ((slice_index_or s.published i d).0 ≤ (slice_index_or s.published k d).0) × ((slice_index_or s.published i d).1 ≤ (slice_index_or s.published k d).1)

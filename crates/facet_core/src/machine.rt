@@ -5,7 +5,10 @@ ghost use Rattle.facet_core.specs.Views.{pair, commit_view, kept_by};
 ghost use Rattle.facet_model.specs.Core.{empty_core, with_label, with_operation, with_index, with_labels_taken, with_publication, without_refresh, with_commit, without_commit, labels_of_commit, with_device, device_done, device_failed, with_crash, after_crash};
 ghost use Rattle.facet_model.specs.CoreStates.{Valid};
 
-use crate::parts::{Commit, Operation, Publication, Refresh};
+use crate::parts::{
+    Commit, Operation, Publication, RENAME_LABELS, RENAME_OPERATIONS, Refresh, SYNC_LABELS,
+    SYNC_OPERATIONS,
+};
 use facet_model::Document;
 use facet_names::{NoMemory, Path};
 use std::alloc::Global;
@@ -283,24 +286,28 @@ impl Core {
             labels: Some(of.labels),
             calls: call,
         });
-        if call == 9 {
-            self.tax_may.push(of.labels)?;
-            self.tax_read = of.labels;
-            self.commit = going;
-        } else if call == 10 {
-            self.tax_may = alone(alloc, of.labels)?;
-            self.commit = going;
-        } else if call == 11 {
-            self.idx_may.push(of)?;
-            self.idx_read = of;
-            self.commit = going;
-        } else if call == 12 {
-            let only = alone(alloc, of)?;
-            self.acknowledged.push(of)?;
-            self.idx_may = only;
-            self.commit = None;
-        } else {
-            self.commit = going;
+        match call {
+            RENAME_LABELS => {
+                self.tax_may.push(of.labels)?;
+                self.tax_read = of.labels;
+                self.commit = going;
+            }
+            SYNC_LABELS => {
+                self.tax_may = alone(alloc, of.labels)?;
+                self.commit = going;
+            }
+            RENAME_OPERATIONS => {
+                self.idx_may.push(of)?;
+                self.idx_read = of;
+                self.commit = going;
+            }
+            SYNC_OPERATIONS => {
+                let only = alone(alloc, of)?;
+                self.acknowledged.push(of)?;
+                self.idx_may = only;
+                self.commit = None;
+            }
+            _ => self.commit = going,
         }
         Ok(())
     }
@@ -311,8 +318,8 @@ impl Core {
         ensures err { OnErr result (self.new ≡ self.old) }
     {
         match call {
-            9 => self.tax_may.push(of.labels)?,
-            11 => self.idx_may.push(of)?,
+            RENAME_LABELS => self.tax_may.push(of.labels)?,
+            RENAME_OPERATIONS => self.idx_may.push(of)?,
             _ => {}
         }
         self.commit = None;

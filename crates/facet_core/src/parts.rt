@@ -20,6 +20,20 @@ pub(crate) struct Refresh {
     pub(crate) labels: Option<u64>,
 }
 
+// The device calls of a commit that change what it has committed. They come after the calls that write and sync its files.
+
+/// The commit file of the labels gets its name.
+pub(crate) const RENAME_LABELS: u8 = 9;
+
+/// That is made durable.
+pub(crate) const SYNC_LABELS: u8 = 10;
+
+/// The commit file of the operations gets its name.
+pub(crate) const RENAME_OPERATIONS: u8 = 11;
+
+/// That is made durable, and the commit is acknowledged. It is the last call.
+pub(crate) const SYNC_OPERATIONS: u8 = 12;
+
 /// A commit takes its labels with its first device call.
 #[derive(Clone, Copy, Debug)]
 pub(crate) struct Commit {
