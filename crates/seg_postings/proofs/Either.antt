@@ -106,11 +106,6 @@ unfolding either
 below_either a [] ys h k = k
 below_either a (x ∷ xs) ys h k = below_put a x (either xs ys) h.0 (below_either a xs ys h.1 k)
 
-pub either_none : (xs : List ℕ) → IsRising xs → either xs [] ≡ xs
-unfolding either
-either_none [] h = refl
-either_none (x ∷ xs) h = ap (λ (r : List ℕ). put_in x r) (either_none xs h.1) ∙ put_below x xs h.0
-
 pub either_later : (y : ℕ) (xs ys : List ℕ) → IsBelowAll y xs → either xs (y ∷ ys) ≡ y ∷ either xs ys
 unfolding either
 either_later y [] ys h = refl
@@ -123,53 +118,5 @@ from_next x (y ∷ ys) h = (omega (arith, h.0), from_next x ys h.1)
 pub after_head : (x : ℕ) (xs : List ℕ) → IsBelowAll x xs → from_place (x + 1) (x ∷ xs) ≡ xs
 after_head x xs h = from_skips (x + 1) x xs (omega arith) ∙ from_all (x + 1) xs (from_next x xs h)
 
-pub after_less : (p x : ℕ) (xs : List ℕ) → p < x → IsBelowAll x xs → from_place (p + 1) (x ∷ xs) ≡ x ∷ xs
-after_less p x xs lt h = from_all (p + 1) (x ∷ xs) (omega arith, from_below (p + 1) x xs (omega arith) h)
-
 abbrev some : ℕ → Option ℕ
 some n = Some n
-
-both_are : (y : ℕ) (xs ys rest : List ℕ) → from_place (y + 1) xs ≡ xs → from_place (y + 1) rest ≡ ys → either xs ys ≡ either (from_place (y + 1) xs) (from_place (y + 1) rest)
-both_are y xs ys rest h k = sym (ap (λ (r : List ℕ). either r (from_place (y + 1) rest)) h ∙ ap (λ (r : List ℕ). either xs r) k)
-
-both_are_left : (x : ℕ) (xs rest ys : List ℕ) → from_place (x + 1) rest ≡ xs → from_place (x + 1) ys ≡ ys → either xs ys ≡ either (from_place (x + 1) rest) (from_place (x + 1) ys)
-both_are_left x xs rest ys h k = sym (ap (λ (r : List ℕ). either r (from_place (x + 1) ys)) h ∙ ap (λ (r : List ℕ). either xs r) k)
-
-two_next : (x : ℕ) (xs : List ℕ) (y : ℕ) (ys : List ℕ) (p : ℕ) → IsRising (x ∷ xs) → IsRising (y ∷ ys) → least_of (Some x) (Some y) ≡ Some p → either (x ∷ xs) (y ∷ ys) ≡ p ∷ either (from_place (p + 1) (x ∷ xs)) (from_place (p + 1) (y ∷ ys))
-unfolding either
-two_next x xs y ys p h k e =
-    elim (cases_lt y x) [
-      | inl less ↦
-          let is : y ≡ p = let e1 : some y ≡ Some p = rw (lt-ltb y x less) at e in cc in
-          let z : either (x ∷ xs) (y ∷ ys) ≡ y ∷ either (x ∷ xs) ys = either_later y (x ∷ xs) ys (less, below_weaker y x xs (omega arith) h.0) in
-          rw (← is) (z ∙ ap (λ (r : List ℕ). y ∷ r) (both_are y (x ∷ xs) ys (y ∷ ys) (after_less y x xs less h.0) (after_head y ys k.0)))
-      | inr ge ↦
-          let is : x ≡ p = let e1 : some x ≡ Some p = rw (le-ltb y x ge) at e in cc in
-          elim (cases_lt x y) [
-            | inl less ↦
-                let z : either (x ∷ xs) (y ∷ ys) ≡ x ∷ either xs (y ∷ ys) = put_below x (either xs (y ∷ ys)) (below_either x xs (y ∷ ys) h.0 (less, below_weaker x y ys (omega arith) k.0)) in
-                rw (← is) (z ∙ ap (λ (r : List ℕ). x ∷ r) (both_are_left x xs (x ∷ xs) (y ∷ ys) (after_head x xs h.0) (after_less x y ys less k.0)))
-            | inr le ↦
-                let same : y ≡ x = omega arith in
-                let z : either (x ∷ xs) (y ∷ ys) ≡ x ∷ either xs ys = ap (λ (n : ℕ). put_in x (either xs (n ∷ ys))) same ∙ ap (λ (r : List ℕ). put_in x r) (either_later x xs ys h.0) ∙ put_same x x (either xs ys) refl in
-                let after : from_place (x + 1) (y ∷ ys) ≡ ys = subst (λ (n : ℕ). from_place (n + 1) (y ∷ ys) ≡ ys) same (after_head y ys k.0) in
-                rw (← is) (z ∙ ap (λ (r : List ℕ). x ∷ r) (sym (ap (λ (r : List ℕ). either r (from_place (x + 1) (y ∷ ys))) (after_head x xs h.0) ∙ ap (λ (r : List ℕ). either xs r) after)))
-          ]
-    ]
-
-pub either_next : (xs ys : List ℕ) (p : ℕ) → IsRising xs → IsRising ys → least_of (first_of xs) (first_of ys) ≡ Some p → either xs ys ≡ p ∷ either (from_place (p + 1) xs) (from_place (p + 1) ys)
-unfolding either
-either_next [] [] p h k e = absurd cc
-either_next [] (y ∷ ys) p h k e = let is : y ≡ p = cc in rw (from_none (p + 1), ← is) (ap (λ (r : List ℕ). y ∷ r) (sym (after_head y ys k.0)))
-either_next (x ∷ xs) [] p h k e = let is : x ≡ p = cc in rw (from_none (p + 1), ← is) (either_none (x ∷ xs) h ∙ ap (λ (r : List ℕ). x ∷ r) (sym (either_none (from_place (x + 1) (x ∷ xs)) (rising_from (x + 1) (x ∷ xs) h) ∙ after_head x xs h.0)))
-either_next (x ∷ xs) (y ∷ ys) p h k e = two_next x xs y ys p h k e
-
-pub either_ends : (xs ys : List ℕ) → least_of (first_of xs) (first_of ys) ≡ None → either xs ys ≡ []
-unfolding either
-either_ends [] [] e = refl
-either_ends [] (y ∷ ys) e = absurd cc
-either_ends (x ∷ xs) [] e = absurd cc
-either_ends (x ∷ xs) (y ∷ ys) e = elim (cases_lt y x) [
-  | inl less ↦ let e1 : some y ≡ None = rw (lt-ltb y x less) at e in absurd cc
-  | inr ge ↦ let e1 : some x ≡ None = rw (le-ltb y x ge) at e in absurd cc
-]

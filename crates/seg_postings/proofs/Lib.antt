@@ -3,7 +3,6 @@ pub mod Sets
 pub mod Chunks
 pub mod Either
 pub mod Peeks
-pub mod Lacks
 pub mod Matching
 pub mod Members
 pub mod Written

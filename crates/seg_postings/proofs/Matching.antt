@@ -3,7 +3,7 @@ use Rattle.std.proofs.Common.{◌≡◌, ℕ, Bool, true, false, not, cond, ◌|
 use Rattle.std.specs.List.{filter}
 use Rattle.std.proofs.lemmas.Bool.{eq-eqb}
 use Rattle.seg_postings.specs.Rising.{IsBelowAll, IsRising, is_in}
-use Rattle.seg_postings.specs.Sets.{picked, both, without, put_in, either}
+use Rattle.seg_postings.specs.Sets.{picked, without, put_in, either}
 use Rattle.seg_postings.proofs.Order.{below_filter}
 use Rattle.seg_postings.proofs.Sets.{is_in_below, picked_later}
 use Rattle.seg_postings.proofs.Either.{put_same, put_below, below_either, either_later}
@@ -50,10 +50,6 @@ picked_choices test x ps qs rs false false h k e = e
 picked-filter : (test : Bool → Bool) (p q : ℕ → Bool) (xs : List ℕ) → IsRising xs → picked test (filter p xs) (filter q xs) ≡ filter (λ x. p x && test (q x)) xs
 picked-filter test p q [] h = picked_empty test
 picked-filter test p q (x ∷ xs) h = picked_choices test x (filter p xs) (filter q xs) (filter (λ y. p y && test (q y)) xs) (p x) (q x) (below_filter x p xs h.0) (below_filter x q xs h.0) (picked-filter test p q xs h.1)
-
-pub both-filter : (p q : ℕ → Bool) (xs : List ℕ) → IsRising xs → both (filter p xs) (filter q xs) ≡ filter (λ x. p x && q x) xs
-unfolding both
-both-filter p q xs h = picked-filter (λ b. b) p q xs h
 
 pub without-filter : (p q : ℕ → Bool) (xs : List ℕ) → IsRising xs → without (filter p xs) (filter q xs) ≡ filter (λ x. p x && not (q x)) xs
 unfolding without

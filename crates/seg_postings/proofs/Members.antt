@@ -2,7 +2,7 @@
 use Rattle.std.proofs.Common.{◌≡◌, ℕ, Bool, true, false, not, cond, eqb, ◌||◌, ◌&&◌, List, [], ◌∷◌, refl, sym, ap, subst, ◌∙◌, arith, inl, inr}
 use Rattle.std.proofs.lemmas.Bool.{eq-eqb, ne_eqb, eqb-true, cases_lt}
 use Rattle.seg_postings.specs.Rising.{IsBelowAll, IsRising, is_in}
-use Rattle.seg_postings.specs.Sets.{picked, both, without, put_in, either}
+use Rattle.seg_postings.specs.Sets.{picked, without, put_in, either}
 use Rattle.seg_postings.proofs.Order.{below_weaker}
 use Rattle.seg_postings.proofs.Sets.{is_in_below}
 use Rattle.seg_postings.proofs.Either.{put_less, put_same, put_more, put_none}
@@ -54,10 +54,6 @@ is_in-picked : (test : Bool → Bool) (q : ℕ) (xs ys : List ℕ) → is_in q (
 unfolding picked
 is_in-picked test q [] ys = refl
 is_in-picked test q (x ∷ xs) ys = picked_member (eqb q x) (test (is_in x ys)) (test (is_in q ys)) (is_in q xs) q x (picked test xs ys) refl (λ h. ap (λ n. test (is_in n ys)) (eqb-true q x h)) (is_in-picked test q xs ys)
-
-pub is_in-both : (q : ℕ) (xs ys : List ℕ) → is_in q (both xs ys) ≡ (is_in q xs && is_in q ys)
-unfolding both
-is_in-both q xs ys = is_in-picked (λ b. b) q xs ys
 
 pub is_in-without : (q : ℕ) (xs ys : List ℕ) → is_in q (without xs ys) ≡ (is_in q xs && not (is_in q ys))
 unfolding without

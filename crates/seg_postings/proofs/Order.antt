@@ -69,6 +69,3 @@ pub from_past : (p : ℕ) (xs : List ℕ) → length (from_place p xs) ≤ lengt
 unfolding from_place
 from_past p [] = omega arith
 from_past p (x ∷ xs) = elim (leb p x) as (λ b. length (cond b (x ∷ filter (λ y. leb p y) xs) (filter (λ y. leb p y) xs)) ≤ suc (length xs)) [ true ↦ omega (arith, from_past p xs) | false ↦ omega (arith, from_past p xs) ]
-
-pub next_shorter : (p : ℕ) (xs : List ℕ) (y : ℕ) (ys : List ℕ) → from_place p xs ≡ y ∷ ys → length ys < length xs
-next_shorter p xs y ys e = omega (arith, from_past p xs, ap length e)

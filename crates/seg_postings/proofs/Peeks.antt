@@ -2,7 +2,7 @@
 use Rattle.std.proofs.Common.{◌≡◌, ℕ, ◌+◌, ◌<◌, ◌≤◌, List, [], ◌∷◌, ◌++◌, Option, Some, None, sym, ap, subst, ◌∙◌, arith}
 use Rattle.std.specs.Option.{option_to_list}
 use Rattle.seg_postings.specs.Rising.{IsRising, IsNext, from_place}
-use Rattle.seg_postings.specs.Steps.{IsPeeked, AreFrom}
+use Rattle.seg_postings.specs.Steps.{IsPeeked}
 use Rattle.seg_postings.proofs.Order.{from_all, from_below, from_later}
 use Rattle.seg_postings.proofs.Either.{from_none, after_head}
 
@@ -28,15 +28,3 @@ next_list (Some x) old new h = sym h
 pub peeked_seeks : (p : ℕ) (head : Option ℕ) (x : ℕ) (xs old : List ℕ) (r : Option ℕ) (new : List ℕ) → head ≡ Some x → x < p → peeked head xs ≡ old → IsNext r (from_place p xs) new → peeked r new ≡ from_place p old
 peeked_seeks p None x xs old r new e lt v n = absurd cc
 peeked_seeks p (Some y) x xs old r new e lt v n = let s : y ≡ x = cc in next_list r (from_place p xs) new n ∙ sym (from_later p y xs (omega arith)) ∙ ap (from_place p) v
-
-pub peeked_passes : (p : ℕ) (head : Option ℕ) (x : ℕ) (xs old : List ℕ) (r : Option ℕ) (new : List ℕ) → head ≡ Some x → x ≤ p → IsPeeked head xs → AreFrom p old → peeked head xs ≡ old → IsNext r xs new → peeked r new ≡ from_place (p + 1) old
-peeked_passes p None x xs old r new e le h f v n = absurd cc
-peeked_passes p (Some y) x xs old r new e le h f v n =
-    let s : y ≡ x = cc in
-    let f2 : AreFrom p (y ∷ xs) = subst (AreFrom p) (sym v) f in
-    let same : y ≡ p = omega arith in
-    next_list r xs new n ∙ sym (after_head y xs h.0) ∙ ap (λ (m : ℕ). from_place (m + 1) (y ∷ xs)) same ∙ ap (from_place (p + 1)) v
-
-pub first_rising : (head : Option ℕ) (xs : List ℕ) → IsPeeked head xs → IsRising (peeked head xs)
-first_rising None xs h = rw h tt
-first_rising (Some x) xs h = h

@@ -7,10 +7,6 @@ use Rattle.seg_postings.specs.Rising.{is_in}
 unfoldable pub picked : (Bool → Bool) → List ℕ → List ℕ → List ℕ
 picked test xs ys = filter (λ x. test (is_in x ys)) xs
 
--- the numbers that are in both
-unfoldable pub both : List ℕ → List ℕ → List ℕ
-both xs ys = picked (λ b. b) xs ys
-
 -- the numbers of xs that are not in ys
 unfoldable pub without : List ℕ → List ℕ → List ℕ
 without xs ys = picked not xs ys

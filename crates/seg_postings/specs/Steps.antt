@@ -17,8 +17,3 @@ least_of (Some x) (Some y) = if nat_lt y x then Some y else Some x
 abbrev pub IsPeeked : Option ℕ → List ℕ → Type 0
 IsPeeked None xs = xs ≡ []
 IsPeeked (Some x) xs = IsRising (x ∷ xs)
-
--- the first is not below p
-abbrev pub AreFrom : ℕ → List ℕ → Type 0
-AreFrom p [] = Unit {0}
-AreFrom p (x ∷ xs) = p ≤ x

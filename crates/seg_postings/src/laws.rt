@@ -3,20 +3,13 @@
 ghost use Rattle.std.specs.Prelude.{◌≡◌, ℕ, Bool, not, ◌||◌, ◌&&◌, List};
 ghost use Rattle.std.specs.List.{filter};
 ghost use Rattle.seg_postings.specs.Rising.{IsRising, is_in};
-ghost use Rattle.seg_postings.specs.Sets.{either, both, without};
+ghost use Rattle.seg_postings.specs.Sets.{either, without};
 
 /// A union has what one or both have. Of what two tests pick from one rising list, it is what one test or both pick.
 pub fn of_union()
     ensures members { (n : ℕ) (xs ys : List ℕ) → is_in n (either xs ys) ≡ (is_in n xs || is_in n ys) }
     ensures rising { (xs ys : List ℕ) → IsRising xs → IsRising ys → IsRising (either xs ys) }
     ensures filters { (p q : ℕ → Bool) (xs : List ℕ) → IsRising xs → either (filter p xs) (filter q xs) ≡ filter (λ x. p x || q x) xs }
-{}
-
-/// An intersection has what both have. Of what two tests pick from one rising list, it is what both tests pick.
-pub fn of_intersection()
-    ensures members { (n : ℕ) (xs ys : List ℕ) → is_in n (both xs ys) ≡ (is_in n xs && is_in n ys) }
-    ensures rising { (xs ys : List ℕ) → IsRising xs → IsRising ys → IsRising (both xs ys) }
-    ensures filters { (p q : ℕ → Bool) (xs : List ℕ) → IsRising xs → both (filter p xs) (filter q xs) ≡ filter (λ x. p x && q x) xs }
 {}
 
 /// A difference has what the first has and the second has not. Of what two tests pick from one rising list, it is what the first test picks and the

@@ -1,5 +1,5 @@
 use Rattle.seg_postings.proofs.Members.{is_in-without}
-use Rattle.seg_postings.proofs.Lacks.{rising_without}
+use Rattle.seg_postings.proofs.Sets.{rising_without}
 use Rattle.seg_postings.proofs.Matching.{without-filter}
 use Rattle.seg_postings.proofs.laws.of_difference.Goals as goal
 
