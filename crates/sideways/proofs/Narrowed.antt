@@ -16,7 +16,7 @@ use Rattle.facet_model.specs.Stored.{Records}
 use Rattle.plan_places.specs.Planned.{Planned, any_of, all_have}
 use Rattle.query_eval.proofs.Marks.{at, rising_places, is_in_places, are_places, all_from_place}
 use Rattle.seg_postings.specs.Rising.{IsRising, is_in}
-use Rattle.sideways.specs.Counted.{AreAllOf, AreWithin, left_of, is_lifted, passes_each, is_again, is_first}
+use Rattle.sideways.specs.Counted.{AreAllOf, AreWithin, is_lifted, passes_each, is_again, is_first}
 
 -- no node, where every document passes
 pub none_all : (docs : List Doc) → AreAllOf docs (λ doc. true) []
@@ -152,7 +152,7 @@ pub dim_at : (drill : List (List (List ℕ))) (i : ℕ) (path : List (List ℕ))
 dim_at drill i path dim lt is at = ap dim_of (get_or_from_slice_get drill i path [] (slice_get_read drill (length drill) i path refl lt is)) ∙ ap (λ o. unwrap_or o []) at
 
 -- without a node the part has all records
-pub every_left : (segment : Records) (docs : List Doc) (test : Doc → Bool) (nodes : List Planned) → length segment.records ≡ length docs → length nodes ≡ 0 → AreAllOf docs test nodes → left_of segment 0 None ≡ places test docs
+pub every_left : (segment : Records) (docs : List Doc) (test : Doc → Bool) (nodes : List Planned) → length segment.records ≡ length docs → length nodes ≡ 0 → AreAllOf docs test nodes → range_with_len 0 (length segment.records - 0) ≡ places test docs
 every_left segment docs test [] long none all = let whole : length segment.records - 0 ≡ length docs = omega (arith, long) in ap (range_with_len 0) whole ∙ all_pass docs test all
 every_left segment docs test (p ∷ ps) long none all = absurd (omega arith)
 

@@ -54,11 +54,6 @@ pub record PartLeft : Type 0 where
   pub segment : Records
   pub left : List ℕ
 
--- the places left; without a list of them all from the next on
-abbrev pub left_of : Records → ℕ → Option (List ℕ) → List ℕ
-left_of segment next None = range_with_len next (length segment.records - next)
-left_of segment next (Some places) = places
-
 -- The places rise, and at each there is a record.
 pub record AreWithin (segment : Records) (places : List ℕ) : Type 0 where
   pub rising : IsRising places

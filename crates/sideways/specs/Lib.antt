@@ -3,3 +3,4 @@ pub mod Refusals
 pub mod Searches
 pub mod Counted
 pub mod Kept
+pub mod Parts

@@ -1,4 +1,5 @@
-ghost use Rattle.std.specs.Prelude.{◌≡◌, ◌+◌, ◌≤◌, ◌<◌, ◌∷◌, [], List, length, IfOk, IfSome};
+ghost use Rattle.std.specs.Prelude.{◌≡◌, ◌+◌, ◌-◌, ◌≤◌, ◌<◌, ◌∷◌, [], List, length, IfOk, IfSome};
+ghost use Rattle.std.specs.List.{range_with_len};
 ghost use Rattle.facet_model.specs.CountedPaths.{places};
 ghost use Rattle.facet_model.specs.Documents.{Doc};
 ghost use Rattle.facet_model.specs.QueryViews.{query_view};
@@ -21,21 +22,42 @@ use std::marker::Model;
 #[derive(Drop)]
 pub(crate) struct Part<'a> {
     segment: &'a Segment,
-    // None where the pass goes over all records
-    places: Option<PlanPlaces<'a>>,
-    // the first record left, where it goes over all
-    next: u32,
+    left: Left<'a>,
+}
+
+/// Which records of a segment are left.
+#[derive(Drop)]
+pub(crate) enum Left<'a> {
+    /// All from a place on.
+    From(u32),
+    /// Those at the places of a plan.
+    At(PlanPlaces<'a>),
 }
 
 impl<'a> Model for Part<'a> {
-    ghost use Rattle.sideways.specs.Counted.{PartLeft, left_of, AreWithin};
-    ghost use Rattle.std.specs.Prelude.{◌≤◌, length};
+    ghost use Rattle.sideways.specs.Counted.{PartLeft};
+    ghost use Rattle.sideways.specs.Parts.{left_of, IsLeft};
 
     ghost Value = { PartLeft };
 
-    ghost view = { λ p. record { segment = p.segment.now; left = left_of p.segment.now p.next p.places } };
+    ghost view = { λ p. record { segment = p.segment.now; left = left_of p.segment.now p.left } };
 
-    ghost invariant = { λ p. AreWithin p.segment.now (left_of p.segment.now p.next p.places) × (p.next ≤ length p.segment.now.records) };
+    ghost invariant = { λ p. IsLeft p.segment.now p.left };
+}
+
+// Takes the first of the places from `next` on that are below `end`.
+fn take_below(next: &mut u32, end: u32) -> Option<u32>
+    requires { next.old ≤ end }
+    ensures next { IsNext result (range_with_len next.old (end - next.old)) (range_with_len next.new (end - next.new)) }
+    ensures within { next.new ≤ end }
+    ensures below { IfSome result (λ place. place < end) }
+{
+    let place = *next;
+    if place == end {
+        return None;
+    }
+    *next = place + 1;
+    Some(place)
 }
 
 impl<'a> Part<'a> {
@@ -52,21 +74,13 @@ impl<'a> Part<'a> {
         ensures left { IfOk result (λ p. (docs : List Doc) → HasTermsOf segment.now docs → p.left ≡ places (passes_all (query_view query.now) drill.now (lifted_of lifted.entry)) docs) }
     {
         let nodes = nodes_of(alloc, segment, query, drill, lifted)?;
-        // Its clause says how many records there are.
-        let _ = segment.docs();
         if nodes.is_empty() {
-            return Ok(Part {
-                segment,
-                places: None,
-                next: 0,
-            });
+            let left = Left::From(0);
+            return Ok(Part { segment, left });
         }
         let node = joined(alloc, nodes)?;
-        Ok(Part {
-            segment,
-            places: Some(PlanPlaces::new(node)),
-            next: 0,
-        })
+        let left = Left::At(PlanPlaces::new(node));
+        Ok(Part { segment, left })
     }
 
     /// The place of the next record left.
@@ -75,14 +89,10 @@ impl<'a> Part<'a> {
         ensures segment { self.new.segment ≡ self.old.segment }
         ensures within { IfSome result (λ place. place < length self.old.segment.records) }
     {
-        if let Some(places) = &mut self.places {
-            return places.next();
+        match &mut self.left {
+            Left::From(next) => take_below(next, self.segment.docs()),
+            Left::At(places) => places.next(),
         }
-        if self.next == self.segment.docs() {
-            return None;
-        }
-        self.next += 1;
-        Some(self.next - 1)
     }
 
     /// Counts the record at a place.
@@ -102,10 +112,10 @@ impl<'a> Part<'a> {
         ensures grown { IsGrown counter.old counter.new (lists_at self.old.segment self.old.left) }
         ensures number { result ≡ length self.old.left }
     {
-        if let Some(places) = &mut self.places {
-            return count_places(self.segment, places, counter);
+        match &mut self.left {
+            Left::From(next) => count_from(self.segment, *next, counter),
+            Left::At(places) => count_places(self.segment, places, counter),
         }
-        count_from(self.segment, self.next, counter)
     }
 
     /// How many records the segment has.

@@ -1,8 +1,11 @@
 use Rattle.std.proofs.Common.{ap, sym, subst, ◌≡◌, ◌∙◌, ◌-◌, length, arith}
 use Rattle.std.proofs.lemmas.List.FromFn.{length-range_with_len}
 use Rattle.facet_model.specs.Stored.{Records}
-use Rattle.sideways.specs.Counted.{AreCountable, left_of}
+use Rattle.sideways.specs.Counted.{AreCountable}
+use Rattle.sideways.specs.Parts.{left_of}
+use Rattle.sideways.specs.declared.part.Left.{Left}
 use Rattle.sideways.proofs.part.Part.count.Goals as goal
+use Rattle.sideways.proofs.part.Part.count.Goals.{in-From, in-At}
 
 pub count_places-requires-clause-countable : goal.count_places-requires-clause-countable
 count_places-requires-clause-countable c = subst (AreCountable c.args.counter.now.config c.args.counter.now.labels) (sym (ap (λ p. p.segment) c.self.view_is)) c.requires.countable
@@ -13,11 +16,16 @@ count_from-requires-clause-countable c = subst (AreCountable c.args.counter.now.
 pub count_from-requires-clause-room : goal.count_from-requires-clause-room
 count_from-requires-clause-room c =
     let segment : Records = c.self.inside.segment.now in
-    let left : length c.args.self.now.left ≡ length segment.records - c.self.inside.next =
-    ap (λ p. length p.left) (sym c.self.view_is) ∙ ap (λ o. length (left_of segment c.self.inside.next o)) c.in_default.is ∙ length-range_with_len c.self.inside.next (length segment.records - c.self.inside.next) in
+    let left : length c.args.self.now.left ≡ length segment.records - c.in-From.next =
+    ap (λ p. length p.left) (sym c.self.view_is) ∙ ap (λ (l : Left). length (left_of segment l)) c.in-From.is ∙ length-range_with_len c.in-From.next (length segment.records - c.in-From.next) in
     omega (arith, left, c.requires.room)
 
 pub returns-clause-number : goal.returns-clause-number
 returns-clause-number c =
     let segment : Records = c.self.inside.segment.now in
-    c.count_from.ensures.number ∙ sym (ap (λ p. length p.left) (sym c.self.view_is) ∙ ap (λ o. length (left_of segment c.self.inside.next o)) c.in_default.is ∙ length-range_with_len c.self.inside.next (length segment.records - c.self.inside.next))
+    elim c.match-self.branch [
+      | in-From w ↦
+          w.result-is ∙ w.count_from.ensures.number
+          ∙ sym (ap (λ p. length p.left) (sym c.self.view_is) ∙ ap (λ (l : Left). length (left_of segment l)) w.in-From.is ∙ length-range_with_len w.in-From.next (length segment.records - w.in-From.next))
+      | in-At w ↦ w.result-is ∙ w.count_places.ensures.number ∙ sym (ap (λ p. length p.left) (sym c.self.view_is) ∙ ap (λ (l : Left). length (left_of segment l)) w.in-At.is)
+    ]

@@ -2,7 +2,7 @@ use Rattle.std.proofs.Common.{◌≡◌, ◌∙◌, ◌<◌, ◌≤◌, List, sy
 use Rattle.std.proofs.lemmas.Bool.{eqb-true}
 use Rattle.facet_model.specs.QueryViews.{query_view}
 use Rattle.query_eval.proofs.Words.{some_left}
-use Rattle.sideways.specs.Counted.{left_of, lifted_of, passes_all}
+use Rattle.sideways.specs.Counted.{lifted_of, passes_all}
 use Rattle.sideways.proofs.Narrowed.{every_left, within_docs}
 use Rattle.sideways.proofs.part.Part.new.Goals as goal
 
@@ -17,14 +17,6 @@ returns-then-is_empty-clause-left c = λ docs are.
     let none : length c.in_ok-nodes.nodes.items ≡ 0 = omega arith in
     every_left c.args.segment.now docs (passes_all (query_view c.args.query.now) c.args.drill.now (lifted_of c.args.lifted)) c.in_ok-nodes.nodes.items are.records none (c.in_ok-nodes.ensures docs are)
 
-pub invariant_of-result : goal.invariant_of-result
-invariant_of-result c =
-    let docs = c.requires.0 in
-    let empty : c.in_ok-nodes.nodes.len ≡ 0 = eqb-true c.in_ok-nodes.nodes.len 0 (sym c.if-is_empty.ensures) in
-    let none : length c.in_ok-nodes.nodes.items ≡ 0 = omega arith in
-    let test = passes_all (query_view c.args.query.now) c.args.drill.now (lifted_of c.args.lifted) in
-    (within_docs c.args.segment.now docs test (left_of c.args.segment.now 0 None) c.requires.1.records (every_left c.args.segment.now docs test c.in_ok-nodes.nodes.items c.requires.1.records none (c.in_ok-nodes.ensures docs c.requires.1)), omega arith)
-
 pub returns-clause-left : goal.returns-clause-left
 returns-clause-left c = λ docs are.
     c.new.ensures.left ∙ c.in_ok-node.ensures docs (passes_all (query_view c.args.query.now) c.args.drill.now (lifted_of c.args.lifted)) (c.in_ok-nodes.ensures docs are)
@@ -33,4 +25,4 @@ pub invariant_of-result-2 : goal.invariant_of-result-2
 invariant_of-result-2 c =
     let docs = c.requires.0 in
     let test = passes_all (query_view c.args.query.now) c.args.drill.now (lifted_of c.args.lifted) in
-    (within_docs c.args.segment.now docs test c.new.result c.requires.1.records (c.new.ensures.left ∙ c.in_ok-node.ensures docs test (c.in_ok-nodes.ensures docs c.requires.1)), omega arith)
+    within_docs c.args.segment.now docs test c.new.result c.requires.1.records (c.new.ensures.left ∙ c.in_ok-node.ensures docs test (c.in_ok-nodes.ensures docs c.requires.1))

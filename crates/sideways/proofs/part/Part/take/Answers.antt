@@ -1,36 +1,52 @@
-use Rattle.std.proofs.Common.{ap, sym, subst, ◌≡◌, ◌∙◌, ◌+◌, ◌-◌, ◌<◌, ◌≤◌, ◌∷◌, ℕ, length, arith}
+use Rattle.std.proofs.Common.{ap, sym, subst, ◌≡◌, ◌∙◌, ◌-◌, ◌<◌, ◌≤◌, ℕ, List, Option, length, arith}
 use Rattle.std.specs.Prelude.{IfSome}
 use Rattle.std.specs.List.{range_with_len}
 use Rattle.facet_model.specs.Stored.{Records}
-use Rattle.sideways.specs.Counted.{AreWithin, left_of}
-use Rattle.sideways.proofs.Walked.{next_within, next_record, within_rest, row_next}
+use Rattle.seg_postings.specs.Rising.{IsNext}
+use Rattle.sideways.specs.Counted.{AreWithin}
+use Rattle.sideways.specs.Parts.{IsLeft, left_of}
+use Rattle.sideways.specs.declared.part.Left.{Left}
+use Rattle.sideways.specs.declared.part.Part.TheInside.{Inside}
+use Rattle.sideways.proofs.Walked.{next_within, next_record}
 use Rattle.sideways.proofs.part.Part.take.Goals as goal
+use Rattle.sideways.proofs.part.Part.take.Goals.{in-From, in-At}
 
 pub invariant_of-self : goal.invariant_of-self
 invariant_of-self c =
-    (next_within c.self.inside.segment.now c.next.result c.in-Some.places c.next.new.self (subst (λ o. AreWithin c.self.inside.segment.now (left_of c.self.inside.segment.now c.self.inside.next o)) c.in-Some.is c.self.invariant.0) c.next.ensures.next, c.self.invariant.1)
-
-pub returns-in-Some-clause-within : goal.returns-in-Some-clause-within
-returns-in-Some-clause-within c =
-    let segment : c.self.inside.segment.now ≡ c.args.self.now.segment = ap (λ p. p.segment) c.self.view_is in
-    subst (λ (s : Records). IfSome c.next.result (λ place. place < length s.records)) segment
-    (next_record c.self.inside.segment.now c.next.result c.in-Some.places c.next.new.self (subst (λ o. AreWithin c.self.inside.segment.now (left_of c.self.inside.segment.now c.self.inside.next o)) c.in-Some.is c.self.invariant.0) c.next.ensures.next)
-
-pub invariant_of-self-2 : goal.invariant_of-self-2
-invariant_of-self-2 c =
     let segment : Records = c.self.inside.segment.now in
-    let next : ℕ = c.self.inside.next in
-    let at_most : next ≤ length segment.records = c.self.invariant.1 in
-    let end : next < length segment.records = omega (arith, at_most, c.docs.ensures.number, c.if-self-docs.false) in
-    let rows : AreWithin segment (range_with_len next (length segment.records - next)) = subst (λ o. AreWithin segment (left_of segment next o)) c.in_default.is c.self.invariant.0 in
-    (subst (λ o. AreWithin segment (left_of segment (next + 1) o)) (sym c.in_default.is) (within_rest segment next (range_with_len (next + 1) (length segment.records - (next + 1))) (subst (AreWithin segment) (row_next next (length segment.records) end) rows)), omega arith)
+    elim c.match-self.branch [
+      | in-From w ↦ subst (λ (x : Inside). IsLeft x.segment.now x.left) (sym w.self-inside-is) (omega (arith, w.take_below.ensures.within, w.docs.ensures.number))
+      | in-At w ↦
+          let within : AreWithin segment w.in-At.places = subst (IsLeft segment) w.in-At.is c.self.invariant in
+          subst (λ (x : Inside). IsLeft x.segment.now x.left) (sym w.self-inside-is) (next_within segment w.next.result w.in-At.places w.next.new.self within w.next.ensures.next)
+    ]
 
 pub returns-clause-next : goal.returns-clause-next
 returns-clause-next c =
     let segment : Records = c.self.inside.segment.now in
-    let next : ℕ = c.self.inside.next in
-    let at_most : next ≤ length segment.records = c.self.invariant.1 in
-    let end : next < length segment.records = omega (arith, at_most, c.docs.ensures.number, c.if-self-docs.false) in
-    let same : next ≡ next + 1 - 1 = omega arith in
-    ap (λ p. p.left) (sym c.self.view_is) ∙ ap (left_of segment next) c.in_default.is ∙ row_next next (length segment.records) end
-    ∙ (λ i. same i ∷ left_of segment (next + 1) (sym c.in_default.is i))
+    let left : c.args.self.now.left ≡ left_of segment c.self.inside.left = ap (λ p. p.left) (sym c.self.view_is) in
+    elim c.match-self.branch [
+      | in-From w ↦
+          let next : ℕ = w.in-From.next in
+          let after : ℕ = w.take_below.new.next in
+          let row : List ℕ = range_with_len after (length segment.records - after) in
+          let step : IsNext w.take_below.result (range_with_len next (length segment.records - next)) row =
+          subst (λ n. IsNext w.take_below.result (range_with_len next (n - next)) (range_with_len after (n - after))) w.docs.ensures.number w.take_below.ensures.next in
+          subst (λ (x : Inside). IsNext c.match-self.result c.args.self.now.left (left_of x.segment.now x.left)) (sym w.self-inside-is)
+          (subst (λ (r : Option ℕ). IsNext r c.args.self.now.left row) (sym w.result-is) (subst (λ (old : List ℕ). IsNext w.take_below.result old row) (sym (left ∙ ap (left_of segment) w.in-From.is)) step))
+      | in-At w ↦
+          subst (λ (x : Inside). IsNext c.match-self.result c.args.self.now.left (left_of x.segment.now x.left)) (sym w.self-inside-is)
+          (subst (λ (r : Option ℕ). IsNext r c.args.self.now.left w.next.new.self) (sym w.result-is) (subst (λ (old : List ℕ). IsNext w.next.result old w.next.new.self) (sym (left ∙ ap (left_of segment) w.in-At.is)) w.next.ensures.next))
+    ]
+
+pub returns-clause-within : goal.returns-clause-within
+returns-clause-within c =
+    let segment : Records = c.self.inside.segment.now in
+    let same : segment ≡ c.args.self.now.segment = ap (λ p. p.segment) c.self.view_is in
+    subst (λ (s : Records). IfSome c.match-self.result (λ place. place < length s.records)) same (elim c.match-self.branch [
+      | in-From w ↦
+          subst (λ (r : Option ℕ). IfSome r (λ place. place < length segment.records)) (sym w.result-is) (subst (λ n. IfSome w.take_below.result (λ place. place < n)) w.docs.ensures.number w.take_below.ensures.below)
+      | in-At w ↦
+          let within : AreWithin segment w.in-At.places = subst (IsLeft segment) w.in-At.is c.self.invariant in
+          subst (λ (r : Option ℕ). IfSome r (λ place. place < length segment.records)) (sym w.result-is) (next_record segment w.next.result w.in-At.places w.next.new.self within w.next.ensures.next)
+    ])
