@@ -1,5 +1,6 @@
 ghost use Rattle.std.specs.Prelude.{◌≡◌, ◌<◌, ◌+◌, ◌++◌, ◌∷◌, ◌^◌, [], List, ℕ, All, nat_eq, length, slice_index_or, if◌then◌else◌, IfOk};
 ghost use Rattle.std.specs.List.{list_any, AllPairs};
+ghost use Rattle.facet_names.specs.Labels.{IsLabelList};
 ghost use Rattle.facet_counts.specs.Lists.{IsCounted};
 ghost use Rattle.facet_counts.specs.Tallies.{HasAdded, AreCounts};
 
@@ -56,6 +57,7 @@ impl<'a> Counter<'a> {
         ensures labels { IfOk result (λ c. c.labels ≡ view.now) }
         ensures config { IfOk result (λ c. c.config ≡ config.now) }
         ensures number { IfOk result (λ c. c.added ≡ 0) }
+        ensures list { IfOk result (λ c. IsLabelList c.labels) }
     {
         let rolled = rolled_labels(alloc, view, config)?;
         let mut counts = Vec::new(alloc);

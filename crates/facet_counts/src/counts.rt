@@ -132,8 +132,6 @@ impl<'a> Counts<'a> {
         requires kept { ask_fault self.now.config (one_value path.now) ≡ None }
         ensures { (docs snapshot : List Doc) (lists : List (List ℕ)) → AreCounts self.now lists → AllZip (IsListOf self.now.config self.now.labels) lists docs → exists ≡ nat_lt 0 (count snapshot path.now) → result ≡ specific snapshot docs path.now }
     {
-        // Its clause says that a path has a component.
-        let _ = path.dim();
         if !exists {
             return -1;
         }
@@ -161,8 +159,6 @@ impl<'a> Counts<'a> {
         requires { 0 < n }
         ensures { IfOk result (λ v. (docs : List Doc) (lists : List (List ℕ)) → AreCounts self.now lists → AllZip (IsListOf self.now.config self.now.labels) lists docs → AreDims (λ _. true) self.now.config (λ _. docs) n (map result_view v.items)) }
     {
-        // Its clause says that the root is a label.
-        let _ = self.view.size();
         let mut results = Vec::new(alloc);
         let mut next = child_of(self.view, 0);
         while let Some(ord) = next {

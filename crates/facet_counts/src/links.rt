@@ -1,9 +1,10 @@
 //! The arrays of a view, read as ordinals.
 ghost use Rattle.std.specs.Prelude.{◌≡◌, ◌<◌, Some, length};
 ghost use Rattle.facet_names.specs.Arrays.{parent_at, child_at, sibling_at};
+ghost use Rattle.facet_names.specs.Labels.{IsLabelList};
 ghost use Rattle.taxo_list.specs.Links.{ordinal};
 
-use taxo_list::{Labelled, TaxoView};
+use taxo_list::TaxoView;
 
 // An entry of an array: none is negative.
 fn entry(link: i32) -> Option<u32>
@@ -18,9 +19,8 @@ pub fn parent_of(view: &TaxoView, ord: u32) -> u32
     requires within { ord < length view.now }
     ensures parent { parent_at view.now ord ≡ Some result }
     ensures smaller { result < ord }
+    ensures list { IsLabelList view.now }
 {
-    // Its clause says that each label stands after its parent.
-    let _ = view.size();
     entry(view.arrays().parent(ord)).unwrap()
 }
 

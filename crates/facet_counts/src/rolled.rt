@@ -27,8 +27,6 @@ fn mark_of(view: &TaxoView, config: &FacetsConfig, before: &[bool], ord: u32) ->
     requires known { (i : ℕ) → 0 < i → i < ord → slice_index_or before.now i false ≡ is_rolled config.now view.now i }
     ensures { result ≡ is_rolled config.now view.now ord }
 {
-    // Its clause says that the labels are in order.
-    let _ = view.size();
     let parent = parent_of(view, ord);
     if parent == 0 {
         rolls_up(config.flags(view.path_of(ord).dim()))

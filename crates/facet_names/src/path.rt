@@ -199,7 +199,8 @@ impl Path {
     /// The path's drill-down term: the components with U+001F between them, and a U+001E before each U+001E or U+001F inside one. As Lucene's
     /// `FacetsConfig.pathToString`. It has at most 65,567 bytes.
     pub fn term_text(&self, alloc: Global) -> Result<String, NoMemory>
-        ensures { IfOk result (λ text. string_bytes text ≡ term_text self.now) }
+        ensures text { IfOk result (λ text. string_bytes text ≡ term_text self.now) }
+        ensures some { 0 < length self.now }
     {
         joined(alloc, &self.parts)
     }

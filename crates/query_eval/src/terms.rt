@@ -35,8 +35,6 @@ pub fn path_term(alloc: Global, path: &Path) -> Result<String, NoMemory>
     ensures term { IfOk result (λ t. string_bytes t ≡ codes "f" ++ term_text path.now) }
     ensures some { 0 < length path.now }
 {
-    // Its clause says that a path has a component.
-    let _ = path.dim();
     let text = path.term_text(alloc)?;
     let mut term = String::from_str(alloc, "f")?;
     term.push_str(text.as_str())?;

@@ -1,10 +1,10 @@
 -- Segments that decode, under a list of labels that goes on, and with one segment more.
-use Rattle.std.proofs.Common.{◌≡◌, ℕ, true, List, [], ◌∷◌, ◌++◌, map, get_or, slice_get, Some, refl, sym, ap, subst, ◌∙◌}
+use Rattle.std.proofs.Common.{◌≡◌, ℕ, zero, suc, ◌-◌, ◌<◌, length, arith, true, List, [], ◌∷◌, ◌++◌, map, get_or, slice_get, Some, refl, sym, ap, subst, ◌∙◌}
 use Rattle.std.specs.Prelude.{flat_map}
 use Rattle.std.specs.List.{AllZip}
 use Rattle.std.proofs.lemmas.List.{append-nil, map-append, flat_map_more}
 use Rattle.std.proofs.lemmas.List.Concat.{flat_map-cons}
-use Rattle.std.proofs.lemmas.Option.{get_or_from_slice_get}
+use Rattle.std.proofs.lemmas.Option.{get_or_from_slice_get, slice_get-get_or}
 use Rattle.facet_names.specs.Labels.{GoesOn, IsLabelList}
 use Rattle.facet_names.proofs.LabelLists.{Labels}
 use Rattle.facet_model.specs.Documents.{Doc}
@@ -112,3 +112,10 @@ pub flushed_decodes : (config : Config) (known : Labels) (segments : List Record
 flushed_decodes config known segments docs [] d are = subst (Decodes known config segments) (sym (append-nil docs)) d
 flushed_decodes config known segments docs (e ∷ es) d are =
     decodes_push known config segments docs (segment_of (e ∷ es)) (docs_of (e ∷ es)) d (record { records = entries_zip config known (e ∷ es) are; terms = refl })
+
+-- a label behind the root stands one place before its ordinal among the others
+pub label_behind : (labels paths : Labels) (ord : ℕ) (path : List (List ℕ)) → labels ≡ [] ∷ paths → 0 < ord → path ≡ get_or paths (ord - 1) [] → ord - 1 < length paths → slice_get labels ord ≡ Some path
+label_behind labels paths zero path are some is lt = absurd (omega arith)
+label_behind labels paths (suc at) path are some is lt =
+    let same : suc at - 1 ≡ at = omega arith in
+    ap (λ (ls : Labels). slice_get ls (suc at)) are ∙ slice_get-get_or paths at [] (omega arith) ∙ ap Some (sym (is ∙ ap (λ n. get_or paths n []) same))

@@ -10,9 +10,11 @@ use Rattle.std.proofs.lemmas.Bool.Decides.{Decides-eqb}
 use Rattle.std.proofs.lemmas.Cmp.{nat_eq_equiv}
 use Rattle.std.proofs.lemmas.List.Kept.{AllPairs-from_increasing}
 use Rattle.std.proofs.lemmas.List.Sums.{length-filter, count_by-le-length}
+use Rattle.std.proofs.lemmas.Map.Keys.{IsStrictlyIncreasing-from_sorted}
 use Rattle.std.proofs.lemmas.Map.Made.{length-le_from_is_member, IsDistinct-from_AllPairs}
 use Rattle.facet_names.proofs.LabelLists.{Labels}
-use Rattle.facet_model.specs.CountedPaths.{is_counted_for, ordinals_of_label, ordinals_of_labels}
+use Rattle.facet_names.proofs.Places.{places_rise}
+use Rattle.facet_model.specs.CountedPaths.{counted_ordinals, is_counted, is_counted_for, ordinals_of_label, ordinals_of_labels}
 use Rattle.facet_model.specs.Documents.{dim_of}
 use Rattle.facet_model.specs.Flags.{Config, flags}
 use Rattle.facet_config.specs.Expanding.{AreAsLong, AreExpanded}
@@ -40,3 +42,7 @@ counted_few config labels resolved counted few short long rising expanded =
     let distinct : IsDistinct eqb counted = IsDistinct-from_AllPairs Decides-eqb counted (λ i j d less lt same. omega (arith, below i j d less lt, same)) in
     let fewer : length counted ≤ length (ordinals_of_labels config labels resolved) = length-le_from_is_member nat_eq_equiv counted (ordinals_of_labels config labels resolved) distinct (λ q in_counted. sym (expanded.members q) ∙ in_counted) in
     omega (arith, fewer, labels_few config labels resolved short long)
+
+-- the counted ordinals rise
+pub counted_rise : (known : Labels) (config : Config) (labels : Labels) → IsStrictlyIncreasing (counted_ordinals known config labels)
+counted_rise known config labels = IsStrictlyIncreasing-from_sorted (counted_ordinals known config labels) (places_rise (is_counted config labels) known 0)

@@ -1,5 +1,6 @@
 //! The documents that a segment's records stand for, with their ordinals found anew.
 ghost use Rattle.std.specs.Prelude.{◌≡◌, ◌<◌, ◌≤◌, ◌+◌, ◌*◌, ◌^◌, ◌++◌, ◌&&◌, nat_lt, ℕ, List, Some, All, IfOk, length, map, slice_get};
+ghost use Rattle.facet_names.specs.Labels.{IsLabelList};
 ghost use Rattle.facet_model.specs.CountedPaths.{counted_ordinals};
 ghost use Rattle.facet_model.specs.Stored.{AreLabelsAt};
 ghost use Rattle.facet_model.specs.declared.document.DocShape.TheVariants.{NoMemory as Memory};
@@ -61,14 +62,16 @@ pub fn labels_at<L: Labelled>(
     ordinals: &[u32],
 ) -> Result<Vec<Path>, NoMemory>
     requires { All (IsLeaf (length (L.labels labels.now))) ordinals.now }
-    ensures { IfOk result (λ v. AreLabelsAt (L.labels labels.now) ordinals.now v.items) }
+    ensures labels { IfOk result (λ v. AreLabelsAt (L.labels labels.now) ordinals.now v.items) }
+    ensures list { IsLabelList (L.labels labels.now) }
 {
-    let mut paths = Vec::with_capacity(alloc, ordinals.len())?;
+    let paths = labels.paths();
+    let mut copies = Vec::with_capacity(alloc, ordinals.len())?;
     for ord in ordinals {
-        let path = labels.path_of(*ord).dup(alloc)?;
-        paths.push(path)?;
+        let path = paths[*ord as usize - 1].dup(alloc)?;
+        copies.push(path)?;
     }
-    Ok(paths)
+    Ok(copies)
 }
 
 // A record is within the limits of a document, so that nothing but memory can be wanting.
@@ -91,9 +94,8 @@ pub fn document_of<L: Labelled>(
     requires within { All (IsLeaf (length (L.labels labels.now))) leaves.now }
     ensures doc { IfOk result (λ d. d ≡ doc_in (L.labels labels.now) (record_of segment.now doc)) }
     ensures labels { IfOk result (λ d. AreLabelsAt (L.labels labels.now) leaves.now d.labels) }
+    ensures list { IsLabelList (L.labels labels.now) }
 {
-    // Its clause says that each record is within the limits of a document.
-    let _ = segment.docs();
     let paths = labels_at(alloc, labels, leaves)?;
     match Document::new(alloc, segment.id(doc), segment.text(doc), paths) {
         Ok(document) => Ok(document),
@@ -109,15 +111,13 @@ fn entry_of(
     doc: Document,
     leaves: Vec<u32>,
 ) -> Result<Entry, NoMemory>
-    requires { AreLabelsAt labels.now leaves.items doc.labels }
+    requires list { IsLabelList labels.now }
+    requires labels { AreLabelsAt labels.now leaves.items doc.labels }
     ensures doc { IfOk result (λ e. e.doc ≡ doc) }
     ensures stored { IfOk result (λ e. stored_of e ≡ record { id = doc.id; text = doc.text; leaves = leaves.items; counted = counted_ordinals labels.now config.now doc.labels }) }
 {
-    // Their clauses say that these are a label list, that the facets are few, and that the ordinals rise.
-    let _ = labels.size();
     let resolved = resolve_all(alloc, labels, doc.facets())?;
     let counted = config.expand(alloc, &doc, &resolved)?;
-    let _ = counted.ords();
     Ok(Entry {
         doc,
         leaves,

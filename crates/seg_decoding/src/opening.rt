@@ -77,13 +77,9 @@ pub fn open_stored(
     ensures some { IfOk result (λ s. 0 < length s.records) }
     ensures few { IfOk result (λ s. length s.records ≤ 1000000) }
 {
-    // Its clause says that these are a label list.
-    let _ = labels.size();
     let segment = opened(alloc, documents, bytes)?;
     let entries = entries_of(alloc, config, labels, needs, &segment)?;
     let rebuilt = Segment::build(alloc, &entries)?;
-    // Its clause says that its bytes are a segment.
-    let _ = rebuilt.docs();
     match first_difference(segment.bytes(), rebuilt.bytes()) {
         Some(at) => Err(StoredFault::Malformed { at }),
         None => Ok(segment),

@@ -3,7 +3,7 @@ ghost use Rattle.facet_model.specs.Stored.{Records};
 ghost use Rattle.facet_model.specs.Terms.{terms_of};
 ghost use Rattle.seg_terms.specs.Entries.{stored_of};
 ghost use Rattle.seg_grammar.specs.declared.fault.SegFault.TheVariants.{NoMemory as Memory};
-ghost use Rattle.seg_grammar.specs.Spelling.{IsSegment, seg_bytes, TermsRise};
+ghost use Rattle.seg_grammar.specs.Spelling.{IsRecord, IsSegment, seg_bytes, TermsRise};
 ghost use Rattle.seg_grammar.specs.Reading.{Fails, segment_at};
 ghost use Rattle.seg_grammar.specs.Lookups.{record_of, places_of_term};
 ghost use Rattle.seg_file.specs.Fronts.{BeginsRecord, BeginsCounted, BeginsTerm};
@@ -67,7 +67,8 @@ impl Segment {
 
     /// The bytes.
     pub fn bytes(&self) -> &[u8]
-        ensures { result.now ≡ seg_bytes self.now }
+        ensures bytes { result.now ≡ seg_bytes self.now }
+        ensures is { IsSegment (seg_bytes self.now) self.now }
     {
         self.bytes.as_slice()
     }
@@ -83,7 +84,8 @@ impl Segment {
     /// The id of a document.
     pub fn id(&self, doc: u32) -> &str
         requires { doc < length self.now.records }
-        ensures { result.now ≡ (record_of self.now doc).id }
+        ensures id { result.now ≡ (record_of self.now doc).id }
+        ensures fits { IsRecord (record_of self.now doc) }
     {
         let mut cursor = self.record(doc);
         text_front(&mut cursor)

@@ -14,7 +14,7 @@ ghost use Rattle.sideways.specs.Searches.{question};
 use crate::ask::SearchAsk;
 use crate::pass::{Found, LiftedCounts};
 use facet_config::FacetsConfig;
-use facet_counts::{Counts, child_of, no_result_elsewhere, note_dim, order_dims, sibling_of};
+use facet_counts::{Counts, child_of, note_dim, order_dims, sibling_of};
 use facet_model::{Ask, FacetAnswer, FacetResult};
 use facet_names::{NoMemory, Path};
 use query_eval::has_path;
@@ -59,11 +59,9 @@ fn each_dim(
 ) -> Result<Vec<FacetResult>, NoMemory>
     requires some { 0 < n }
     requires labels { view.now ≡ answer.now.labels }
+    requires list { IsLabelList view.now }
     ensures { IfOk result (λ v. (docs : List Doc) → HasDocs (question answer.now) docs → AreDims (λ dim. true) answer.now.config (docs_of (question answer.now) docs) n (map result_view v.items)) }
 {
-    // Their clauses say that the root is a label, and that a path that is no label has no result.
-    let _ = view.size();
-    no_result_elsewhere();
     let mut results = Vec::new(alloc);
     let mut next = child_of(view, 0);
     while let Some(ord) = next {

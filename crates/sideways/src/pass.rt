@@ -1,5 +1,6 @@
 ghost use Rattle.std.specs.Prelude.{◌≡◌, ◌+◌, ◌≤◌, ◌⊎◌, [], List, IfOk, OnOk, length, take};
 ghost use Rattle.std.specs.List.{AllByRecursion};
+ghost use Rattle.facet_names.specs.Labels.{IsLabelList};
 ghost use Rattle.facet_model.specs.Documents.{Doc};
 ghost use Rattle.facet_model.specs.QueryViews.{query_view};
 ghost use Rattle.facet_counts.specs.Tallies.{AreCounts, HasAdded};
@@ -109,6 +110,7 @@ impl<'a> Pass<'a> {
         ensures fresh { IfOk result (λ p. HasAdded p.counter []) }
         ensures labels { IfOk result (λ p. p.counter.labels ≡ view.now) }
         ensures config { IfOk result (λ p. p.counter.config ≡ config.now) }
+        ensures list { IfOk result (λ p. IsLabelList p.counter.labels) }
     {
         let parts = parts_of(alloc, segments, query, drill, lifted)?;
         let counter = Counter::new(alloc, view, config)?;

@@ -18,7 +18,6 @@ use crate::ask::{AskRefused, SearchAsk, first_refusal};
 use crate::node::is_first;
 use crate::pass::{LiftedCounts, LiftedPass, Pass};
 use facet_config::FacetsConfig;
-use facet_counts::may_be_counted;
 use facet_names::NoMemory;
 use seg_file::Segment;
 use std::alloc::Global;
@@ -139,8 +138,6 @@ impl<'a> DrillPlan<'a> {
         requires fit { first_refused config.now (map ask_view ask.now.asks.items) ≡ None }
         ensures { IfOk result (λ p. p ≡ search_of view.now config.now segments.now ask.now) }
     {
-        // Its clause says that these are a label list.
-        let _ = view.size();
         let drill = ask.drill.paths();
         let hits = Pass::new(alloc, view, config, segments, &ask.query, drill, None)?;
         let lifted = lifted_passes(alloc, view, config, segments, ask)?;
@@ -172,8 +169,6 @@ impl<'a> DrillPlan<'a> {
             places,
             counted,
         } = self;
-        // Its clause says that the ordinals of a document may be counted.
-        may_be_counted();
         let found = hits.count_hits(ask.hits, places)?;
         let lifted = count_lifted(lifted, counted)?;
         Ok(SidewaysAnswer {

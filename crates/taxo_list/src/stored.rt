@@ -11,6 +11,7 @@ pub fn ordinal_in(labels: &IndexSet<Path>, path: &Path) -> Option<u32>
     requires { length labels.now.keys < 1000000 }
     ensures ordinal { result ≡ place ([] ∷ labels.now.keys) path.now }
     ensures there { is_some result ≡ stands ([] ∷ labels.now.keys) path.now }
+    ensures some { 0 < length path.now }
 {
     // Its clause says that a path has a component, so it is not the root.
     let _ = path.len();

@@ -69,13 +69,15 @@ impl TaxoView {
     pub fn ordinal_of(&self, path: &Path) -> Option<u32>
         ensures ordinal { result ≡ place self.now path.now }
         ensures there { is_some result ≡ stands self.now path.now }
+        ensures some { 0 < length path.now }
     {
         ordinal_in(&self.labels, path)
     }
 
     /// The parents, children and siblings of the labels.
     pub fn arrays(&self) -> &Arrays
-        ensures { result.now ≡ arrays_of self.now }
+        ensures arrays { result.now ≡ arrays_of self.now }
+        ensures list { IsLabelList self.now }
     {
         &self.arrays
     }

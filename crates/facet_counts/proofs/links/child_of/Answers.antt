@@ -6,7 +6,7 @@ use Rattle.facet_counts.proofs.Entries.{as_many, child_entry}
 use Rattle.facet_counts.proofs.links.child_of.Goals as goal
 
 pub child-requires : goal.child-requires
-child-requires c = omega (arith, as_many c.args.view.now c.arrays.result.now c.arrays.ensures c.args.ord, c.requires)
+child-requires c = omega (arith, as_many c.args.view.now c.arrays.result.now c.arrays.ensures.arrays c.args.ord, c.requires)
 
 pub returns : goal.returns
-returns c = c.entry.ensures ∙ ap ordinal (to_z-of_z w32 c.child.result (record { sfits = c.child.type_inv }) ∙ c.child.ensures) ∙ child_entry c.args.view.now c.arrays.result.now c.arrays.ensures c.args.ord c.requires
+returns c = c.entry.ensures ∙ ap ordinal (to_z-of_z w32 c.child.result (record { sfits = c.child.type_inv }) ∙ c.child.ensures) ∙ child_entry c.args.view.now c.arrays.result.now c.arrays.ensures.arrays c.args.ord c.requires

@@ -6,7 +6,7 @@ use Rattle.facet_counts.proofs.Entries.{as_many, sibling_entry}
 use Rattle.facet_counts.proofs.links.sibling_of.Goals as goal
 
 pub sibling-requires : goal.sibling-requires
-sibling-requires c = omega (arith, as_many c.args.view.now c.arrays.result.now c.arrays.ensures c.args.ord, c.requires)
+sibling-requires c = omega (arith, as_many c.args.view.now c.arrays.result.now c.arrays.ensures.arrays c.args.ord, c.requires)
 
 pub returns : goal.returns
-returns c = c.entry.ensures ∙ ap ordinal (to_z-of_z w32 c.sibling.result (record { sfits = c.sibling.type_inv }) ∙ c.sibling.ensures) ∙ sibling_entry c.args.view.now c.arrays.result.now c.arrays.ensures c.args.ord c.requires
+returns c = c.entry.ensures ∙ ap ordinal (to_z-of_z w32 c.sibling.result (record { sfits = c.sibling.type_inv }) ∙ c.sibling.ensures) ∙ sibling_entry c.args.view.now c.arrays.result.now c.arrays.ensures.arrays c.args.ord c.requires

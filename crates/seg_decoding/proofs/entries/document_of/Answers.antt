@@ -12,15 +12,15 @@ use Rattle.seg_decoding.proofs.entries.document_of.Goals as goal
 pub returns-in-Ok-clause-doc : goal.returns-in-Ok-clause-doc
 returns-in-Ok-clause-doc g c =
     let at : AreLabelsAt (g.L.Labelled.labels c.args.labels.now) (record_of c.args.segment.now c.args.doc).leaves c.in_ok-paths.paths.items =
-    subst (λ (l : List ℕ). AreLabelsAt (g.L.Labelled.labels c.args.labels.now) l c.in_ok-paths.paths.items) c.requires.own c.in_ok-paths.ensures
+    subst (λ (l : List ℕ). AreLabelsAt (g.L.Labelled.labels c.args.labels.now) l c.in_ok-paths.paths.items) c.requires.own c.in_ok-paths.ensures.labels
     in
     let is : record { id = c.id.result.now; text = c.text.result.now; labels = c.in_ok-paths.paths.items } ≡ doc_in (g.L.Labelled.labels c.args.labels.now) (record_of c.args.segment.now c.args.doc) =
-    λ i. record { id = c.id.ensures i; text = c.text.ensures i; labels = sym (labels_at (g.L.Labelled.labels c.args.labels.now) (record_of c.args.segment.now c.args.doc).leaves c.in_ok-paths.paths.items at) i } in
+    λ i. record { id = c.id.ensures.id i; text = c.text.ensures i; labels = sym (labels_at (g.L.Labelled.labels c.args.labels.now) (record_of c.args.segment.now c.args.doc).leaves c.in_ok-paths.paths.items at) i } in
     c.in-Ok.ensures.ok ∙ is
 
 pub no_memory-requires : goal.no_memory-requires
 no_memory-requires g c =
     let r = record_of c.args.segment.now c.args.doc in
-    let at : AreLabelsAt (g.L.Labelled.labels c.args.labels.now) r.leaves c.in_ok-paths.paths.items = subst (λ (l : List ℕ). AreLabelsAt (g.L.Labelled.labels c.args.labels.now) l c.in_ok-paths.paths.items) c.requires.own c.in_ok-paths.ensures in
-    let fits : IsRecord r = each_at IsRecord c.args.segment.now.records c.docs.ensures.is.records c.args.doc (record { id = []; text = []; leaves = []; counted = [] }) c.requires.there in
-    memory_alone (g.L.Labelled.labels c.args.labels.now) r c.in_ok-paths.paths.items fits at c.in-Err.fault (λ other. (λ i. doc_fault (sym c.id.ensures i) (sym c.text.ensures i) c.in_ok-paths.paths.items) ∙ c.in-Err.ensures.err other)
+    let at : AreLabelsAt (g.L.Labelled.labels c.args.labels.now) r.leaves c.in_ok-paths.paths.items = subst (λ (l : List ℕ). AreLabelsAt (g.L.Labelled.labels c.args.labels.now) l c.in_ok-paths.paths.items) c.requires.own c.in_ok-paths.ensures.labels in
+    let fits : IsRecord r = c.id.ensures.fits in
+    memory_alone (g.L.Labelled.labels c.args.labels.now) r c.in_ok-paths.paths.items fits at c.in-Err.fault (λ other. (λ i. doc_fault (sym c.id.ensures.id i) (sym c.text.ensures i) c.in_ok-paths.paths.items) ∙ c.in-Err.ensures.err other)

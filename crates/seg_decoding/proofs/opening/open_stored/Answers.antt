@@ -26,24 +26,24 @@ returns-in-Some-clause-err c =
     let known = c.args.labels.now in
     let built : c.in_ok-rebuilt.rebuilt ≡ rebuilt c.args.config.now known c.in_ok-segment.segment.records = c.in_ok-rebuilt.ensures
     ∙ ap (λ (es : List Entry). record { records = map stored_of es; terms = terms_of (docs_of es) }) c.deref.ensures.value ∙ (λ i. record { records = c.in_ok-entries.ensures.stored i; terms = terms_of (c.in_ok-entries.ensures.docs i) }) in
-    differs c.args.config.now known c.args.needs c.args.documents c.args.bytes.items c.in_ok-segment.segment c.in_ok-segment.ensures.read c.in_ok-rebuilt.rebuilt c.in_ok-segment.ensures.found c.in_ok-entries.ensures.fits built c.docs.ensures.is c.in-Some.at
-    ((λ i. first_difference (sym c.bytes.ensures i) (sym c.bytes-2.ensures i)) ∙ sym c.in-Some.ensures)
+    differs c.args.config.now known c.args.needs c.args.documents c.args.bytes.items c.in_ok-segment.segment c.in_ok-segment.ensures.read c.in_ok-rebuilt.rebuilt c.in_ok-segment.ensures.found c.in_ok-entries.ensures.fits built c.bytes-2.ensures.is c.in-Some.at
+    ((λ i. first_difference (sym c.bytes.ensures.bytes i) (sym c.bytes-2.ensures.bytes i)) ∙ sym c.in-Some.ensures)
 
 pub returns-in-None-clause-ok : goal.returns-in-None-clause-ok
 returns-in-None-clause-ok c =
     let known = c.args.labels.now in
     let built : c.in_ok-rebuilt.rebuilt ≡ rebuilt c.args.config.now known c.in_ok-segment.segment.records = c.in_ok-rebuilt.ensures
     ∙ ap (λ (es : List Entry). record { records = map stored_of es; terms = terms_of (docs_of es) }) c.deref.ensures.value ∙ (λ i. record { records = c.in_ok-entries.ensures.stored i; terms = terms_of (c.in_ok-entries.ensures.docs i) }) in
-    agrees c.args.config.now known c.args.needs c.args.documents c.args.bytes.items c.in_ok-segment.segment c.in_ok-segment.ensures.read c.in_ok-rebuilt.rebuilt c.in_ok-segment.ensures.found c.in_ok-entries.ensures.fits built c.docs.ensures.is
-    ((λ i. first_difference (sym c.bytes.ensures i) (sym c.bytes-2.ensures i)) ∙ sym c.in-None.ensures)
+    agrees c.args.config.now known c.args.needs c.args.documents c.args.bytes.items c.in_ok-segment.segment c.in_ok-segment.ensures.read c.in_ok-rebuilt.rebuilt c.in_ok-segment.ensures.found c.in_ok-entries.ensures.fits built c.bytes-2.ensures.is
+    ((λ i. first_difference (sym c.bytes.ensures.bytes i) (sym c.bytes-2.ensures.bytes i)) ∙ sym c.in-None.ensures)
 
 pub returns-in-None-clause-decodes : goal.returns-in-None-clause-decodes
 returns-in-None-clause-decodes c =
     let known = c.args.labels.now in
     let built : c.in_ok-rebuilt.rebuilt ≡ rebuilt c.args.config.now known c.in_ok-segment.segment.records = c.in_ok-rebuilt.ensures
     ∙ ap (λ (es : List Entry). record { records = map stored_of es; terms = terms_of (docs_of es) }) c.deref.ensures.value ∙ (λ i. record { records = c.in_ok-entries.ensures.stored i; terms = terms_of (c.in_ok-entries.ensures.docs i) }) in
-    decodes c.args.config.now known c.args.needs c.args.documents c.args.bytes.items c.in_ok-segment.segment c.in_ok-segment.ensures.read c.in_ok-rebuilt.rebuilt c.in_ok-segment.ensures.found c.in_ok-entries.ensures.fits built c.docs.ensures.is
-    ((λ i. first_difference (sym c.bytes.ensures i) (sym c.bytes-2.ensures i)) ∙ sym c.in-None.ensures) c.requires
+    decodes c.args.config.now known c.args.needs c.args.documents c.args.bytes.items c.in_ok-segment.segment c.in_ok-segment.ensures.read c.in_ok-rebuilt.rebuilt c.in_ok-segment.ensures.found c.in_ok-entries.ensures.fits built c.bytes-2.ensures.is
+    ((λ i. first_difference (sym c.bytes.ensures.bytes i) (sym c.bytes-2.ensures.bytes i)) ∙ sym c.in-None.ensures) c.requires
 
 pub returns-in-None-clause-leaves : goal.returns-in-None-clause-leaves
 returns-in-None-clause-leaves c = leaves_low c.args.config.now c.args.labels.now c.args.needs c.in_ok-segment.segment.records c.in_ok-entries.ensures.fits

@@ -1,4 +1,4 @@
-use Rattle.std.proofs.Common.{arith, sym, subst, ◌≡◌, ◌<◌, ◌∙◌, ◌∷◌, [], Some, suc, true, length, map, get_or}
+use Rattle.std.proofs.Common.{arith, refl, sym, subst, ◌≡◌, ◌<◌, ◌∙◌, ◌∷◌, [], Some, suc, true, length, map, get_or}
 use Rattle.std.specs.Prelude.{IfSome, option_map}
 use Rattle.std.specs.Option.{option_map_or}
 use Rattle.std.proofs.lemmas.Option.{IfSome_then, get_or_from_slice_get}
@@ -12,6 +12,7 @@ use Rattle.facet_model.specs.Results.{IsTop}
 use Rattle.facet_counts.specs.Dims.{AreDims}
 use Rattle.facet_counts.specs.Lists.{IsListOf}
 use Rattle.std.specs.List.{AllZip}
+use Rattle.facet_counts.proofs.Below.{none_below}
 use Rattle.facet_counts.proofs.Walk.{sibling_is, smaller_next}
 use Rattle.facet_counts.proofs.EachDim.{walked, walk_goes, walk_ends, walk_begins, not_walked, dim_label}
 use Rattle.sideways.specs.Questions.{counted_of, docs_of}
@@ -24,7 +25,7 @@ loop-next-init c =
     let labels = c.args.view.now in
     let q = question c.args.answer.now in (
       λ docs has. subst (λ o. AreDims (walked labels o) c.args.answer.now.config (docs_of q docs) c.args.n (map result_view c.new-results.result.items)) (sym c.child_of-next.ensures)
-          (subst (λ l. AreDims (walked labels (child_at labels 0)) c.args.answer.now.config (docs_of q docs) c.args.n (map result_view l)) (sym c.new-results.ensures.items) (walk_begins labels c.size.ensures.list c.args.answer.now.config (docs_of q docs) c.args.n)),
+          (subst (λ l. AreDims (walked labels (child_at labels 0)) c.args.answer.now.config (docs_of q docs) c.args.n (map result_view l)) (sym c.new-results.ensures.items) (walk_begins labels c.requires.list c.args.answer.now.config (docs_of q docs) c.args.n)),
       subst (λ o. IfSome o (λ k. (k < length labels) × (is_child labels 0 k ≡ true))) (sym c.child_of-next.ensures) (greatest_passes (is_child labels 0) (length labels)),
     )
 
@@ -39,7 +40,7 @@ loop-next-smaller c =
 pub loop-next-preserved : goal.loop-next-preserved
 loop-next-preserved c =
     let labels = c.args.view.now in
-    let list : IsLabelList labels = c.size.ensures.list in
+    let list : IsLabelList labels = c.requires.list in
     let q = question c.args.answer.now in
     let config = c.args.answer.now.config in
     let at : (c.in-Some.ord < length labels) × (is_child labels 0 c.in-Some.ord ≡ true) = subst (λ o. IfSome o (λ k. (k < length labels) × (is_child labels 0 k ≡ true))) c.in-Some.is c.loop-next.invariant.1 in
@@ -58,10 +59,10 @@ loop-next-preserved c =
 pub returns : goal.returns
 returns c = λ docs has.
     let labels = c.args.view.now in
-    let list : IsLabelList labels = c.size.ensures.list in
+    let list : IsLabelList labels = c.requires.list in
     let q = question c.args.answer.now in
     let config = c.args.answer.now.config in
     let walked_all = subst (λ o. AreDims (walked labels o) config (docs_of q docs) c.args.n (map result_view c.loop-next.results.items)) c.in_default.is (c.loop-next.invariant.0 docs has) in
     walk_ends labels list config (docs_of q docs) c.args.n
-    (λ dim absent. c.no_result_elsewhere.ensures config labels (counted_of q (docs_of q docs dim)) (docs_of q docs dim) (dim ∷ []) c.args.n list (subst (λ l. AllZip (IsListOf config l) (counted_of q (docs_of q docs dim)) (docs_of q docs dim)) (sym c.requires.labels) (docs_listed q (subst IsLabelList c.requires.labels list) docs has dim)) absent)
+    (λ dim absent. ([], none_below config labels list (dim ∷ []) absent (docs_of q docs dim) (counted_of q (docs_of q docs dim)) (subst (λ l. AllZip (IsListOf config l) (counted_of q (docs_of q docs dim)) (docs_of q docs dim)) (sym c.requires.labels) (docs_listed q (subst IsLabelList c.requires.labels list) docs has dim)), refl))
     (map result_view c.loop-next.results.items) walked_all

@@ -23,7 +23,7 @@ loop-next-init c =
     let Holds : Totals → Type 0 = λ t. ((docs : List Doc) (lists : List (List ℕ)) → AreCounts t lists → AllZip (IsListOf t.config t.labels) lists docs → AreDims (walked t.labels c.child_of-next.result) t.config (λ _. docs) c.args.n (map result_view c.new-results.result.items)) × IfSome c.child_of-next.result (λ k. (k < length t.labels) × (is_child t.labels 0 k ≡ true)) in
     subst Holds c.self.view_is (
       λ docs lists are all.
-          subst (λ o. AreDims (walked c.self.inside.view.now o) c.self.inside.config.now (λ _. docs) c.args.n (map result_view c.new-results.result.items)) (sym c.child_of-next.ensures) (subst (λ l. AreDims (walked c.self.inside.view.now (child_at c.self.inside.view.now 0)) c.self.inside.config.now (λ _. docs) c.args.n (map result_view l)) (sym c.new-results.ensures.items) (walk_begins c.self.inside.view.now c.size.ensures.list c.self.inside.config.now (λ _. docs) c.args.n)),
+          subst (λ o. AreDims (walked c.self.inside.view.now o) c.self.inside.config.now (λ _. docs) c.args.n (map result_view c.new-results.result.items)) (sym c.child_of-next.ensures) (subst (λ l. AreDims (walked c.self.inside.view.now (child_at c.self.inside.view.now 0)) c.self.inside.config.now (λ _. docs) c.args.n (map result_view l)) (sym c.new-results.ensures.items) (walk_begins c.self.inside.view.now c.self.invariant.list c.self.inside.config.now (λ _. docs) c.args.n)),
       subst (λ o. IfSome o (λ k. (k < length c.self.inside.view.now) × (is_child c.self.inside.view.now 0 k ≡ true))) (sym c.child_of-next.ensures) (greatest_passes (is_child c.self.inside.view.now 0) (length c.self.inside.view.now)),
     )
 
@@ -41,7 +41,7 @@ loop-next-preserved c =
     let at : (c.in-Some.ord < length c.self.inside.view.now) × (is_child c.self.inside.view.now 0 c.in-Some.ord ≡ true) = subst (λ (t : Totals). (c.in-Some.ord < length t.labels) × (is_child t.labels 0 c.in-Some.ord ≡ true)) (sym c.self.view_is) here in
     let next : c.sibling_of-next.result ≡ greatest (is_child c.self.inside.view.now 0) c.in-Some.ord = c.sibling_of-next.ensures ∙ sibling_is c.self.inside.view.now [] 0 c.in-Some.ord at.1 in
     let label : get_or c.self.inside.view.now c.in-Some.ord [] ≡ c.path_of.result.now = get_or_from_slice_get c.self.inside.view.now c.in-Some.ord c.path_of.result.now [] c.path_of.ensures in
-    let dim = dim_label c.self.inside.view.now c.size.ensures.list c.in-Some.ord at.0 at.1 in
+    let dim = dim_label c.self.inside.view.now c.self.invariant.list c.in-Some.ord at.0 at.1 in
     let before : (docs : List Doc) (lists : List (List ℕ)) → AreCounts (record { labels = c.self.inside.view.now; config = c.self.inside.config.now; totals = c.self.inside.totals.items }) lists → AllZip (IsListOf c.self.inside.config.now c.self.inside.view.now) lists docs → AreDims (walked c.self.inside.view.now c.loop-next.next) c.self.inside.config.now (λ _. docs) c.args.n (map result_view c.loop-next.results.items) =
     subst (λ (t : Totals). (docs : List Doc) (lists : List (List ℕ)) → AreCounts t lists → AllZip (IsListOf t.config t.labels) lists docs → AreDims (walked t.labels c.loop-next.next) t.config (λ _. docs) c.args.n (map result_view c.loop-next.results.items)) (sym c.self.view_is) c.loop-next.invariant.0 in
     let top : (docs : List Doc) (lists : List (List ℕ)) → AreCounts (record { labels = c.self.inside.view.now; config = c.self.inside.config.now; totals = c.self.inside.totals.items }) lists → AllZip (IsListOf c.self.inside.config.now c.self.inside.view.now) lists docs → IsTop c.self.inside.config.now docs c.path_of.result.now c.args.n (option_map result_view c.in_ok-top.top) =
@@ -51,9 +51,9 @@ loop-next-preserved c =
       λ docs lists are all.
           let so_far = subst (λ o. AreDims (walked c.self.inside.view.now o) c.self.inside.config.now (λ _. docs) c.args.n (map result_view c.loop-next.results.items)) c.in-Some.is (before docs lists are all) in
           let here = subst (λ p. IsTop c.self.inside.config.now docs p c.args.n (option_map result_view c.in_ok-top.top)) (sym label ∙ dim.1) (top docs lists are all) in
-          let more = c.in_ok-note_dim.ensures.noted (walked c.self.inside.view.now (Some c.in-Some.ord)) c.self.inside.config.now (λ _. docs) c.args.n (last_part (get_or c.self.inside.view.now c.in-Some.ord [])) (not_walked c.self.inside.view.now c.size.ensures.list c.in-Some.ord at.0 at.1) here so_far in
+          let more = c.in_ok-note_dim.ensures.noted (walked c.self.inside.view.now (Some c.in-Some.ord)) c.self.inside.config.now (λ _. docs) c.args.n (last_part (get_or c.self.inside.view.now c.in-Some.ord [])) (not_walked c.self.inside.view.now c.self.invariant.list c.in-Some.ord at.0 at.1) here so_far in
           subst (λ o. AreDims (walked c.self.inside.view.now o) c.self.inside.config.now (λ _. docs) c.args.n (map result_view c.note_dim.new.results.items)) (sym c.sibling_of-next.ensures)
-          (subst (λ among. AreDims among c.self.inside.config.now (λ _. docs) c.args.n (map result_view c.note_dim.new.results.items)) (walk_goes c.self.inside.view.now c.size.ensures.list c.in-Some.ord at.0 at.1) more),
+          (subst (λ among. AreDims among c.self.inside.config.now (λ _. docs) c.args.n (map result_view c.note_dim.new.results.items)) (walk_goes c.self.inside.view.now c.self.invariant.list c.in-Some.ord at.0 at.1) more),
       subst (λ o. IfSome o (λ k. (k < length c.self.inside.view.now) × (is_child c.self.inside.view.now 0 k ≡ true))) (sym next) (IfSome_then (greatest (is_child c.self.inside.view.now 0) c.in-Some.ord) (greatest_passes (is_child c.self.inside.view.now 0) c.in-Some.ord) (λ s p. (omega (arith, p.0, at.0), p.1))),
     )
 
@@ -66,4 +66,4 @@ returns c =
     let Holds : Totals → Type 0 = λ t. (docs : List Doc) (lists : List (List ℕ)) → AreCounts t lists → AllZip (IsListOf t.config t.labels) lists docs → AreDims (λ _. true) t.config (λ _. docs) c.args.n (map result_view c.loop-next.results.items) in
     subst Holds c.self.view_is (λ docs lists are all.
     let all_walked = subst (λ o. AreDims (walked c.self.inside.view.now o) c.self.inside.config.now (λ _. docs) c.args.n (map result_view c.loop-next.results.items)) c.in_default.is (before docs lists are all) in
-    walk_ends c.self.inside.view.now c.size.ensures.list c.self.inside.config.now (λ _. docs) c.args.n (λ dim absent. ([], none_below inside.config inside.labels kept.list (dim ∷ []) absent docs lists all, refl)) (map result_view c.loop-next.results.items) all_walked)
+    walk_ends c.self.inside.view.now c.self.invariant.list c.self.inside.config.now (λ _. docs) c.args.n (λ dim absent. ([], none_below inside.config inside.labels kept.list (dim ∷ []) absent docs lists all, refl)) (map result_view c.loop-next.results.items) all_walked)

@@ -19,7 +19,7 @@ pub returns-in-Some : goal.returns-in-Some
 returns-in-Some c =
     let counts : Totals = record { labels = c.self.inside.view.now; config = c.self.inside.config.now; totals = c.self.inside.totals.items } in
     let kept : IsTotals counts = c.self.invariant in
-    let some : 0 < length c.args.path.now = slice_get_within c.args.path.now 0 _ c.dim.ensures in
+    let some : 0 < length c.args.path.now = c.ordinal_of.ensures.some in
     let at : place c.self.inside.view.now c.args.path.now ≡ Some c.in-Some.ord = sym c.ordinal_of.ensures.ordinal ∙ c.in-Some.is in
     let within : c.in-Some.ord < length c.self.inside.view.now = slice_get_within c.self.inside.view.now c.in-Some.ord c.args.path.now (label_at c.self.inside.view.now c.in-Some.ord c.args.path.now at) in
     let number : c.index.result.now ≡ option_map_or (λ k. get_or c.self.inside.totals.items k 0) (place c.self.inside.view.now c.args.path.now) 0 =
@@ -33,7 +33,7 @@ pub returns-in-None : goal.returns-in-None
 returns-in-None c =
     let counts : Totals = record { labels = c.self.inside.view.now; config = c.self.inside.config.now; totals = c.self.inside.totals.items } in
     let kept : IsTotals counts = c.self.invariant in
-    let some : 0 < length c.args.path.now = slice_get_within c.args.path.now 0 _ c.dim.ensures in
+    let some : 0 < length c.args.path.now = c.ordinal_of.ensures.some in
     let absent : place c.self.inside.view.now c.args.path.now ≡ None = sym c.ordinal_of.ensures.ordinal ∙ c.in-None.is in
     let number : 0 ≡ option_map_or (λ k. get_or c.self.inside.totals.items k 0) (place c.self.inside.view.now c.args.path.now) 0 = sym (ap (λ o. option_map_or (λ k. get_or c.self.inside.totals.items k 0) o 0) absent) in
     let Answers : Totals → Type 0 = λ t. ask_fault t.config (one_value c.args.path.now) ≡ None → (docs snapshot : List Doc) (lists : List (List ℕ)) → AreCounts t lists → AllZip (IsListOf t.config t.labels) lists docs → c.args.exists ≡ nat_lt 0 (count snapshot c.args.path.now) → pos 0 ≡ specific snapshot docs c.args.path.now in

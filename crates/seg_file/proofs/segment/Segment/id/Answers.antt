@@ -8,8 +8,8 @@ text_front-requires c =
     let b = c.record-cursor.ensures in
     (r.id, behind_id r b.tail, id_begins c.record-cursor.result.rest r b)
 
-pub returns : goal.returns
-returns c =
+pub returns-clause-id : goal.returns-clause-id
+returns-clause-id c =
     let r = record_of c.args.self.now c.args.doc in
     let b = c.record-cursor.ensures in
     (c.text_front.ensures r.id (behind_id r b.tail) (id_begins c.record-cursor.result.rest r b)).0

@@ -3,6 +3,7 @@ use Rattle.std.specs.Prelude.{filter, length}
 use Rattle.std.proofs.lemmas.List.{length-map}
 use Rattle.facet_model.specs.CountedPaths.{counted_ordinals}
 use Rattle.facet_model.specs.Documents.{Doc}
+use Rattle.facet_counts.proofs.Documents.{list_counted}
 use Rattle.sideways.specs.Counted.{passes_all}
 use Rattle.sideways.specs.Searches.{question_of}
 use Rattle.sideways.proofs.Ready.{counts_found, each_ready, lists_found, places_found, ready}
@@ -12,13 +13,13 @@ pub count_hits-requires : goal.count_hits-requires
 count_hits-requires c =
     let q = question_of c.self.inside.view.now c.self.inside.config.now c.self.inside.segments.now c.self.inside.ask.now in
     let plan = c.self.invariant.0 in
-    record { ready = ready q None c.may_be_counted.ensures plan.list plan.docs c.self.inside.hits plan.hits; none = c.self.invariant.1 }
+    record { ready = ready q None (λ config labels list doc is of. list_counted config labels is list doc of) plan.list plan.docs c.self.inside.hits plan.hits; none = c.self.invariant.1 }
 
 pub count_lifted-requires : goal.count_lifted-requires
 count_lifted-requires c =
     let q = question_of c.self.inside.view.now c.self.inside.config.now c.self.inside.segments.now c.self.inside.ask.now in
     let plan = c.self.invariant.0 in
-    record { none = c.self.invariant.2; ready = each_ready q c.may_be_counted.ensures plan.list plan.docs c.self.inside.lifted.items plan.each }
+    record { none = c.self.invariant.2; ready = each_ready q (λ config labels list doc is of. list_counted config labels is list doc of) plan.list plan.docs c.self.inside.lifted.items plan.each }
 
 pub invariant_of-result : goal.invariant_of-result
 invariant_of-result c =
