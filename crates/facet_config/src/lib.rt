@@ -1,7 +1,10 @@
 //! How each dimension takes labels, as Lucene's `FacetsConfig`: its flags, and which documents they let in.
 #![tactic(auto)]
 
+mod checking;
 mod config;
+mod differing;
+mod expanding;
 mod fault;
 #[cfg(test)]
 mod tests;

@@ -5,7 +5,7 @@ use Rattle.std.specs.Ordering.{nat_cmp}
 use Rattle.std.proofs.lemmas.List.Filters.{dedup_is}
 use Rattle.std.proofs.lemmas.Map.Keys.{sorted_from_strictly_increasing}
 use Rattle.facet_config.proofs.Expanded.{once_members, once_rises}
-use Rattle.facet_config.proofs.config.once.Goals as goal
+use Rattle.facet_config.proofs.expanding.once.Goals as goal
 
 pub new-requires : goal.new-requires
 new-requires c = once_rises c.sort_unstable.new.self.items c.dedup.new.self.items c.sort_unstable.ensures.sorted (dedup_is eqb c.sort_unstable.new.self.items c.dedup.new.self.items c.dedup.ensures.filtered)

@@ -1,0 +1,70 @@
+//! Where two configs differ.
+ghost use Rattle.std.specs.Prelude.{◌≡◌, ℕ, List, map, fold, option_map, IfSome, IfNone};
+ghost use Rattle.facet_model.specs.Flags.{flags};
+ghost use Rattle.facet_config.specs.Differences.{IsFirstDifference, first_different, is_different, nearer};
+
+use crate::config::FacetsConfig;
+
+impl FacetsConfig {
+    /// The first dimension, in the order of their bytes, whose flags differ in the two configs. It goes over the declarations of both, and takes
+    /// no memory.
+    pub fn differs<'a>(&'a self, other: &'a FacetsConfig) -> Option<&'a str>
+        ensures is { option_map (λ s. s.now) result ≡ first_different self.now other.now }
+        ensures none { IfNone result ((dim : List ℕ) → flags self.now dim ≡ flags other.now dim) }
+        ensures first { IfSome result (λ d. IsFirstDifference self.now other.now d.now) }
+    {
+        let own = self.first_different(self, other, None);
+        other.first_different(self, other, own)
+    }
+
+    // The first of a dimension and of those declared here that differ in the two configs.
+    fn first_different<'a>(
+        &'a self,
+        one: &FacetsConfig,
+        other: &FacetsConfig,
+        before: Option<&'a str>,
+    ) -> Option<&'a str>
+        ensures { option_map (λ s. s.now) result ≡ fold (nearer one.now other.now) (option_map (λ s. s.now) before.entry) (map (λ d. d.0) self.now) }
+    {
+        let mut first = before;
+        for at in 0..self.len() {
+            let (dim, _) = self.declared(at);
+            first = nearer(one, other, first, dim);
+        }
+        first
+    }
+}
+
+fn is_different(one: &FacetsConfig, other: &FacetsConfig, dim: &str) -> bool
+    ensures { result ≡ is_different one.now other.now dim.now }
+{
+    let f = one.flags(dim);
+    let g = other.flags(dim);
+    f.hierarchical != g.hierarchical
+        || f.multi_valued != g.multi_valued
+        || f.require_dim_count != g.require_dim_count
+}
+
+// The dimension, where it differs in the two configs and is less than the first one so far.
+fn nearer<'a>(
+    one: &FacetsConfig,
+    other: &FacetsConfig,
+    first: Option<&'a str>,
+    dim: &'a str,
+) -> Option<&'a str>
+    ensures { option_map (λ s. s.now) result ≡ nearer one.now other.now (option_map (λ s. s.now) first.entry) dim.now }
+{
+    if !is_different(one, other, dim) {
+        return first;
+    }
+    match first {
+        Some(so_far) => {
+            if dim < so_far {
+                Some(dim)
+            } else {
+                Some(so_far)
+            }
+        }
+        None => Some(dim),
+    }
+}

@@ -1,0 +1,86 @@
+//! Which ordinals are counted for a document.
+ghost use Rattle.std.specs.Prelude.{◌≡◌, ◌<◌, ◌≤◌, ◌++◌, ℕ, nat_eq, [], ◌∷◌, length, take, if◌then◌else◌, IfOk, OnOk};
+ghost use Rattle.std.specs.List.{list_any};
+ghost use Rattle.std.specs.List.Sorted.{IsStrictlySortedBy};
+ghost use Rattle.std.specs.Ordering.{nat_cmp};
+ghost use Rattle.facet_model.specs.CountedPaths.{is_counted_for, ordinals_of_label};
+ghost use Rattle.facet_config.specs.Expanding.{AreAsLong, AreExpanded};
+
+use crate::config::FacetsConfig;
+use facet_model::{Counted, DimFlags, Document, Resolved};
+use facet_names::{NoMemory, Path};
+use std::alloc::Global;
+
+impl FacetsConfig {
+    /// The ordinals that are counted for a document, as Lucene's `FacetsConfig.build` adds them: those of its labels and, in a dimension that is
+    /// multi-valued, and hierarchical or with a required count, those of their ancestors; there the dimension's own only where its count is
+    /// required. Beside each label stand the ordinals of its prefixes.
+    pub fn expand(
+        &self,
+        alloc: Global,
+        doc: &Document,
+        resolved: &[Resolved],
+    ) -> Result<Counted, NoMemory>
+        requires { AreAsLong doc.now.labels resolved.now }
+        ensures { IfOk result (λ c. AreExpanded self.now doc.now.labels resolved.now c) }
+    {
+        let facets = doc.facets();
+        let mut ords = Vec::new(alloc);
+        for at in 0..facets.len() {
+            self.expand_label(&facets[at], &resolved[at], &mut ords)?;
+        }
+        Ok(once(ords))
+    }
+
+    // Puts the ordinals that are counted for a label behind these.
+    fn expand_label(
+        &self,
+        label: &Path,
+        resolved: &Resolved,
+        ords: &mut Vec<u32>,
+    ) -> Result<(), NoMemory>
+        requires { length resolved.now ≡ length label.now }
+        ensures ords { OnOk result (ords.new.items ≡ ords.old.items ++ ordinals_of_label self.now label.now resolved.now) }
+        ensures some { 0 < length label.now }
+    {
+        let flags = self.flags(label.dim());
+        let prefixes = resolved.prefixes();
+        for at in 0..prefixes.len() {
+            let counted = counts_prefix(flags, label, at + 1);
+            push_where(ords, counted, prefixes[at])?;
+        }
+        Ok(())
+    }
+}
+
+// Whether the prefix of so many components is counted for a label.
+#[tactic(auto, using(crate::proofs::Expanded::counted_prefix))]
+fn counts_prefix(flags: DimFlags, label: &Path, len: usize) -> bool
+    requires some { 0 < len }
+    requires within { len ≤ length label.now }
+    ensures { result ≡ is_counted_for flags label.now (take len label.now) }
+{
+    let above = flags.multi_valued
+        && (flags.hierarchical || flags.require_dim_count)
+        && (len > 1 || flags.require_dim_count);
+    len == label.len() || above
+}
+
+fn push_where(ords: &mut Vec<u32>, wanted: bool, ord: u32) -> Result<(), NoMemory>
+    ensures { OnOk result (ords.new.items ≡ ords.old.items ++ (if wanted then ord ∷ [] else [])) }
+{
+    if wanted {
+        ords.push(ord)?;
+    }
+    Ok(())
+}
+
+// Each of the ordinals once, rising.
+fn once(mut ords: Vec<u32>) -> Counted
+    ensures members { (ord : ℕ) → list_any (nat_eq ord) result ≡ list_any (nat_eq ord) ords.items }
+    ensures rising { IsStrictlySortedBy nat_cmp result }
+{
+    ords.sort_unstable();
+    ords.dedup();
+    Counted::new(ords)
+}
