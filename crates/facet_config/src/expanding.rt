@@ -44,10 +44,9 @@ impl FacetsConfig {
         ensures some { 0 < length label.now }
     {
         let flags = self.flags(label.dim());
-        let prefixes = resolved.prefixes();
-        for at in 0..prefixes.len() {
+        for (at, ord) in resolved.prefixes().iter().enumerate() {
             let counted = counts_prefix(flags, label, at + 1);
-            push_where(ords, counted, prefixes[at])?;
+            push_where(ords, counted, *ord)?;
         }
         Ok(())
     }
