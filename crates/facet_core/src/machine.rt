@@ -130,8 +130,7 @@ impl Core {
     fn stands(&self, path: &Path) -> bool
         ensures { result ≡ stands self.now.labels path.now }
     {
-        // Its clause says that the path is not the root.
-        let _ = path.dim();
+        path.has_components();
         is_among(&self.labels, path)
     }
 

@@ -120,6 +120,13 @@ impl Path {
         self.parts.len()
     }
 
+    /// A law: a path has 1 to 32 components, so it is never the root of a label list. The call does nothing.
+    pub fn has_components(&self)
+        ensures { IsPath self.now }
+    {
+        let _ = &self.parts;
+    }
+
     /// The component at a place, from 0. It has 1 to 1,024 bytes.
     pub fn part(&self, at: usize) -> &str
         requires { at < length self.now }

@@ -13,8 +13,7 @@ pub fn ordinal_in(labels: &IndexSet<Path>, path: &Path) -> Option<u32>
     ensures there { is_some result ≡ stands ([] ∷ labels.now.keys) path.now }
     ensures some { 0 < length path.now }
 {
-    // Its clause says that a path has a component, so it is not the root.
-    let _ = path.len();
+    path.has_components();
     match labels.get_index_of(path) {
         Some(index) => Some(index as u32 + 1),
         None => None,
