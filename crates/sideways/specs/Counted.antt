@@ -1,7 +1,7 @@
 -- What a pass finds and counts, segment by segment.
-use Rattle.std.specs.Prelude.{◌≡◌, ℕ, ◌+◌, ◌-◌, ◌<◌, ◌≤◌, ◌++◌, ◌&&◌, ◌||◌, Bool, true, false, not, List, [], ◌∷◌, length, take, map, flat_map, Option, Some, None, option_map, slice_get, slice_index_or, sum_by}
+use Rattle.std.specs.Prelude.{◌≡◌, ℕ, ◌+◌, ◌<◌, ◌≤◌, ◌++◌, ◌&&◌, ◌||◌, Bool, true, false, not, List, [], ◌∷◌, length, take, map, flat_map, Option, Some, None, option_map, slice_get, slice_index_or, sum_by}
 use Rattle.std.specs.Borrow.{Bor}
-use Rattle.std.specs.List.{list_any, list_all, range_with_len, AllZip, AllByRecursion}
+use Rattle.std.specs.List.{list_any, list_all, AllZip, AllByRecursion}
 use Rattle.std.specs.Str.{bytes_eq}
 use Rattle.facet_model.specs.CountedPaths.{places}
 use Rattle.facet_model.specs.Documents.{Doc, dim_of}

@@ -46,8 +46,8 @@ fn refusal_of(config: &FacetsConfig, at: u64, ask: &Ask) -> Option<AskRefused>
 pub(crate) fn first_refusal(config: &FacetsConfig, asks: &[Ask]) -> Option<AskRefused>
     ensures { result ≡ first_refused config.now (map ask_view asks.now) }
 {
-    for at in 0..asks.len() {
-        if let Some(refusal) = refusal_of(config, at as u64, &asks[at]) {
+    for (at, ask) in asks.iter().enumerate() {
+        if let Some(refusal) = refusal_of(config, at as u64, ask) {
             return Some(refusal);
         }
     }

@@ -1,11 +1,13 @@
 //! What the documents of a pass have to pass.
 ghost use Rattle.std.specs.Prelude.{◌≡◌, ◌<◌, Bool, List, IfOk, length};
+ghost use Rattle.std.specs.List.{list_any};
+ghost use Rattle.std.specs.Str.{bytes_eq};
 ghost use Rattle.facet_model.specs.CountedPaths.{places};
-ghost use Rattle.facet_model.specs.Documents.{Doc};
+ghost use Rattle.facet_model.specs.Documents.{Doc, dim_of};
 ghost use Rattle.facet_model.specs.Queries.{matches};
 ghost use Rattle.facet_model.specs.QueryViews.{query_view};
 ghost use Rattle.query_eval.specs.Segments.{HasTermsOf};
-ghost use Rattle.sideways.specs.Counted.{AreAllOf, is_again, is_first, is_lifted, lifted_of, passes_all};
+ghost use Rattle.sideways.specs.Counted.{AreAllOf, is_first, is_lifted, lifted_of, passes_all};
 
 use facet_model::Query;
 use facet_names::{NoMemory, Path};
@@ -14,17 +16,11 @@ use query_eval::{paths_node, query_node};
 use seg_file::Segment;
 use std::alloc::Global;
 
-// Whether a path before the place is of the dimension.
-fn is_again(drill: &[Path], at: usize, dim: &str) -> bool
-    requires { at < length drill.now }
-    ensures { result ≡ is_again drill.now at dim.now }
+// Whether a path is of the dimension.
+fn has_dimension(paths: &[Path], dim: &str) -> bool
+    ensures { result ≡ list_any (λ path. bytes_eq (dim_of path) dim.now) paths.now }
 {
-    for i in 0..at {
-        if drill[i].dim() == dim {
-            return true;
-        }
-    }
-    false
+    paths.iter().any(|path| path.dim() == dim)
 }
 
 fn is_lifted(lifted: Option<&str>, dim: &str) -> bool
@@ -42,7 +38,7 @@ pub(crate) fn is_first(drill: &[Path], at: usize, lifted: Option<&str>) -> bool
     ensures { result ≡ is_first drill.now at (lifted_of lifted.entry) }
 {
     let dim = drill[at].dim();
-    !is_again(drill, at, dim) && !is_lifted(lifted, dim)
+    !has_dimension(&drill[..at], dim) && !is_lifted(lifted, dim)
 }
 
 // The documents that match the query; no node where all do.
@@ -74,9 +70,9 @@ pub(crate) fn nodes_of<'a>(
     ensures { IfOk result (λ v. (docs : List Doc) → HasTermsOf segment.now docs → AreAllOf docs (passes_all (query_view query.now) drill.now (lifted_of lifted.entry)) v.items) }
 {
     let mut nodes = base_nodes(alloc, segment, query)?;
-    for at in 0..drill.len() {
+    for (at, path) in drill.iter().enumerate() {
         if is_first(drill, at, lifted) {
-            let node = paths_node(alloc, segment, drill, drill[at].dim())?;
+            let node = paths_node(alloc, segment, drill, path.dim())?;
             nodes.push(node)?;
         }
     }

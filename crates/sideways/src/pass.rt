@@ -128,9 +128,8 @@ impl<'a> Pass<'a> {
             mut parts,
             mut counter,
         } = self;
-        for i in 0..parts.len() {
-            let part = &mut parts[i];
-            let _ = part.count(&mut counter);
+        for part in parts.iter_mut() {
+            part.count(&mut counter);
         }
         counter.roll_up()
     }
@@ -152,8 +151,7 @@ impl<'a> Pass<'a> {
         let mut places = places;
         let mut number = 0;
         let mut base = 0;
-        for i in 0..parts.len() {
-            let part = &mut parts[i];
+        for part in parts.iter_mut() {
             let docs = part.docs();
             let first = take_hits(part, &mut counter, base, limit, &mut places)?;
             let rest = part.count(&mut counter);

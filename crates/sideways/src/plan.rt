@@ -73,9 +73,9 @@ fn lifted_passes<'a>(
         return Ok(lifted);
     }
     let drill = ask.drill.paths();
-    for at in 0..drill.len() {
+    for (at, path) in drill.iter().enumerate() {
         if is_first(drill, at, None) {
-            let dim = drill[at].dim();
+            let dim = path.dim();
             let pass = Pass::new(alloc, view, config, segments, &ask.query, drill, Some(dim))?;
             lifted.push(LiftedPass { dim, pass })?;
         }

@@ -16,7 +16,7 @@ loop-at-preserved c = λ docs are.
     let i : ℕ = c.loop-at.at in
     elim c.if-is_first.branch [
       | then-is_first+in_ok-node+in_ok-push w ↦
-          let dim : dim_of (get_or drill i []) ≡ w.dim.result.now = dim_at drill i w.index-drill-at.result w.dim.result.now (omega arith) w.index-drill-at.is w.dim.ensures in
+          let dim : dim_of (get_or drill i []) ≡ w.dim.result.now = dim_at drill i c.index-drill-at.result w.dim.result.now (omega arith) c.index-drill-at.is w.dim.ensures in
           subst (AreAllOf docs (λ doc. matches q doc && passes_each drill lift (take (i + 1) drill) doc)) (sym (ap (λ v. v.items) w.nodes-is ∙ w.in_ok-push.ensures.items))
           (same_all docs (λ doc. (matches q doc && passes_each drill lift (take i drill) doc) && passes doc drill w.dim.result.now) (λ doc. matches q doc && passes_each drill lift (take (i + 1) drill) doc) (c.loop-at.nodes.items ++ w.in_ok-node.node ∷ [])
           (λ doc. narrowed drill lift (matches q doc) doc i w.dim.result.now (omega arith) dim (sym c.is_first.ensures ∙ w.if-is_first.true))

@@ -1,4 +1,4 @@
-use Rattle.std.proofs.Common.{◌≡◌, ◌-◌, ◌<◌, ◌≤◌, arith}
+use Rattle.std.proofs.Common.{arith}
 use Rattle.sideways.proofs.Walked.{row_next}
 use Rattle.sideways.proofs.part.take_below.Goals as goal
 

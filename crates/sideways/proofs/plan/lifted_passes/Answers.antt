@@ -18,7 +18,7 @@ loop-at-preserved c =
     let i : ℕ = c.loop-at.at in
     elim c.if-is_first.branch [
       | then-is_first+in_ok-pass+in_ok-push w ↦
-          let dim : dim_of (get_or drill i []) ≡ w.dim-dim.result.now = dim_at drill i w.index-drill-at.result w.dim-dim.result.now (omega arith) w.index-drill-at.is w.dim-dim.ensures in
+          let dim : dim_of (get_or drill i []) ≡ w.dim-dim.result.now = dim_at drill i c.index-drill-at.result w.dim-dim.result.now (omega arith) c.index-drill-at.is w.dim-dim.ensures in
           let items = ap (λ v. v.items) w.lifted-is ∙ w.in_ok-push.ensures.items in
           record {
             each = subst (AllByRecursion (λ (p : LiftedPass). IsPassOf q (Some p.dim.now) p.pass)) (sym items) (all_push (λ (p : LiftedPass). IsPassOf q (Some p.dim.now) p.pass) c.loop-at.lifted.items _ c.loop-at.invariant.each (record { parts = subst (λ d. ArePartsOf (passes_all q.query d (Some w.dim-dim.result.now)) q.segments w.in_ok-pass.pass.parts.items) c.paths-drill.ensures.paths w.in_ok-pass.ensures.parts; fresh = w.in_ok-pass.ensures.fresh; labels = w.in_ok-pass.ensures.labels; config = w.in_ok-pass.ensures.config }));

@@ -1,4 +1,4 @@
-use Rattle.std.proofs.Common.{◌≡◌, ◌∙◌, ◌<◌, ◌≤◌, List, sym, arith, length, None}
+use Rattle.std.proofs.Common.{◌≡◌, ◌∙◌, ◌<◌, sym, arith, length}
 use Rattle.std.proofs.lemmas.Bool.{eqb-true}
 use Rattle.facet_model.specs.QueryViews.{query_view}
 use Rattle.query_eval.proofs.Words.{some_left}

@@ -1,11 +1,10 @@
-use Rattle.std.proofs.Common.{ap, sym, subst, ◌≡◌, ◌∙◌, ◌-◌, ◌<◌, ◌≤◌, ℕ, List, Option, length, arith}
+use Rattle.std.proofs.Common.{ap, sym, subst, ◌≡◌, ◌∙◌, ◌-◌, ◌<◌, ℕ, List, Option, length, arith}
 use Rattle.std.specs.Prelude.{IfSome}
 use Rattle.std.specs.List.{range_with_len}
 use Rattle.facet_model.specs.Stored.{Records}
 use Rattle.seg_postings.specs.Rising.{IsNext}
 use Rattle.sideways.specs.Counted.{AreWithin}
 use Rattle.sideways.specs.Parts.{IsLeft, left_of}
-use Rattle.sideways.specs.declared.part.Left.{Left}
 use Rattle.sideways.specs.declared.part.Part.TheInside.{Inside}
 use Rattle.sideways.proofs.Walked.{next_within, next_record}
 use Rattle.sideways.proofs.part.Part.take.Goals as goal

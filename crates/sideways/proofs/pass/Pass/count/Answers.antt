@@ -1,18 +1,26 @@
-use Rattle.std.proofs.Common.{◌<◌, arith, length, refl}
+use Rattle.std.proofs.Common.{◌≡◌, get_or, ◌<◌, arith, length, refl}
+use Rattle.std.proofs.lemmas.List.{get_or_default}
+use Rattle.sideways.specs.Counted.{PartLeft}
 use Rattle.sideways.proofs.Placed.{counted_more, next_part}
 use Rattle.sideways.proofs.pass.Pass.count.Goals as goal
 
 pub count-requires-clause-countable : goal.count-requires-clause-countable
 count-requires-clause-countable c =
-    let lt : c.loop-i.i < length c.args.self.parts.items = omega (arith, c.loop-i.invariant.long, c.len-i-end.ensures) in
-    (next_part c.loop-i.i c.loop-i.parts.items c.args.self.parts.items c.args.self.counter c.loop-i.counter c.index_mut-part.result.now c.loop-i.invariant c.requires lt c.index_mut-part.ensures.value).countable
+    let lt : c.loop-part.part-index < length c.args.self.parts.items = omega (arith, c.loop-part.invariant.long, c.loop-part-test.true) in
+    let p : PartLeft = get_or c.loop-part.part-items c.loop-part.part-index c.part-item.result in
+    let here : p ≡ get_or c.loop-part.part-items c.loop-part.part-index p = get_or_default c.loop-part.part-items c.loop-part.part-index c.part-item.result p (omega (arith, lt, c.loop-part.invariant.long)) in
+    (next_part c.loop-part.part-index c.loop-part.part-items c.args.self.parts.items c.args.self.counter c.loop-part.counter p c.loop-part.invariant c.requires lt here).countable
 
 pub count-requires-clause-room : goal.count-requires-clause-room
 count-requires-clause-room c =
-    let lt : c.loop-i.i < length c.args.self.parts.items = omega (arith, c.loop-i.invariant.long, c.len-i-end.ensures) in
-    (next_part c.loop-i.i c.loop-i.parts.items c.args.self.parts.items c.args.self.counter c.loop-i.counter c.index_mut-part.result.now c.loop-i.invariant c.requires lt c.index_mut-part.ensures.value).room
+    let lt : c.loop-part.part-index < length c.args.self.parts.items = omega (arith, c.loop-part.invariant.long, c.loop-part-test.true) in
+    let p : PartLeft = get_or c.loop-part.part-items c.loop-part.part-index c.part-item.result in
+    let here : p ≡ get_or c.loop-part.part-items c.loop-part.part-index p = get_or_default c.loop-part.part-items c.loop-part.part-index c.part-item.result p (omega (arith, lt, c.loop-part.invariant.long)) in
+    (next_part c.loop-part.part-index c.loop-part.part-items c.args.self.parts.items c.args.self.counter c.loop-part.counter p c.loop-part.invariant c.requires lt here).room
 
-pub loop-i-preserved : goal.loop-i-preserved
-loop-i-preserved c =
-    let lt : c.loop-i.i < length c.args.self.parts.items = omega (arith, c.loop-i.invariant.long, c.len-i-end.ensures) in
-    counted_more c.loop-i.i c.loop-i.parts.items _ c.args.self.parts.items c.args.self.counter c.loop-i.counter c.count.new.counter c.index_mut-part.result.now c.count.new.self c.loop-i.invariant lt c.index_mut-part.ensures.value refl c.count.ensures.grown
+pub loop-part-preserved : goal.loop-part-preserved
+loop-part-preserved c =
+    let lt : c.loop-part.part-index < length c.args.self.parts.items = omega (arith, c.loop-part.invariant.long, c.loop-part-test.true) in
+    let p : PartLeft = get_or c.loop-part.part-items c.loop-part.part-index c.part-item.result in
+    let here : p ≡ get_or c.loop-part.part-items c.loop-part.part-index p = get_or_default c.loop-part.part-items c.loop-part.part-index c.part-item.result p (omega (arith, lt, c.loop-part.invariant.long)) in
+    counted_more c.loop-part.part-index c.loop-part.part-items _ c.args.self.parts.items c.args.self.counter c.loop-part.counter c.count.new.counter p c.count.new.self c.loop-part.invariant lt here refl c.count.ensures.grown

@@ -4,10 +4,10 @@ use Rattle.sideways.specs.Counted.{lists_of, placed}
 use Rattle.sideways.proofs.Placed.{AreCountedTo, records_in}
 use Rattle.sideways.proofs.pass.Pass.count_hits.Given as goal
 
-abbrev pub invariant-loop-i : goal.invariant-loop-i
-invariant-loop-i l = record {
-  counted : AreCountedTo l.i l.parts.items l.initial.parts.items l.initial.counter l.counter;
-  number : l.number ≡ length (lists_of (take l.i l.initial.parts.items));
-  base : l.base ≡ sum_by records_in (take l.i l.initial.parts.items);
-  places : l.places.items ≡ take l.fn.limit (placed 0 (take l.i l.initial.parts.items));
+abbrev pub invariant-loop-part : goal.invariant-loop-part
+invariant-loop-part l = record {
+  counted : AreCountedTo l.part-index l.part-items l.fn.self.parts.items l.fn.self.counter l.counter;
+  number : l.number ≡ length (lists_of (take l.part-index l.fn.self.parts.items));
+  base : l.base ≡ sum_by records_in (take l.part-index l.fn.self.parts.items);
+  places : l.places.items ≡ take l.fn.limit (placed 0 (take l.part-index l.fn.self.parts.items));
 }
