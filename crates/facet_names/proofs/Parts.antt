@@ -67,7 +67,7 @@ part_of_path ps fits = by (length ps == 0) (nat_lt 32 (length ps)) fits
     by false true e = absurd cc
     by false false e = (e, refl)
 
-front_fits : (n : ℕ) (ps : List (List ℕ)) → 0 < n → n ≤ length ps → IsPath ps → IsPath (take n ps)
+pub front_fits : (n : ℕ) (ps : List (List ℕ)) → 0 < n → n ≤ length ps → IsPath ps → IsPath (take n ps)
 front_fits n ps some within fits =
     let parts = part_of_path ps fits in
     let size : length (take n ps) ≡ n = length-take-le n ps within in

@@ -60,6 +60,7 @@ entry_made config known e doc resolved is leaves short list at accepted expanded
       id = ap (λ (d : Doc). d.id) is;
       text = ap (λ (d : Doc). d.text) is;
       labels = ap (map (slice_get known)) leaves ∙ leaves_at known doc.labels resolved short at;
+      prefixes = resolved_known known doc.labels resolved at;
       accepted = accepted;
       counted = expanded.paths known list at;
     });

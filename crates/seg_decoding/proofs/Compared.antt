@@ -52,13 +52,13 @@ module _ (config : Config) (known : List (List (List ℕ))) (needs documents : �
       unfolding stored_segment
       agrees none = let e : first_difference bytes (seg_bytes (rebuilt config known s.records)) ≡ None = same_bytes ∙ none in rw (read, fits, e) refl
 
-      pub decodes : first_difference (seg_bytes s) (seg_bytes made) ≡ None → needs ≤ length known → IsSegmentOf known config s (map (doc_in known) s.records)
-      decodes none low =
+      pub decodes : first_difference (seg_bytes s) (seg_bytes made) ≡ None → IsLabelList known → needs ≤ length known → IsSegmentOf known config s (map (doc_in known) s.records)
+      decodes none list low =
           let equal : seg_bytes s ≡ seg_bytes made = same_from_none (seg_bytes s) (seg_bytes made) 0 none in
           let own : segment_at (seg_bytes s) ≡ Ok s = subst (λ (bs : List ℕ). segment_at bs ≡ Ok s) is.spelled (segment_again bytes s is) in
           let other : segment_at (seg_bytes s) ≡ Ok made = subst (λ (bs : List ℕ). segment_at bs ≡ Ok made) (sym equal) (segment_again (seg_bytes made) made anew) in
           let same : s ≡ made = done_is SegFault s made (sym own ∙ other) in
-          segment_is config known needs s low (documents_are config known needs 12 s.records fits) (sym built ∙ sym same)
+          segment_is config known needs list s low (documents_are config known needs 12 s.records fits) (sym built ∙ sym same)
 
 -- the leaves of documents that fit
 pub leaves_low : (config : Config) (known : List (List (List ℕ))) (needs : ℕ) (rs : List Stored) → documents_fit config known needs 12 rs ≡ Ok (tt {0}) → All (λ r. All (IsLeaf needs) r.leaves) rs

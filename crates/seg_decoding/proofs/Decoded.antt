@@ -48,9 +48,6 @@ labels_at known (o ∷ os) (l ∷ ls) at =
 pub record_is : (known : Labels) (config : Config) (r : Stored) (doc : Doc) → IsRecordOf known config r doc → doc_in known r ≡ doc
 record_is known config r doc is = λ i. record { id = is.id i; text = is.text i; labels = labels_at known r.leaves doc.labels is.labels i }
 
-pub record_known : (known : Labels) (config : Config) (r : Stored) (doc : Doc) → IsLabelList known → IsRecordOf known config r doc → knows known doc ≡ true
-record_known known config r doc list is = knows_its_labels known list doc (known_at known r.leaves doc.labels is.labels)
-
 -- ---- labels that go on
 
 module _ (config : Config) (a b : Labels) (list_a : IsLabelList a) (list_b : IsLabelList b) (on : GoesOn a b) where
@@ -59,8 +56,9 @@ module _ (config : Config) (a b : Labels) (list_a : IsLabelList a) (list_b : IsL
     id = is.id;
     text = is.text;
     labels = all_stay a b on r.leaves doc.labels is.labels;
+    prefixes = known_stay a b on doc.labels is.prefixes;
     accepted = is.accepted;
-    counted = is.counted ∙ sym (counted_stay a b list_a list_b on config doc.labels (record_known a config r doc list_a is));
+    counted = is.counted ∙ sym (counted_stay a b list_a list_b on config doc.labels is.prefixes);
   }
 
   pub segment_stays : (s : Records) (piece : List Doc) → IsSegmentOf a config s piece → IsSegmentOf b config s piece

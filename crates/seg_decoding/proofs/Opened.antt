@@ -45,17 +45,19 @@ own_labels known needs (leaf ∷ leaves) low all =
 
 module _ (config : Config) (known : Labels) (needs : ℕ) where
   -- records that fit, and are what is made anew, are those of their documents
-  records_are : (rs : List Stored) → needs ≤ length known → AllByRecursion (Fits config known needs) rs → map (counted_anew config known) rs ≡ rs → AllZip (IsRecordOf known config) rs (map (doc_in known) rs)
-  records_are [] low fits same = tt
-  records_are (r ∷ rs) low fits same =
+  records_are : IsLabelList known → (rs : List Stored) → needs ≤ length known → AllByRecursion (Fits config known needs) rs → map (counted_anew config known) rs ≡ rs → AllZip (IsRecordOf known config) rs (map (doc_in known) rs)
+  records_are list [] low fits same = tt
+  records_are list (r ∷ rs) low fits same =
       let first : counted_anew config known r ≡ r = ap (λ (l : List Stored). get_or l 0 r) same in
-      let others : map (counted_anew config known) rs ≡ rs = cc in (
-        record { id = refl; text = refl; labels = own_labels known needs r.leaves low fits.0.leaves; accepted = fits.0.accepted; counted = ap (λ (x : Stored). x.counted) (sym first) },
-        records_are rs low fits.1 others,
+      let others : map (counted_anew config known) rs ≡ rs = cc in
+      let labels = own_labels known needs r.leaves low fits.0.leaves in
+      let prefixes = knows_its_labels known list (doc_in known r) (known_at known r.leaves (doc_in known r).labels labels) in (
+        record { id = refl; text = refl; labels = labels; prefixes = prefixes; accepted = fits.0.accepted; counted = ap (λ (x : Stored). x.counted) (sym first) },
+        records_are list rs low fits.1 others,
       )
 
-  pub segment_is : (s : Records) → needs ≤ length known → AllByRecursion (Fits config known needs) s.records → rebuilt config known s.records ≡ s → IsSegmentOf known config s (map (doc_in known) s.records)
-  segment_is s low fits same = record { records = records_are s.records low fits (ap (λ (x : Records). x.records) same); terms = ap (λ (x : Records). x.terms) (sym same) }
+  pub segment_is : IsLabelList known → (s : Records) → needs ≤ length known → AllByRecursion (Fits config known needs) s.records → rebuilt config known s.records ≡ s → IsSegmentOf known config s (map (doc_in known) s.records)
+  segment_is list s low fits same = record { records = records_are list s.records low fits (ap (λ (x : Records). x.records) same); terms = ap (λ (x : Records). x.terms) (sym same) }
 
   -- ---- what is built is opened again
 

@@ -1,5 +1,5 @@
 //! The documents that a segment's records stand for, with their ordinals found anew.
-ghost use Rattle.std.specs.Prelude.{◌≡◌, ◌<◌, ◌≤◌, ◌+◌, ◌*◌, ◌^◌, ◌++◌, ◌&&◌, nat_lt, ℕ, List, Some, All, IfOk, length, map, slice_get};
+ghost use Rattle.std.specs.Prelude.{◌≡◌, ◌<◌, ◌≤◌, ◌+◌, ◌*◌, ◌^◌, ◌++◌, ◌&&◌, nat_lt, ℕ, List, Some, All, IfOk, OnOk, length, map, slice_get};
 ghost use Rattle.facet_names.specs.Labels.{IsLabelList};
 ghost use Rattle.facet_model.specs.CountedPaths.{counted_ordinals};
 ghost use Rattle.facet_model.specs.Stored.{AreLabelsAt};
@@ -142,6 +142,7 @@ fn entry_at(
     ensures fits { Gives (λ _. tt) result (document_fits config.now labels.now needs at (record_of segment.now doc)) }
     ensures doc { IfOk result (λ e. e.doc ≡ doc_in labels.now (record_of segment.now doc)) }
     ensures stored { IfOk result (λ e. stored_of e ≡ counted_anew config.now labels.now (record_of segment.now doc)) }
+    ensures list { OnOk result (IsLabelList labels.now) }
 {
     let leaves = ordinals_of(alloc, segment.leaves(doc))?;
     check_leaves(needs, &leaves, leaves_place(segment, doc, at))?;
@@ -166,6 +167,7 @@ pub(crate) fn entries_of(
     ensures fits { Gives (λ _. tt) result (documents_fit config.now labels.now needs 12 segment.now.records) }
     ensures docs { IfOk result (λ v. docs_of v.items ≡ map (doc_in labels.now) segment.now.records) }
     ensures stored { IfOk result (λ v. map stored_of v.items ≡ map (counted_anew config.now labels.now) segment.now.records) }
+    ensures list { OnOk result (IsLabelList labels.now) }
 {
     let docs = segment.docs();
     let mut entries = Vec::with_capacity(alloc, docs as usize)?;

@@ -3,3 +3,4 @@ mod Noted
 mod Pieces
 pub mod TermLists
 pub mod DocPlaces
+mod Shorts

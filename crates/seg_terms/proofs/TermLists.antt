@@ -184,6 +184,10 @@ pub both_clauses : {T E : Type 0} (r : Result T E) (P Q R : T → Type 0) → ((
 both_clauses (Ok x) P Q R h p q = h x p q
 both_clauses (Err e) P Q R h p q = tt
 
+-- a table that rises and has each term's places is the terms
+pub table_is : (docs : List Doc) (es : Table) → IsStrictlySortedBy word_cmp (keys_of es) → ((q : List ℕ) → found es q ≡ term_places docs q) → es ≡ terms_of docs
+table_is docs es up same = same_tables es (terms_of docs) up (rises docs) (λ q. same q ∙ sym (found_in_terms docs q))
+
 -- what holds of each term that a document has, with its places, holds of each of the terms
 pub each_term : (docs : List Doc) (P : List ℕ × List ℕ → Type 0) → ((t : List ℕ) → list_any (has_term t) docs ≡ true → P (t, places (has_term t) docs)) → AllByRecursion P (terms_of docs)
 each_term docs P holds = placed (fold put_term [] (flat_map doc_terms docs)) (recursion_from_All (λ t. P (t, places (has_term t) docs)) (fold put_term [] (flat_map doc_terms docs)) (All-from_any nat_list_eq_equiv (λ t. P (t, places (has_term t) docs)) (fold put_term [] (flat_map doc_terms docs)) (λ t there. holds t (sym (put_all_are_there [] (flat_map doc_terms docs) t ∙ any_of_all docs t) ∙ there))))

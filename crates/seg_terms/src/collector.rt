@@ -1,13 +1,14 @@
 ghost use Rattle.std.specs.Prelude.{◌≡◌, ℕ, ◌<◌, List, [], ◌∷◌, map, flat_map, position, string_bytes, IfOk, OnOk};
-ghost use Rattle.std.specs.List.{slice_split};
+ghost use Rattle.std.specs.List.{slice_split, AllByRecursion};
 ghost use Rattle.std.specs.List.Sorted.{IsStrictlySortedBy};
 ghost use Rattle.std.specs.Map.{keys_of};
 ghost use Rattle.std.specs.Str.{IsUtf8};
+ghost use Rattle.facet_names.specs.Faults.{IsPath};
 ghost use Rattle.facet_names.specs.Labels.{prefixes};
 ghost use Rattle.facet_model.specs.Words.{is_blank, word_cmp};
 ghost use Rattle.facet_model.specs.Terms.{doc_terms};
 ghost use Rattle.seg_terms.specs.Noting.{found, AreNoted, piece_terms, path_terms};
-ghost use Rattle.seg_terms.specs.Places.{term_view};
+ghost use Rattle.seg_terms.specs.Places.{term_view, IsShortTerm};
 
 use crate::table::TermTable;
 use crate::term_places::TermPlaces;
@@ -77,7 +78,8 @@ impl TermCollector {
 
     // Each prefix goes on from the one before it.
     fn note_label(&mut self, label: &Path, place: u32) -> Result<(), NoMemory>
-        ensures { OnOk result (AreNoted place (path_terms (prefixes label.now)) self.old.table self.new.table) }
+        ensures noted { OnOk result (AreNoted place (path_terms (prefixes label.now)) self.old.table self.new.table) }
+        ensures fits { OnOk result (IsPath label.now) }
     {
         self.term.clear();
         self.term.push('f')?;
@@ -89,7 +91,8 @@ impl TermCollector {
     }
 
     fn note_labels(&mut self, labels: &[Path], place: u32) -> Result<(), NoMemory>
-        ensures { OnOk result (AreNoted place (path_terms (flat_map prefixes labels.now)) self.old.table self.new.table) }
+        ensures noted { OnOk result (AreNoted place (path_terms (flat_map prefixes labels.now)) self.old.table self.new.table) }
+        ensures fit { OnOk result (AllByRecursion IsPath labels.now) }
     {
         for label in labels {
             self.note_label(label, place)?;
@@ -104,7 +107,8 @@ impl TermCollector {
         doc: &Document,
         place: u32,
     ) -> Result<(), NoMemory>
-        ensures { OnOk result (AreNoted place (doc_terms doc.now) self.old.table self.new.table) }
+        ensures noted { OnOk result (AreNoted place (doc_terms doc.now) self.old.table self.new.table) }
+        ensures short { OnOk result (AllByRecursion IsShortTerm (doc_terms doc.now)) }
     {
         let lowered = doc.text().to_ascii_lowercase(alloc)?;
         self.note_words(lowered.as_str(), place)?;

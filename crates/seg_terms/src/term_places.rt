@@ -1,6 +1,7 @@
 ghost use Rattle.std.specs.Prelude.{◌≡◌, ◌≤◌, length, map, IfOk};
+ghost use Rattle.std.specs.List.{AllByRecursion};
 ghost use Rattle.facet_model.specs.Terms.{terms_of};
-ghost use Rattle.seg_terms.specs.Places.{term_view};
+ghost use Rattle.seg_terms.specs.Places.{term_view, IsShortTerm};
 
 use crate::collector::TermCollector;
 use crate::entry::Entry;
@@ -23,7 +24,8 @@ pub struct TermPlaces {
 /// the terms are sorted.
 pub fn terms_of(alloc: Global, entries: &[Entry]) -> Result<Vec<TermPlaces>, NoMemory>
     requires few { length entries.now ≤ 1000000 }
-    ensures { IfOk result (λ v. map term_view v.items ≡ terms_of (map (λ e. e.doc) entries.now)) }
+    ensures terms { IfOk result (λ v. map term_view v.items ≡ terms_of (map (λ e. e.doc) entries.now)) }
+    ensures short { IfOk result (λ v. AllByRecursion (λ t. IsShortTerm t.0) (map term_view v.items)) }
 {
     let mut collector = TermCollector::new(alloc);
     for (place, entry) in entries.iter().enumerate() {

@@ -1,9 +1,10 @@
 ghost use Rattle.std.specs.Prelude.{◌≡◌, ◌<◌, ◌≤◌, ◌++◌, map, length, IfOk, OnOk};
+ghost use Rattle.std.specs.List.{AllByRecursion};
 ghost use Rattle.facet_codec.specs.Spelling.{be32};
 ghost use Rattle.facet_model.specs.Terms.{terms_of};
 ghost use Rattle.seg_grammar.specs.Spelling.{IsSegment};
 ghost use Rattle.seg_grammar.specs.Index.{IsIndexOf};
-ghost use Rattle.seg_terms.specs.Places.{term_view};
+ghost use Rattle.seg_terms.specs.Places.{term_view, IsShortTerm};
 ghost use Rattle.seg_terms.specs.Entries.{segment_of};
 
 use crate::records::put_records;
@@ -42,6 +43,7 @@ fn write(
     requires some { 0 < length entries.now }
     requires few { length entries.now ≤ 1000000 }
     requires terms { map term_view terms.now ≡ terms_of (map (λ e. e.doc) entries.now) }
+    requires short { AllByRecursion (λ t. IsShortTerm t.0) (map term_view terms.now) }
     ensures segment { IfOk result (λ w. IsSegment w.bytes.items (segment_of entries.now)) }
     ensures index { IfOk result (λ w. IsIndexOf (segment_of entries.now) w.index) }
 {
@@ -74,6 +76,7 @@ pub fn write_segment(
     requires some { 0 < length entries.now }
     requires few { length entries.now ≤ 1000000 }
     requires terms { map term_view terms.now ≡ terms_of (map (λ e. e.doc) entries.now) }
+    requires short { AllByRecursion (λ t. IsShortTerm t.0) (map term_view terms.now) }
     ensures segment { IfOk result (λ w. IsSegment w.bytes.items (segment_of entries.now)) }
     ensures index { IfOk result (λ w. IsIndexOf (segment_of entries.now) w.index) }
 {

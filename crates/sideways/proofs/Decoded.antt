@@ -59,8 +59,8 @@ labels_stand known (o ∷ os) (l ∷ ls) are = and_from (stands known l) (list_a
     tail_is h = cc
 
 -- the counted ordinals of a record are those of its document
-pub list_is : (known : List (List (List ℕ))) (config : Config) → IsLabelList known → (stored : Stored) (doc : Doc) → IsRecordOf known config stored doc → IsListOf config known stored.counted doc
-list_is known config list stored doc is = record { accepted = is.accepted; known = knows_its_labels known list doc (labels_stand known stored.leaves doc.labels is.labels); counted = is.counted }
+pub list_is : (known : List (List (List ℕ))) (config : Config) (stored : Stored) (doc : Doc) → IsRecordOf known config stored doc → IsListOf config known stored.counted doc
+list_is known config stored doc is = record { accepted = is.accepted; known = is.prefixes; counted = is.counted }
 
 record_at : (known : List (List (List ℕ))) (config : Config) (stored : List Stored) (docs : List Doc) → AllZip (IsRecordOf known config) stored docs → (i : ℕ) → i < length stored → (doc : Doc) × IsRecordOf known config (get_or stored i no_record) doc
 record_at known config [] docs all i lt = absurd (omega arith)
@@ -71,7 +71,7 @@ record_at known config (s ∷ ss) (d ∷ ds) all (suc i) lt = record_at known co
 pub countable_of : MayBeCounted → (known : List (List (List ℕ))) (config : Config) → IsLabelList known → (segment : Records) (docs : List Doc) → IsSegmentOf known config segment docs → AreCountable config known segment
 countable_of may known config list segment docs is i lt =
     let found = record_at known config segment.records docs is.records i lt in
-    may config known (get_or segment.records i no_record).counted found.0 list (list_is known config list (get_or segment.records i no_record) found.0 found.1)
+    may config known (get_or segment.records i no_record).counted found.0 list (list_is known config (get_or segment.records i no_record) found.0 found.1)
 
 -- the lists of the records at the places of the documents that pass
 lists_from : (known : List (List (List ℕ))) (config : Config) (test : Doc → Bool) (all : List Stored) (k : ℕ) (stored : List Stored) (docs : List Doc) → AllZip (IsRecordOf known config) stored docs

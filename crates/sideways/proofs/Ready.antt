@@ -97,7 +97,7 @@ each_listed : (q : Question) → IsLabelList q.labels → (stored : List Stored)
 each_listed q list [] [] are = tt
 each_listed q list [] (d ∷ ds) are = absurd are
 each_listed q list (s ∷ ss) [] are = absurd are
-each_listed q list (s ∷ ss) (d ∷ ds) are = (subst (λ l. IsListOf q.config q.labels l d) are.0.counted (list_is q.labels q.config list s d are.0), each_listed q list ss ds are.1)
+each_listed q list (s ∷ ss) (d ∷ ds) are = (subst (λ l. IsListOf q.config q.labels l d) are.0.counted (list_is q.labels q.config s d are.0), each_listed q list ss ds are.1)
 
 join_all : (P : Doc → Type 0) (xs ys : List Doc) → AllByRecursion P xs → AllByRecursion P ys → AllByRecursion P (xs ++ ys)
 join_all P [] ys xall yall = yall

@@ -43,7 +43,7 @@ returns-in-None-clause-decodes c =
     let built : c.in_ok-rebuilt.rebuilt ≡ rebuilt c.args.config.now known c.in_ok-segment.segment.records = c.in_ok-rebuilt.ensures
     ∙ ap (λ (es : List Entry). record { records = map stored_of es; terms = terms_of (docs_of es) }) c.deref.ensures.value ∙ (λ i. record { records = c.in_ok-entries.ensures.stored i; terms = terms_of (c.in_ok-entries.ensures.docs i) }) in
     decodes c.args.config.now known c.args.needs c.args.documents c.args.bytes.items c.in_ok-segment.segment c.in_ok-segment.ensures.read c.in_ok-rebuilt.rebuilt c.in_ok-segment.ensures.found c.in_ok-entries.ensures.fits built c.bytes-2.ensures.is
-    ((λ i. first_difference (sym c.bytes.ensures.bytes i) (sym c.bytes-2.ensures.bytes i)) ∙ sym c.in-None.ensures) c.requires
+    ((λ i. first_difference (sym c.bytes.ensures.bytes i) (sym c.bytes-2.ensures.bytes i)) ∙ sym c.in-None.ensures) c.in_ok-entries.ensures.list c.requires
 
 pub returns-in-None-clause-leaves : goal.returns-in-None-clause-leaves
 returns-in-None-clause-leaves c = leaves_low c.args.config.now c.args.labels.now c.args.needs c.in_ok-segment.segment.records c.in_ok-entries.ensures.fits

@@ -11,9 +11,9 @@ pub returns-clause-bytes : goal.returns-clause-bytes
 returns-clause-bytes c =
     let size : c.len.result ≡ length c.args.term.now.places.items = search rules in
     term_put (term_view c.args.term.now) c.args.out.now.items c.put_text.new.out.items c.put_u32.new.out.items c.put_numbers.new.out.items
-    (c.in_ok-put_text.ensures ∙ ap (λ t. c.args.out.now.items ++ text t) c.as_str-text.ensures.value)
+    (c.in_ok-put_text.ensures ∙ ap (λ t. c.args.out.now.items ++ text t) c.as_str.ensures.value)
     (c.in_ok-put_u32.ensures ∙ ap (λ n. c.put_text.new.out.items ++ be32 n) size)
     (c.in_ok-put_numbers.ensures.bytes ∙ ap (λ ns. c.put_u32.new.out.items ++ flat_map be32 ns) c.deref.ensures.value)
 
 pub returns-clause-fits : goal.returns-clause-fits
-returns-clause-fits c = subst (IsText 65568) c.as_str-text.ensures.value (record { length = omega arith; utf8 = is_utf8-from_IsUtf8 c.as_str-text.result.now c.as_str-text.utf8 })
+returns-clause-fits c = subst (IsText 65568) c.as_str.ensures.value (record { length = omega (arith, c.requires.short, ap length c.as_str.ensures.value); utf8 = is_utf8-from_IsUtf8 c.as_str.result.now c.as_str.utf8 })

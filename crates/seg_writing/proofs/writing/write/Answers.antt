@@ -14,8 +14,8 @@ use Rattle.seg_writing.proofs.Puts.{whole_put}
 use Rattle.seg_writing.proofs.Limits.{few_each, terms_fit, terms_in_order}
 use Rattle.seg_writing.proofs.writing.write.Goals as goal
 
-pub put_terms-requires : goal.put_terms-requires
-put_terms-requires c =
+pub put_terms-requires-clause-few : goal.put_terms-requires-clause-few
+put_terms-requires-clause-few c =
     let doc_of : Entry → Doc = λ e. e.doc in
     let docs : List Doc = map doc_of c.args.entries.now in
     let few : length docs ≤ 1000000 = omega (arith, length-map c.args.entries.now doc_of, c.requires.few) in
