@@ -8,9 +8,10 @@ use Rattle.std.specs.declared.cmp.Ordering.TheVariants.{Less, Equal, Greater}
 use Rattle.std.specs.Ordering.{nat_cmp, is_lt, ordering_reverse}
 use Rattle.std.specs.Cmp.Lexicographic.{slice_cmp, nat_list_cmp_total, bytes_decides}
 use Rattle.std.proofs.lemmas.Bool.{true≢false}
+use Rattle.std.proofs.lemmas.Map.Lookups.{exact_bytes}
 use Rattle.facet_model.specs.declared.flags.DimFlags.{DimFlags}
 use Rattle.facet_model.specs.Flags.{Config, flags, no_flags}
-use Rattle.facet_config.specs.Differences.{IsFirstDifference, is_one_true, is_different, lesser, nearer}
+use Rattle.facet_config.specs.Differences.{IsFirstDifference, IsFoundDifference, OneDifference, is_one_true, is_different, lesser, nearer}
 
 abbrev cmp : List ℕ → List ℕ → Ordering
 cmp = slice_cmp nat_cmp
@@ -193,3 +194,34 @@ module _ (one other : Config) where
   pub when_some : {X : Type 0} (name : X → List ℕ) (o : Option X) → option_map name o ≡ first_of_both → IfSome o (λ x. IsFirstDifference one other (name x))
   when_some name None e = tt
   when_some name (Some x) e = one_differs (name x) (sym e)
+
+-- ---- two first differences are one
+
+greater_equal : Greater ≡ Equal → ⊥
+greater_equal e = cc
+
+greater_less : Greater ≡ Less → ⊥
+greater_less e = cc
+
+pub first_alone : (one other : Config) (d e : List ℕ) → IsFirstDifference one other d → IsFirstDifference one other e → d ≡ e
+first_alone one other d e first second = by (cmp d e) (cmp e d) refl refl (second.first d first.differs) (first.first e second.differs)
+  where
+    by : (o r : Ordering) → cmp d e ≡ o → cmp e d ≡ r → is_lt (cmp d e) ≡ false → is_lt (cmp e d) ≡ false → d ≡ e
+    by Less r is back low high = absurd (true≢false (sym (ap is_lt is) ∙ low))
+    by Equal r is back low high = exact_bytes d e is
+    by Greater Less is back low high = absurd (true≢false (sym (ap is_lt back) ∙ high))
+    by Greater Equal is back low high = absurd (greater_equal (sym is ∙ nat_list_cmp_total.antisymm d e ∙ ap ordering_reverse back))
+    by Greater Greater is back low high = absurd (greater_less (sym is ∙ nat_list_cmp_total.antisymm d e ∙ ap ordering_reverse back))
+
+pub one_difference : OneDifference
+one_difference one other found = (to found (first_of_both one other) refl, λ e. subst (IsFoundDifference one other) (sym e) (from (first_of_both one other) refl))
+  where
+    to : (f o : Option (List ℕ)) → first_of_both one other ≡ o → IsFoundDifference one other f → f ≡ o
+    to None None is found = refl
+    to None (Some m) is found = absurd ((one_differs one other m is).differs (found.none m))
+    to (Some d) None is found = absurd (found.some.differs (none_differs one other is d))
+    to (Some d) (Some m) is found = ap Some (first_alone one other d m found.some (one_differs one other m is))
+
+    from : (o : Option (List ℕ)) → first_of_both one other ≡ o → IsFoundDifference one other o
+    from None is = record { some = tt; none = none_differs one other is }
+    from (Some d) is = record { some = one_differs one other d is; none = tt }

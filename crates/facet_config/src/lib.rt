@@ -6,8 +6,10 @@ mod config;
 mod differing;
 mod expanding;
 mod fault;
+mod laws;
 #[cfg(test)]
 mod tests;
 
 pub use config::FacetsConfig;
 pub use fault::{DeclareFault, DocFault};
+pub use laws::one_difference;
