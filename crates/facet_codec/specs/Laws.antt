@@ -15,7 +15,8 @@ IsSpelled {A} read spell Fits = (p : Place) (x : A) (q : Place) → IsBytes p.re
 
 -- Of a spelling and whatever follows, reading gives the value back and leaves what follows.
 abbrev pub ReadsBack : {A F : Type 0} → (Place → Result (A × Place) F) → (A → List ℕ) → (A → Type 0) → Type 0
-ReadsBack {A} read spell Fits = (at : ℕ) (x : A) (rest : List ℕ) → Fits x → read (record { at = at; rest = spell x ++ rest }) ≡ Ok (x, record { at = at + length (spell x); rest = rest })
+ReadsBack {A} read spell Fits = (at : ℕ) (x : A) (rest : List ℕ) → Fits x
+    → read (record { at = at; rest = spell x ++ rest }) ≡ Ok (x, record { at = at + length (spell x); rest = rest })
 
 -- a number below a bound
 abbrev pub IsBelow : ℕ → ℕ → Type 0

@@ -51,7 +51,8 @@ bytes_at n p = if nat_lt (length p.rest) n then Err (Short p.at) else Ok (take n
 -- the bytes do not end before the last group, and the last group is not 0.
 unfoldable pub groups_at : ℕ → ℕ → ℕ → List ℕ → Result (ℕ × Place) CodecFault
 groups_at start more at [] = Err (Short start)
-groups_at start zero at (b ∷ rest) = if nat_lt 15 b then Err (OutOfRange start) else (if b == 0 then Err (LongSpelling start) else Ok (b, record { at = at + 1; rest = rest }))
+groups_at start zero at (b ∷ rest) = if nat_lt 15 b then Err (OutOfRange start)
+    else (if b == 0 then Err (LongSpelling start) else Ok (b, record { at = at + 1; rest = rest }))
 groups_at start (suc more) at (b ∷ rest) = if nat_lt b 128 then (if b == 0 then Err (LongSpelling start) else Ok (b, record { at = at + 1; rest = rest }))
     else (groups_at start more (at + 1) rest >>= λ n. Ok (b - 128 + 128 * n.0, n.1))
 

@@ -31,4 +31,5 @@ climbed up first lists ord = count_by (list_any (λ other. climbs up first other
 -- The counts with those that are not below first rolled up, whatever lists were added.
 pub record IsRolledTo (tally : Tally) (first : ℕ) (counts : List ℕ) : Type 0 where
   pub sized : length counts ≡ length tally.labels
-  pub each : (lists : List (List ℕ)) → HasAdded tally lists → (ord : ℕ) → 0 < ord → ord < length tally.labels → slice_index_or counts ord 0 ≡ climbed (goes_to tally.config tally.labels) first lists ord
+  pub each : (lists : List (List ℕ)) → HasAdded tally lists → (ord : ℕ) → 0 < ord → ord < length tally.labels
+      → slice_index_or counts ord 0 ≡ climbed (goes_to tally.config tally.labels) first lists ord

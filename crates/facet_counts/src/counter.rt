@@ -39,7 +39,8 @@ fn add_each(counts: &mut [u32], mut ords: Ords<'_>)
     requires within { All (λ ord. ord < length counts.old) ords }
     requires distinct { AllPairs (λ a b. a ≡ b → ⊥) ords }
     requires room { (ord : ℕ) → ord < length counts.old → slice_index_or counts.old ord 0 + 1 < 2 ^ 32 }
-    ensures { (ord : ℕ) → ord < length counts.old → slice_index_or counts.new ord 0 ≡ slice_index_or counts.old ord 0 + (if list_any (nat_eq ord) ords.entry then 1 else 0) }
+    ensures { (ord : ℕ) → ord < length counts.old → slice_index_or counts.new ord 0
+        ≡ slice_index_or counts.old ord 0 + (if list_any (nat_eq ord) ords.entry then 1 else 0) }
 {
     while let Some(ord) = ords.next() {
         counts[ord as usize] += 1;

@@ -74,7 +74,9 @@ impl<'a> Counts<'a> {
         ensures total { result ≡ slice_index_or self.now.totals ord 0 }
         ensures counts { (lists : List (List ℕ)) → AreCounts self.now lists → result ≡ lists_at self.now.config self.now.labels lists ord }
         // Where the lists are those of documents: the number of these that have the path, where its count is kept.
-        ensures documents { (docs : List Doc) (lists : List (List ℕ)) (path : List (List ℕ)) → AreCounts self.now lists → AllZip (IsListOf self.now.config self.now.labels) lists docs → place self.now.labels path ≡ Some ord → is_kept_path self.now.config path ≡ true → result ≡ count docs path }
+        ensures documents { (docs : List Doc) (lists : List (List ℕ)) (path : List (List ℕ)) → AreCounts self.now lists
+            → AllZip (IsListOf self.now.config self.now.labels) lists docs → place self.now.labels path ≡ Some ord → is_kept_path self.now.config path ≡ true
+            → result ≡ count docs path }
     {
         self.totals[ord as usize]
     }
@@ -85,7 +87,8 @@ impl<'a> Counts<'a> {
     /// It walks over the path's children, and takes memory for each that has a document.
     pub fn top(&self, alloc: Global, path: &Path, n: u32) -> Result<Option<FacetResult>, NoMemory>
         requires { 0 < n }
-        ensures { IfOk result (λ r. (docs : List Doc) (lists : List (List ℕ)) → AreCounts self.now lists → AllZip (IsListOf self.now.config self.now.labels) lists docs → IsTop self.now.config docs path.now n (option_map result_view r)) }
+        ensures { IfOk result (λ r. (docs : List Doc) (lists : List (List ℕ)) → AreCounts self.now lists
+            → AllZip (IsListOf self.now.config self.now.labels) lists docs → IsTop self.now.config docs path.now n (option_map result_view r)) }
     {
         let dim_flags = self.config.flags(path.dim());
         match self.view.ordinal_of(path) {
@@ -106,7 +109,8 @@ impl<'a> Counts<'a> {
         requires flags { dim_flags ≡ flags self.now.config (dim_of path.now) }
         requires some { 0 < length path.now }
         requires place { place self.now.labels path.now ≡ Some ord }
-        ensures { IfOk result (λ r. (docs : List Doc) (lists : List (List ℕ)) → AreCounts self.now lists → AllZip (IsListOf self.now.config self.now.labels) lists docs → IsTop self.now.config docs path.now n (option_map result_view r)) }
+        ensures { IfOk result (λ r. (docs : List Doc) (lists : List (List ℕ)) → AreCounts self.now lists
+            → AllZip (IsListOf self.now.config self.now.labels) lists docs → IsTop self.now.config docs path.now n (option_map result_view r)) }
     {
         let mut children = children_below(alloc, self.view, &self.totals, ord)?;
         children.sort()?;
@@ -130,7 +134,8 @@ impl<'a> Counts<'a> {
     /// it: where none does the answer is -1. One look-up in a hash table; it takes no memory.
     pub fn specific(&self, path: &Path, exists: bool) -> i64
         requires kept { ask_fault self.now.config (one_value path.now) ≡ None }
-        ensures { (docs snapshot : List Doc) (lists : List (List ℕ)) → AreCounts self.now lists → AllZip (IsListOf self.now.config self.now.labels) lists docs → exists ≡ nat_lt 0 (count snapshot path.now) → result ≡ specific snapshot docs path.now }
+        ensures { (docs snapshot : List Doc) (lists : List (List ℕ)) → AreCounts self.now lists → AllZip (IsListOf self.now.config self.now.labels) lists docs
+            → exists ≡ nat_lt 0 (count snapshot path.now) → result ≡ specific snapshot docs path.now }
     {
         if !exists {
             return -1;
@@ -147,7 +152,8 @@ impl<'a> Counts<'a> {
     /// It walks over the dimensions and their children, and takes memory for each child that has a document.
     pub fn all_dims(&self, alloc: Global, n: u32) -> Result<Vec<FacetResult>, NoMemory>
         requires { 0 < n }
-        ensures { IfOk result (λ v. (docs : List Doc) (lists : List (List ℕ)) → AreCounts self.now lists → AllZip (IsListOf self.now.config self.now.labels) lists docs → AreAllDims self.now.config (λ _. docs) n (map result_view v.items)) }
+        ensures { IfOk result (λ v. (docs : List Doc) (lists : List (List ℕ)) → AreCounts self.now lists
+            → AllZip (IsListOf self.now.config self.now.labels) lists docs → AreAllDims self.now.config (λ _. docs) n (map result_view v.items)) }
     {
         let mut results = self.each_dim(alloc, n)?;
         order_dims(&mut results);
@@ -157,7 +163,8 @@ impl<'a> Counts<'a> {
     // The results of all dimensions, the one that was added last first.
     fn each_dim(&self, alloc: Global, n: u32) -> Result<Vec<FacetResult>, NoMemory>
         requires { 0 < n }
-        ensures { IfOk result (λ v. (docs : List Doc) (lists : List (List ℕ)) → AreCounts self.now lists → AllZip (IsListOf self.now.config self.now.labels) lists docs → AreDims (λ _. true) self.now.config (λ _. docs) n (map result_view v.items)) }
+        ensures { IfOk result (λ v. (docs : List Doc) (lists : List (List ℕ)) → AreCounts self.now lists
+            → AllZip (IsListOf self.now.config self.now.labels) lists docs → AreDims (λ _. true) self.now.config (λ _. docs) n (map result_view v.items)) }
     {
         let mut results = Vec::new(alloc);
         let mut next = child_of(self.view, 0);

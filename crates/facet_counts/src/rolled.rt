@@ -73,8 +73,10 @@ fn go_up(view: &TaxoView, rolled: &[bool], counts: &mut [u32], ord: usize)
     requires few { length view.now ≤ 1000000 }
     requires marks { length rolled.now ≡ length view.now }
     requires sized { length counts.old ≡ length view.now }
-    requires fits { IfSome (next_of (slice_index_or rolled.now ord false) view.now ord) (λ p. slice_index_or counts.old p 0 + slice_index_or counts.old ord 0 < 2 ^ 32) }
-    ensures { counts.new ≡ option_map_or (λ p. slice_set counts.old p (slice_index_or counts.old p 0 + slice_index_or counts.old ord 0)) (next_of (slice_index_or rolled.now ord false) view.now ord) counts.old }
+    requires fits { IfSome (next_of (slice_index_or rolled.now ord false) view.now ord)
+        (λ p. slice_index_or counts.old p 0 + slice_index_or counts.old ord 0 < 2 ^ 32) }
+    ensures { counts.new ≡ option_map_or (λ p. slice_set counts.old p (slice_index_or counts.old p 0 + slice_index_or counts.old ord 0))
+        (next_of (slice_index_or rolled.now ord false) view.now ord) counts.old }
 {
     if let Some(parent) = next(view, rolled[ord], ord as u32) {
         counts[parent as usize] += counts[ord];
@@ -84,7 +86,8 @@ fn go_up(view: &TaxoView, rolled: &[bool], counts: &mut [u32], ord: usize)
 /// Rolls the counts up, from the last label to the first: so a label's count is whole before it goes to the parent.
 pub fn roll(view: &TaxoView, rolled: &[bool], counts: &mut [u32])
     requires { (config : Config) × (added : ℕ) × IsCounter (record { labels = view.now; config = config; own = counts.old; added = added }) rolled.now }
-    ensures { (config : Config) (added : ℕ) → IsCounter (record { labels = view.now; config = config; own = counts.old; added = added }) rolled.now → IsRolledTo (record { labels = view.now; config = config; own = counts.old; added = added }) 1 counts.new }
+    ensures { (config : Config) (added : ℕ) → IsCounter (record { labels = view.now; config = config; own = counts.old; added = added }) rolled.now
+        → IsRolledTo (record { labels = view.now; config = config; own = counts.old; added = added }) 1 counts.new }
 {
     let mut ord = counts.len();
     while ord > 1 {

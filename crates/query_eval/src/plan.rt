@@ -54,7 +54,8 @@ impl<'a> Plan<'a> {
     pub fn matches(&mut self, doc: u32) -> bool
         ensures has { result ≡ is_in doc self.old }
         ensures left { self.new ≡ from_place doc self.old }
-        ensures matches { (query : QueryTree) (docs : List Doc) (first : ℕ) (at : Doc) → self.old ≡ from_place first (places (matches query) docs) → first ≤ doc → slice_get docs doc ≡ Some at → result ≡ matches query at }
+        ensures matches { (query : QueryTree) (docs : List Doc) (first : ℕ) (at : Doc) → self.old ≡ from_place first (places (matches query) docs)
+            → first ≤ doc → slice_get docs doc ≡ Some at → result ≡ matches query at }
     {
         self.places.has(doc)
     }

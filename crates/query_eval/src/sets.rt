@@ -11,7 +11,8 @@ use std::alloc::Global;
 
 /// The documents that pass one of some tests, or more.
 pub fn any_node(nodes: Vec<PlanNode<'_>>) -> PlanNode<'_>
-    ensures { (docs : List Doc) (tests : List (Doc → Bool)) → AreTests docs tests nodes.entry.items → result.left ≡ places (λ doc. list_any (λ test. test doc) tests) docs }
+    ensures { (docs : List Doc) (tests : List (Doc → Bool)) → AreTests docs tests nodes.entry.items
+        → result.left ≡ places (λ doc. list_any (λ test. test doc) tests) docs }
 {
     let mut nodes = nodes;
     if nodes.len() == 1 {
@@ -26,7 +27,8 @@ pub fn any_without<'a>(
     nodes: Vec<PlanNode<'a>>,
     excluded: Vec<PlanNode<'a>>,
 ) -> Result<PlanNode<'a>, NoMemory>
-    ensures { IfOk result (λ r. (docs : List Doc) (tests others : List (Doc → Bool)) → AreTests docs tests nodes.entry.items → AreTests docs others excluded.entry.items
+    ensures { IfOk result (λ r. (docs : List Doc) (tests others : List (Doc → Bool)) → AreTests docs tests nodes.entry.items
+        → AreTests docs others excluded.entry.items
         → r.left ≡ places (λ doc. list_any (λ test. test doc) tests && not (list_any (λ test. test doc) others)) docs) }
 {
     if excluded.is_empty() {
@@ -42,7 +44,8 @@ pub fn all_without<'a>(
     excluded: Vec<PlanNode<'a>>,
 ) -> Result<PlanNode<'a>, NoMemory>
     requires { 0 < length nodes.items }
-    ensures { IfOk result (λ r. (docs : List Doc) (tests others : List (Doc → Bool)) → AreTests docs tests nodes.entry.items → AreTests docs others excluded.entry.items
+    ensures { IfOk result (λ r. (docs : List Doc) (tests others : List (Doc → Bool)) → AreTests docs tests nodes.entry.items
+        → AreTests docs others excluded.entry.items
         → r.left ≡ places (λ doc. list_all (λ test. test doc) tests && not (list_any (λ test. test doc) others)) docs) }
 {
     let mut nodes = nodes;

@@ -3,6 +3,7 @@ use Rattle.std.proofs.Common.{◌≡◌, ℕ, ◌≤◌, List, [], ◌∷◌, le
 use Rattle.std.specs.Prelude.{Result, ◌==◌, All}
 use Rattle.std.specs.List.{AllByRecursion}
 use Rattle.std.proofs.lemmas.Bool.{eqb-true}
+use Rattle.facet_names.specs.Labels.{IsLabelList}
 use Rattle.facet_codec.specs.Reading.{◌>>=◌}
 use Rattle.facet_codec.proofs.Taking.{bind_ok, done_is, guard_yes, told_ok}
 use Rattle.facet_model.specs.Flags.{Config}

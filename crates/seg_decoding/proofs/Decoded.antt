@@ -1,8 +1,8 @@
 -- Segments that decode, under a list of labels that goes on, and with one segment more.
-use Rattle.std.proofs.Common.{◌≡◌, ℕ, zero, suc, ◌-◌, ◌<◌, length, arith, true, List, [], ◌∷◌, ◌++◌, map, get_or, slice_get, Some, refl, sym, ap, subst, ◌∙◌}
+use Rattle.std.proofs.Common.{◌≡◌, ℕ, zero, suc, ◌+◌, ◌-◌, take, ◌<◌, length, arith, true, List, [], ◌∷◌, ◌++◌, map, get_or, slice_get, Some, refl, sym, ap, subst, ◌∙◌}
 use Rattle.std.specs.Prelude.{flat_map}
 use Rattle.std.specs.List.{AllZip}
-use Rattle.std.proofs.lemmas.List.{append-nil, map-append, flat_map_more}
+use Rattle.std.proofs.lemmas.List.{append-nil, map-append, map_push, take_more, flat_map_more}
 use Rattle.std.proofs.lemmas.List.Concat.{flat_map-cons}
 use Rattle.std.proofs.lemmas.Option.{get_or_from_slice_get, slice_get-get_or}
 use Rattle.facet_names.specs.Labels.{GoesOn, IsLabelList}
@@ -47,6 +47,10 @@ labels_at known (o ∷ os) (l ∷ ls) at =
 
 pub record_is : (known : Labels) (config : Config) (r : Stored) (doc : Doc) → IsRecordOf known config r doc → doc_in known r ≡ doc
 record_is known config r doc is = λ i. record { id = is.id i; text = is.text i; labels = labels_at known r.leaves doc.labels is.labels i }
+
+-- a document that is made of a record's id, text and labels is the record's
+pub doc_made : (known : Labels) (r : Stored) (doc : Doc) (id text : List ℕ) (paths : Labels) → doc ≡ record { id = id; text = text; labels = paths } → id ≡ r.id → text ≡ r.text → AreLabelsAt known r.leaves paths → doc ≡ doc_in known r
+doc_made known r doc id text paths is same_id same_text at = is ∙ (λ k. record { id = same_id k; text = same_text k; labels = sym (labels_at known r.leaves paths at) k })
 
 -- ---- labels that go on
 
@@ -117,3 +121,9 @@ label_behind labels paths zero path are some is lt = absurd (omega arith)
 label_behind labels paths (suc at) path are some is lt =
     let same : suc at - 1 ≡ at = omega arith in
     ap (λ (ls : Labels). slice_get ls (suc at)) are ∙ slice_get-get_or paths at [] (omega arith) ∙ ap Some (sym (is ∙ ap (λ n. get_or paths n []) same))
+
+-- the labels at one ordinal more
+pub labels_more : (labels : Labels) (ordinals : List ℕ) (i : ℕ) (copies now : Labels) (copy : List (List ℕ)) → i < length ordinals → map (slice_get labels) (take i ordinals) ≡ map Some copies → slice_get labels (get_or ordinals i 0) ≡ Some copy → now ≡ copies ++ copy ∷ []
+    → map (slice_get labels) (take (i + 1) ordinals) ≡ map Some now
+labels_more labels ordinals i copies now copy lt before at pushed =
+    ap (map (slice_get labels)) (take_more ordinals i 0 lt) ∙ map_push (slice_get labels) (take i ordinals) (get_or ordinals i 0) ∙ (λ k. before k ++ at k ∷ []) ∙ sym (map_push Some copies copy) ∙ ap (map Some) (sym pushed)

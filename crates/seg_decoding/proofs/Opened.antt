@@ -9,6 +9,7 @@ use Rattle.facet_codec.proofs.EachKind.{u32_read_back}
 use Rattle.facet_names.specs.Labels.{IsLabelList}
 use Rattle.facet_names.proofs.LabelLists.{Labels}
 use Rattle.facet_model.specs.Accepts.{Accepts}
+use Rattle.facet_model.proofs.Fronts.{knows_its_labels}
 use Rattle.facet_model.specs.CountedPaths.{counted_ordinals}
 use Rattle.facet_model.specs.Documents.{Doc}
 use Rattle.facet_model.specs.Flags.{Config}
@@ -20,6 +21,7 @@ use Rattle.seg_grammar.proofs.Again.{number_again, segment_again}
 use Rattle.seg_decoding.specs.Answers.{IsLeaf}
 use Rattle.seg_decoding.specs.Decoding.{doc_in}
 use Rattle.seg_decoding.specs.Opening.{head_fits, opened, counted_anew, rebuilt, first_difference, stored_segment}
+use Rattle.seg_decoding.proofs.Ordinals.{known_at}
 use Rattle.seg_decoding.proofs.Decoded.{all_zip_is, record_is}
 use Rattle.seg_decoding.proofs.Differences.{none_from_same}
 use Rattle.seg_decoding.proofs.Fitting.{Fits, documents_fit_where}

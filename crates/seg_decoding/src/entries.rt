@@ -114,7 +114,12 @@ fn entry_of(
     requires list { IsLabelList labels.now }
     requires labels { AreLabelsAt labels.now leaves.items doc.labels }
     ensures doc { IfOk result (λ e. e.doc ≡ doc) }
-    ensures stored { IfOk result (λ e. stored_of e ≡ record { id = doc.id; text = doc.text; leaves = leaves.items; counted = counted_ordinals labels.now config.now doc.labels }) }
+    ensures stored { IfOk result (λ e. stored_of e ≡ record {
+      id = doc.id;
+      text = doc.text;
+      leaves = leaves.items;
+      counted = counted_ordinals labels.now config.now doc.labels;
+    }) }
 {
     let resolved = resolve_all(alloc, labels, doc.facets())?;
     let counted = config.expand(alloc, &doc, &resolved)?;

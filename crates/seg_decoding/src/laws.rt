@@ -7,7 +7,8 @@ ghost use Rattle.seg_decoding.specs.Laws.{OpensOnly, OpensAgain, OpensLater, Ope
 
 /// Only the segment that the bytes are is opened.
 pub fn of_opened()
-    ensures { (config : Config) (known : List (List (List ℕ))) (needs documents : ℕ) (bytes : List ℕ) (s : Records) → OpensOnly config known needs documents bytes s }
+    ensures { (config : Config) (known : List (List (List ℕ))) (needs documents : ℕ) (bytes : List ℕ) (s : Records)
+        → OpensOnly config known needs documents bytes s }
 {}
 
 /// What is built for documents is opened again, also where the list of labels went on since.

@@ -23,7 +23,8 @@ pub record IsIndexOf (r : Records) (index : Index) : Type 0 where
 
 -- A call passed records, and told where they and their counted ordinals begin.
 abbrev pub MarksRecords : Result (Vec ℕ × Vec ℕ) SegFault → Place → Place → Result (List Stored × Place) SegFault → Type 0
-MarksRecords (Ok marks) old new read = (rs : List Stored) × (read ≡ Ok (rs, new)) × (marks.0.items ≡ offsets record_bytes old.at rs) × (marks.1.items ≡ counted_offsets old.at rs)
+MarksRecords (Ok marks) old new read = (rs : List Stored) × (read ≡ Ok (rs, new)) × (marks.0.items ≡ offsets record_bytes old.at rs)
+    × (marks.1.items ≡ counted_offsets old.at rs)
 MarksRecords (Err e) old new read = Fails e read
 
 -- A call passed terms, and told where they begin.

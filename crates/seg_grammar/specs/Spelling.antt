@@ -32,7 +32,8 @@ term_bytes t = text t.0 ++ places_bytes t.1
 
 -- `FSEG`, the version, how many records there are, the records, how many terms there are, and the terms
 unfoldable pub seg_bytes : Records → List ℕ
-seg_bytes r = be32 0x46534547 ++ (be32 1 ++ (be32 (length r.records) ++ (flat_map record_bytes r.records ++ (be32 (length r.terms) ++ flat_map term_bytes r.terms))))
+seg_bytes r = be32 0x46534547 ++ (be32 1 ++ (be32 (length r.records) ++ (flat_map record_bytes r.records
+    ++ (be32 (length r.terms) ++ flat_map term_bytes r.terms))))
 
 -- ---- the limits
 

@@ -19,7 +19,16 @@ pub record Search : Type 0 where
 
 -- what it asks
 abbrev pub question : Search → Question
-question s = record { labels = s.labels; config = s.config; segments = s.segments; query = query_view s.ask.query; drill = s.ask.drill; asks = map ask_view s.ask.asks.items; hits = s.ask.hits; sideways = s.ask.sideways }
+question s = record {
+  labels = s.labels;
+  config = s.config;
+  segments = s.segments;
+  query = query_view s.ask.query;
+  drill = s.ask.drill;
+  asks = map ask_view s.ask.asks.items;
+  hits = s.ask.hits;
+  sideways = s.ask.sideways;
+}
 
 -- what the segments are
 abbrev pub records_of : List (Arc Records Global) → List Records

@@ -60,7 +60,8 @@ fn each_dim(
     requires some { 0 < n }
     requires labels { view.now ≡ answer.now.labels }
     requires list { IsLabelList view.now }
-    ensures { IfOk result (λ v. (docs : List Doc) → HasDocs (question answer.now) docs → AreDims (λ dim. true) answer.now.config (docs_of (question answer.now) docs) n (map result_view v.items)) }
+    ensures { IfOk result (λ v. (docs : List Doc) → HasDocs (question answer.now) docs
+        → AreDims (λ dim. true) answer.now.config (docs_of (question answer.now) docs) n (map result_view v.items)) }
 {
     let mut results = Vec::new(alloc);
     let mut next = child_of(view, 0);
@@ -82,7 +83,8 @@ impl<'a> SidewaysAnswer<'a> {
 
     /// The places of the first hits, as many as were wanted, counted over all segments.
     pub fn hits(&self) -> &[u32]
-        ensures { (docs : List Doc) → HasDocs (question self.now) docs → result.now ≡ take (question self.now).hits (places (is_hit (question self.now).query (question self.now).drill) docs) }
+        ensures { (docs : List Doc) → HasDocs (question self.now) docs
+            → result.now ≡ take (question self.now).hits (places (is_hit (question self.now).query (question self.now).drill) docs) }
     {
         &self.found.places
     }
@@ -90,7 +92,8 @@ impl<'a> SidewaysAnswer<'a> {
     /// The counts of a dimension: with sideways over the documents that match the query and all other drilled dimensions, and else over the hits. It
     /// takes no memory, and time by the number of drilled dimensions.
     pub fn counts(&self, dim: &str) -> &Counts<'a>
-        ensures counts { (docs : List Doc) → HasDocs (question self.now) docs → AreCounts result.now (counted_of (question self.now) (docs_of (question self.now) docs dim.now)) }
+        ensures counts { (docs : List Doc) → HasDocs (question self.now) docs
+            → AreCounts result.now (counted_of (question self.now) (docs_of (question self.now) docs dim.now)) }
         ensures labels { result.now.labels ≡ self.now.labels }
         ensures config { result.now.config ≡ self.now.config }
         ensures list { IsLabelList self.now.labels }
@@ -117,7 +120,8 @@ impl<'a> SidewaysAnswer<'a> {
 
     fn value_of(&self, alloc: Global, path: &Path) -> Result<FacetAnswer, NoMemory>
         requires { ask_fault self.now.config (one_value path.now) ≡ None }
-        ensures { IfOk result (λ a. (docs : List Doc) → HasDocs (question self.now) docs → IsAnswer self.now.config docs (docs_of (question self.now) docs) (one_value path.now) (answer_view a)) }
+        ensures { IfOk result (λ a. (docs : List Doc) → HasDocs (question self.now) docs
+            → IsAnswer self.now.config docs (docs_of (question self.now) docs) (one_value path.now) (answer_view a)) }
     {
         let exists = self.exists(alloc, path)?;
         let value = self.counts(path.dim()).specific(path, exists);
@@ -127,14 +131,16 @@ impl<'a> SidewaysAnswer<'a> {
 
     fn top_of(&self, alloc: Global, path: &Path, n: u32) -> Result<Option<FacetResult>, NoMemory>
         requires { 0 < n }
-        ensures { IfOk result (λ r. (docs : List Doc) → HasDocs (question self.now) docs → IsTop self.now.config (docs_of (question self.now) docs (dim_of path.now)) path.now n (option_map result_view r)) }
+        ensures { IfOk result (λ r. (docs : List Doc) → HasDocs (question self.now) docs
+            → IsTop self.now.config (docs_of (question self.now) docs (dim_of path.now)) path.now n (option_map result_view r)) }
     {
         self.counts(path.dim()).top(alloc, path, n)
     }
 
     fn all_dims(&self, alloc: Global, n: u32) -> Result<FacetAnswer, NoMemory>
         requires { 0 < n }
-        ensures { IfOk result (λ a. (docs : List Doc) → HasDocs (question self.now) docs → IsAnswer self.now.config docs (docs_of (question self.now) docs) (all_dims n) (answer_view a)) }
+        ensures { IfOk result (λ a. (docs : List Doc) → HasDocs (question self.now) docs
+            → IsAnswer self.now.config docs (docs_of (question self.now) docs) (all_dims n) (answer_view a)) }
     {
         let mut results = each_dim(self, self.view, alloc, n)?;
         order_dims(&mut results);
@@ -144,7 +150,8 @@ impl<'a> SidewaysAnswer<'a> {
     /// The answer to the ask at a place, by the counts of its dimension. It takes memory for what it lists.
     pub fn answer(&self, alloc: Global, ask: usize) -> Result<FacetAnswer, NoMemory>
         requires { ask < length (question self.now).asks }
-        ensures { IfOk result (λ a. (docs : List Doc) (asked : Asked) → HasDocs (question self.now) docs → slice_get (question self.now).asks ask ≡ Some asked → IsAnswer self.now.config docs (docs_of (question self.now) docs) asked (answer_view a)) }
+        ensures { IfOk result (λ a. (docs : List Doc) (asked : Asked) → HasDocs (question self.now) docs → slice_get (question self.now).asks ask ≡ Some asked
+            → IsAnswer self.now.config docs (docs_of (question self.now) docs) asked (answer_view a)) }
     {
         match &self.ask.asks[ask] {
             Ask::Top { path, n } => {

@@ -67,7 +67,8 @@ pub(crate) fn nodes_of<'a>(
     drill: &[Path],
     lifted: Option<&str>,
 ) -> Result<Vec<PlanNode<'a>>, NoMemory>
-    ensures { IfOk result (λ v. (docs : List Doc) → HasTermsOf segment.now docs → AreAllOf docs (passes_all (query_view query.now) drill.now (lifted_of lifted.entry)) v.items) }
+    ensures { IfOk result (λ v. (docs : List Doc) → HasTermsOf segment.now docs
+        → AreAllOf docs (passes_all (query_view query.now) drill.now (lifted_of lifted.entry)) v.items) }
 {
     let mut nodes = base_nodes(alloc, segment, query)?;
     for (at, path) in drill.iter().enumerate() {

@@ -71,7 +71,8 @@ impl<'a> Part<'a> {
     ) -> Result<Part<'a>, NoMemory>
         requires { (docs : List Doc) × HasTermsOf segment.now docs }
         ensures segment { IfOk result (λ p. p.segment ≡ segment.now) }
-        ensures left { IfOk result (λ p. (docs : List Doc) → HasTermsOf segment.now docs → p.left ≡ places (passes_all (query_view query.now) drill.now (lifted_of lifted.entry)) docs) }
+        ensures left { IfOk result (λ p. (docs : List Doc) → HasTermsOf segment.now docs
+            → p.left ≡ places (passes_all (query_view query.now) drill.now (lifted_of lifted.entry)) docs) }
     {
         let nodes = nodes_of(alloc, segment, query, drill, lifted)?;
         if nodes.is_empty() {

@@ -106,7 +106,8 @@ impl<'a> Pass<'a> {
         lifted: Option<&str>,
     ) -> Result<Pass<'a>, NoMemory>
         requires { AllByRecursion (λ s. (docs : List Doc) × HasTermsOf s docs) (records_of segments.now) }
-        ensures parts { IfOk result (λ p. ArePartsOf (passes_all (query_view query.now) drill.now (lifted_of lifted.entry)) (records_of segments.now) p.parts.items) }
+        ensures parts { IfOk result (λ p. ArePartsOf (passes_all (query_view query.now) drill.now (lifted_of lifted.entry))
+            (records_of segments.now) p.parts.items) }
         ensures fresh { IfOk result (λ p. HasAdded p.counter []) }
         ensures labels { IfOk result (λ p. p.counter.labels ≡ view.now) }
         ensures config { IfOk result (λ p. p.counter.config ≡ config.now) }

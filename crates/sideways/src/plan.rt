@@ -53,7 +53,8 @@ impl<'a> Model for DrillPlan<'a> {
 
     ghost view = { λ p. search_of p.view.now p.config.now p.segments.now p.ask.now };
 
-    ghost invariant = { λ p. IsPlan (question_of p.view.now p.config.now p.segments.now p.ask.now) p.hits p.lifted.items × (p.places.items ≡ []) × (p.counted.items ≡ []) };
+    ghost invariant = { λ p. IsPlan (question_of p.view.now p.config.now p.segments.now p.ask.now) p.hits p.lifted.items × (p.places.items ≡ [])
+        × (p.counted.items ≡ []) };
 }
 
 // A pass for each dimension of the drill.
@@ -66,7 +67,8 @@ fn lifted_passes<'a>(
 ) -> Result<Vec<LiftedPass<'a>>, NoMemory>
     requires { AllByRecursion (λ s. (docs : List Doc) × HasTermsOf s docs) (records_of segments.now) }
     ensures each { IfOk result (λ v. AllByRecursion (λ l. IsPassOf (question_of view.now config.now segments.now ask.now) (Some l.dim.now) l.pass) v.items) }
-    ensures covers { IfOk result (λ v. (dim : List ℕ) → list_any (λ l. bytes_eq l.dim.now dim) v.items ≡ (ask.now.sideways && list_any (λ path. bytes_eq (dim_of path) dim) ask.now.drill)) }
+    ensures covers { IfOk result (λ v. (dim : List ℕ) → list_any (λ l. bytes_eq l.dim.now dim) v.items
+        ≡ (ask.now.sideways && list_any (λ path. bytes_eq (dim_of path) dim) ask.now.drill)) }
 {
     let mut lifted = Vec::new(alloc);
     if !ask.sideways {
@@ -90,8 +92,10 @@ fn count_lifted<'a>(
 ) -> Result<Vec<LiftedCounts<'a>>, NoMemory>
     requires none { counted.items ≡ [] }
     requires ready { AllByRecursion (λ l. IsReady l.pass.parts.items l.pass.counter) lifted.items }
-    ensures each { IfOk result (λ v. (q : Question) → AllByRecursion (λ l. IsPassOf q (Some l.dim.now) l.pass) lifted.entry.items → AllByRecursion (λ l. AreCountsOf q (Some l.dim.now) l.counts) v.items) }
-    ensures covers { IfOk result (λ v. (dim : List ℕ) → list_any (λ l. bytes_eq l.dim.now dim) v.items ≡ list_any (λ l. bytes_eq l.dim.now dim) lifted.entry.items) }
+    ensures each { IfOk result (λ v. (q : Question) → AllByRecursion (λ l. IsPassOf q (Some l.dim.now) l.pass) lifted.entry.items
+        → AllByRecursion (λ l. AreCountsOf q (Some l.dim.now) l.counts) v.items) }
+    ensures covers { IfOk result (λ v. (dim : List ℕ) → list_any (λ l. bytes_eq l.dim.now dim) v.items
+        ≡ list_any (λ l. bytes_eq l.dim.now dim) lifted.entry.items) }
 {
     let mut lifted = lifted;
     let mut counted = counted;

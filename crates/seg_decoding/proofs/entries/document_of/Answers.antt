@@ -4,19 +4,17 @@ use Rattle.facet_model.specs.Stored.{AreLabelsAt}
 use Rattle.seg_grammar.specs.Lookups.{record_of}
 use Rattle.seg_grammar.specs.Spelling.{IsRecord}
 use Rattle.seg_decoding.specs.Decoding.{doc_in}
-use Rattle.seg_decoding.proofs.Decoded.{labels_at}
+use Rattle.seg_decoding.proofs.Decoded.{doc_made}
 use Rattle.seg_decoding.proofs.Shapes.{memory_alone}
 use Rattle.seg_decoding.proofs.Stored.{each_at}
 use Rattle.seg_decoding.proofs.entries.document_of.Goals as goal
 
 pub returns-in-Ok-clause-doc : goal.returns-in-Ok-clause-doc
 returns-in-Ok-clause-doc g c =
-    let at : AreLabelsAt (g.L.Labelled.labels c.args.labels.now) (record_of c.args.segment.now c.args.doc).leaves c.in_ok-paths.paths.items =
-    subst (λ (l : List ℕ). AreLabelsAt (g.L.Labelled.labels c.args.labels.now) l c.in_ok-paths.paths.items) c.requires.own c.in_ok-paths.ensures.labels
-    in
-    let is : record { id = c.id.result.now; text = c.text.result.now; labels = c.in_ok-paths.paths.items } ≡ doc_in (g.L.Labelled.labels c.args.labels.now) (record_of c.args.segment.now c.args.doc) =
-    λ i. record { id = c.id.ensures.id i; text = c.text.ensures i; labels = sym (labels_at (g.L.Labelled.labels c.args.labels.now) (record_of c.args.segment.now c.args.doc).leaves c.in_ok-paths.paths.items at) i } in
-    c.in-Ok.ensures.ok ∙ is
+    let known = g.L.Labelled.labels c.args.labels.now in
+    let r = record_of c.args.segment.now c.args.doc in
+    let at : AreLabelsAt known r.leaves c.in_ok-paths.paths.items = subst (λ (l : List ℕ). AreLabelsAt known l c.in_ok-paths.paths.items) c.requires.own c.in_ok-paths.ensures.labels in
+    doc_made known r c.in-Ok.document c.id.result.now c.text.result.now c.in_ok-paths.paths.items c.in-Ok.ensures.ok c.id.ensures.id c.text.ensures at
 
 pub no_memory-requires : goal.no_memory-requires
 no_memory-requires g c =
