@@ -1,0 +1,120 @@
+ghost use Rattle.std.specs.Prelude.{◌≡◌, ◌<◌, true, length, IfOk};
+ghost use Rattle.facet_model.specs.Flags.{flags};
+ghost use Rattle.facet_counts.specs.Lists.{IsCounted, dim_at};
+ghost use Rattle.seg_postings.specs.Bytes.{AreNumbers};
+
+use crate::making::{BOOKS, listed};
+use facet_codec::put_u32;
+use facet_config::FacetsConfig;
+use facet_counts::{Counter, Counts};
+use facet_model::DimFlags;
+use seg_postings::Ords;
+use std::alloc::Global;
+use std::process::Abort;
+use std::test::Fail;
+use taxo_list::{Labelled, TaxoView};
+
+// The flags of one hierarchical dimension.
+fn flags_of(multi_valued: bool, require_dim_count: bool) -> DimFlags {
+    DimFlags {
+        hierarchical: true,
+        multi_valued,
+        require_dim_count,
+    }
+}
+
+fn config_of(alloc: Global, dim: &str, flags: DimFlags) -> Result<FacetsConfig, Fail> {
+    let mut config = FacetsConfig::new(alloc);
+    config.declare(dim, flags)?;
+    Ok(config)
+}
+
+fn is_multi_valued(view: &TaxoView, config: &FacetsConfig, ord: u32) -> bool
+    requires some { 0 < ord }
+    requires within { ord < length view.now }
+    ensures { result ≡ (flags config.now (dim_at view.now ord)).multi_valued }
+{
+    config.flags(view.path_of(ord).dim()).multi_valued
+}
+
+// Whether the ordinals rise, in dimensions that are multi-valued; one alone may be in any.
+fn may_be_added(view: &TaxoView, config: &FacetsConfig, ords: &[u32]) -> bool
+    ensures { result ≡ true → IsCounted config.now view.now ords.now }
+{
+    let mut last = 0;
+    for ord in ords {
+        if *ord <= last || *ord >= view.size() {
+            return false;
+        }
+        if ords.len() > 1 && !is_multi_valued(view, config, *ord) {
+            return false;
+        }
+        last = *ord;
+    }
+    true
+}
+
+// The bytes of these ordinals.
+fn spelled(alloc: Global, ords: &[u32]) -> Result<Vec<u8>, facet_codec::NoMemory>
+    ensures { IfOk result (λ bytes. AreNumbers bytes.items ords.now) }
+{
+    let mut out = Vec::new(alloc);
+    for ord in ords {
+        put_u32(&mut out, *ord)?;
+    }
+    Ok(out)
+}
+
+// The counts of these lists.
+fn counts_of<'a>(
+    rt: &impl Abort,
+    alloc: Global,
+    view: &'a TaxoView,
+    config: &'a FacetsConfig,
+    lists: &[&[u32]],
+) -> Result<Counts<'a>, Fail>
+    requires { length lists.now < 1000 }
+    ensures labels { IfOk result (λ c. c.labels ≡ view.now) }
+    ensures config { IfOk result (λ c. c.config ≡ config.now) }
+{
+    let mut counter = Counter::new(alloc, view, config)?;
+    for list in lists {
+        let may = may_be_added(view, config, *list);
+        assert!(rt; may);
+        let bytes = spelled(alloc, *list)?;
+        counter.add_doc(Ords::new(&bytes));
+    }
+    Ok(counter.roll_up())
+}
+
+// Whether so many documents have these ordinals.
+fn are_counted(view: &TaxoView, counts: &Counts, rows: &[(u32, u32)]) -> bool
+    requires { counts.now.labels ≡ view.now }
+{
+    for (ord, count) in rows {
+        if *ord == 0 || *ord >= view.size() || counts.at(*ord) != *count {
+            return false;
+        }
+    }
+    true
+}
+
+fn days_are_counted(
+    rt: &impl Abort,
+    alloc: Global,
+    view: &TaxoView,
+    config: &FacetsConfig,
+) -> Result<bool, Fail> {
+    let counts = counts_of(rt, alloc, view, config, &[&[6], &[6], &[1]])?;
+    let rows = [(1, 1), (2, 0), (3, 2), (4, 2), (5, 2), (6, 2)];
+    Ok(are_counted(view, &counts, &rows))
+}
+
+#[test]
+fn counts_by_ordinals(rt: HostRuntime) -> Result<(), Fail> {
+    let alloc = rt.alloc();
+    let view = listed(&rt, alloc, BOOKS)?.view()?;
+    let config = config_of(alloc, "Publish Date", flags_of(false, false))?;
+    assert!(rt; days_are_counted(&rt, alloc, &view, &config)?);
+    Ok(())
+}

@@ -1,0 +1,17 @@
+//! Tests of labels, documents, what is counted of them, and the core: what no run of the program shows.
+#![tactic(auto)]
+
+#[cfg(test)]
+mod configs;
+#[cfg(test)]
+mod cores;
+#[cfg(test)]
+mod counts;
+#[cfg(test)]
+mod documents;
+#[cfg(test)]
+mod labels;
+#[cfg(test)]
+mod making;
+#[cfg(test)]
+mod paths;

@@ -1,0 +1,106 @@
+//! Paths, documents and labels, for the tests.
+ghost use Rattle.std.specs.Prelude.{◌≡◌, ◌<◌, IfOk};
+ghost use Rattle.facet_names.specs.Labels.{GoesOn, above, stands};
+
+use facet_model::Document;
+use facet_names::{NoMemory, Path, PathFault};
+use std::alloc::Global;
+use std::process::Abort;
+use std::test::Fail;
+use taxo_list::{Labelled, TaxoFault, Taxonomy};
+
+pub fn path_of(alloc: Global, parts: &[&str]) -> Result<Path, PathFault> {
+    let mut texts = Vec::new(alloc);
+    for part in parts {
+        texts.push(String::from_str(alloc, *part)?)?;
+    }
+    Path::new(alloc, &texts)
+}
+
+/// The path whose components stand between slashes.
+pub fn path(alloc: Global, text: &str) -> Result<Path, Fail> {
+    let mut parts = Vec::new(alloc);
+    for part in text.split("/") {
+        parts.push(String::from_str(alloc, part)?)?;
+    }
+    Ok(Path::new(alloc, &parts)?)
+}
+
+pub fn document(alloc: Global, id: &str, labels: &[&str]) -> Result<Document, Fail> {
+    let mut facets = Vec::new(alloc);
+    for label in labels {
+        facets.push(path(alloc, *label)?)?;
+    }
+    Ok(Document::new(alloc, id, "", facets)?)
+}
+
+fn has_parent(alloc: Global, list: &Taxonomy, path: &Path) -> Result<bool, NoMemory>
+    ensures { IfOk result (λ b. b ≡ stands list.now (above path.now)) }
+{
+    // Its clause says that the root stands in the list.
+    let _ = list.size();
+    match path.parent(alloc)? {
+        Some(parent) => Ok(list.find(&parent).is_some()),
+        None => Ok(true),
+    }
+}
+
+/// Puts a label, whose parent stands.
+pub fn put(
+    rt: &impl Abort,
+    alloc: Global,
+    list: &mut Taxonomy,
+    text: &str,
+    limit: u32,
+) -> Result<Result<u32, TaxoFault>, Fail>
+    requires { limit < 1000000 }
+    ensures { GoesOn list.old list.new }
+{
+    let path = path(alloc, text)?;
+    let may = has_parent(alloc, list, &path)?;
+    assert!(rt; may);
+    Ok(list.add(&path, limit))
+}
+
+/// Puts these labels.
+pub fn put_all(
+    rt: &impl Abort,
+    alloc: Global,
+    list: &mut Taxonomy,
+    labels: &[&str],
+) -> Result<(), Fail>
+    ensures { GoesOn list.old list.new }
+{
+    for label in labels {
+        let _ = put(rt, alloc, list, *label, 1000)?;
+    }
+    Ok(())
+}
+
+/// A list of these labels.
+pub fn listed(rt: &impl Abort, alloc: Global, labels: &[&str]) -> Result<Taxonomy, Fail> {
+    let mut list = Taxonomy::new(alloc)?;
+    put_all(rt, alloc, &mut list, labels)?;
+    Ok(list)
+}
+
+/// The labels of five books, in the order in which they were added.
+pub const BOOKS: &[&str] = &[
+    "Author",
+    "Author/Bob",
+    "Publish Date",
+    "Publish Date/2010",
+    "Publish Date/2010/10",
+    "Publish Date/2010/10/15",
+    "Author/Lisa",
+    "Publish Date/2010/10/20",
+    "Publish Date/2012",
+    "Publish Date/2012/1",
+    "Publish Date/2012/1/1",
+    "Author/Susan",
+    "Publish Date/2012/1/7",
+    "Author/Frank",
+    "Publish Date/1999",
+    "Publish Date/1999/5",
+    "Publish Date/1999/5/5",
+];

@@ -1,0 +1,127 @@
+use crate::making::path_of;
+use facet_names::{Path, PathFault};
+use std::alloc::Global;
+use std::collections::HashMap;
+use std::test::Fail;
+
+fn fault(alloc: Global, parts: &[&str]) -> Option<PathFault> {
+    match path_of(alloc, parts) {
+        Ok(_) => None,
+        Err(fault) => Some(fault),
+    }
+}
+
+#[test]
+fn refused_paths(rt: HostRuntime) -> Result<(), Fail> {
+    let alloc = rt.alloc();
+    let longest = "x".repeat(alloc, 1024)?;
+    let too_long = "é".repeat(alloc, 513)?;
+    let rows: [(&[&str], Option<PathFault>); 6] = [
+        (&[], Some(PathFault::NoPart)),
+        (&["A", longest.as_str()], None),
+        (&["A", ""], Some(PathFault::EmptyPart { at: 1 })),
+        (
+            &["A", "b", too_long.as_str(), ""],
+            Some(PathFault::PartTooLong { at: 2, len: 1026 }),
+        ),
+        (&["A"; 32], None),
+        (&[""; 33], Some(PathFault::TooManyParts { len: 33 })),
+    ];
+    for (parts, expected) in rows {
+        assert_eq!(rt; fault(alloc, parts), expected);
+    }
+    Ok(())
+}
+
+// Whether the parts and the parent of a date are what they should be.
+fn is_taken_apart(alloc: Global) -> Result<bool, Fail> {
+    let date = path_of(alloc, &["Date", "2010", "10"])?;
+    let year = path_of(alloc, &["Date", "2010"])?;
+    let dim = path_of(alloc, &["Date"])?;
+    let parts = date.dim() == "Date" && year.len() == 2 && year.part(1) == "2010";
+    let parents = date.parent(alloc)? == Some(year.dup(alloc)?) && dim.parent(alloc)? == None;
+    let made = year.child(alloc, "10")? == date && Path::of_dim(alloc, "Date")? == dim;
+    let refused = year.child(alloc, "").is_err() && Path::of_dim(alloc, "").is_err();
+    Ok(parts && parents && made && refused)
+}
+
+fn is_under(alloc: Global, parts: &[&str], above: &[&str]) -> Result<bool, Fail> {
+    let path = path_of(alloc, parts)?;
+    let above = path_of(alloc, above)?;
+    Ok(path.is_under(&above))
+}
+
+#[test]
+fn families(rt: HostRuntime) -> Result<(), Fail> {
+    let alloc = rt.alloc();
+    assert!(rt; is_taken_apart(alloc)?);
+    let date: &[&str] = &["Date", "2010", "10"];
+    let rows: [(&[&str], &[&str], bool); 4] = [
+        (date, date, true),
+        (date, &["Date"], true),
+        (&["Date"], date, false),
+        (date, &["Date", "20"], false),
+    ];
+    for (parts, above, expected) in rows {
+        assert!(rt; is_under(alloc, parts, above)? == expected);
+    }
+    Ok(())
+}
+
+const RISING: [&[&str]; 6] = [
+    &["A"],
+    &["A", "b"],
+    &["A", "b", "a"],
+    &["A", "é"],
+    &["AA"],
+    &["Z"],
+];
+
+// Whether the paths are sorted so, and each is found in a map.
+fn are_in_order(alloc: Global) -> Result<bool, Fail> {
+    let mut paths = Vec::new(alloc);
+    let mut places = HashMap::new(alloc);
+    for (place, parts) in RISING.iter().enumerate() {
+        paths.push(path_of(alloc, *parts)?)?;
+        places.insert(path_of(alloc, *parts)?, place)?;
+    }
+    paths.reverse();
+    paths.sort()?;
+    for (place, parts) in RISING.iter().enumerate() {
+        let path = path_of(alloc, *parts)?;
+        if paths.get(place) != Some(&path) || places.get(&path).copied() != Some(place) {
+            return Ok(false);
+        }
+    }
+    Ok(true)
+}
+
+// Whether the path is spelled so, and read from it.
+fn is_spelled(alloc: Global, parts: &[&str], text: &str) -> Result<bool, Fail> {
+    let path = path_of(alloc, parts)?;
+    let spelled = path.term_text(alloc)?;
+    let read = Path::from_term_text(alloc, text)?;
+    Ok(spelled.as_str() == text && read == Some(path))
+}
+
+#[test]
+fn order_and_term_texts(rt: HostRuntime) -> Result<(), Fail> {
+    let alloc = rt.alloc();
+    assert!(rt; are_in_order(alloc)?);
+    let rows: [(&[&str], &str); 4] = [
+        (
+            &["A", "x\u{1f}y\u{1e}z"],
+            "A\u{1f}x\u{1e}\u{1f}y\u{1e}\u{1e}z",
+        ),
+        (&["A", "x", "y"], "A\u{1f}x\u{1f}y"),
+        (&["A", "x\u{1f}y"], "A\u{1f}x\u{1e}\u{1f}y"),
+        (&["é"], "é"),
+    ];
+    for (parts, text) in rows {
+        assert!(rt; is_spelled(alloc, parts, text)?);
+    }
+    for text in ["A\u{1e}", "\u{1e}A", "A\u{1f}", ""] {
+        assert!(rt; Path::from_term_text(alloc, text)? == None);
+    }
+    Ok(())
+}

@@ -1,0 +1,19 @@
+//! Tests of whole runs: reads, writes and device calls that fail, stops of a commit, and what is read and written that no run of the program shows.
+#![tactic(auto)]
+
+#[cfg(test)]
+mod chains;
+#[cfg(test)]
+mod commits;
+#[cfg(test)]
+mod failing;
+#[cfg(test)]
+mod lines;
+#[cfg(test)]
+mod runs;
+#[cfg(test)]
+mod scripts;
+#[cfg(test)]
+mod sideways_counts;
+#[cfg(test)]
+mod strays;

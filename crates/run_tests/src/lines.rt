@@ -1,0 +1,157 @@
+use facet_replies::{
+    Refusal, Reply, ScriptFault, StoreFault, write_fault, write_reply, write_store_fault,
+};
+use std::alloc::Global;
+use std::test::Fail;
+
+// Whether this is the line of a reply of session 1 to line 4.
+fn has_line(alloc: Global, reply: &Reply, expected: &str) -> Result<bool, Fail> {
+    let mut out = Vec::new(alloc);
+    write_reply(alloc, &mut out, 1, 4, reply)?;
+    let mut line = String::from_str(alloc, expected)?;
+    line.push('\n')?;
+    Ok(out.as_slice() == line.as_str().as_bytes())
+}
+
+static REFUSALS: [(Refusal, &str); 12] = [
+    (
+        Refusal::NoComponent { facet: 0 },
+        r#"{"facet":0,"line":4,"refused":"no_component","s":1}"#,
+    ),
+    (
+        Refusal::NotHierarchical { facet: 0, len: 2 },
+        r#"{"facet":0,"len":2,"line":4,"refused":"not_hierarchical","s":1}"#,
+    ),
+    (
+        Refusal::NotMultiValued { facet: 1 },
+        r#"{"facet":1,"line":4,"refused":"not_multi_valued","s":1}"#,
+    ),
+    (
+        Refusal::LabelsFull { size: 3 },
+        r#"{"line":4,"refused":"labels_full","s":1,"size":3}"#,
+    ),
+    (
+        Refusal::DocsFull { count: 1 },
+        r#"{"count":1,"line":4,"refused":"docs_full","s":1}"#,
+    ),
+    (
+        Refusal::TopZero { ask: 0 },
+        r#"{"ask":0,"line":4,"refused":"top_zero","s":1}"#,
+    ),
+    (
+        Refusal::DimValueNotKept { ask: 0 },
+        r#"{"ask":0,"line":4,"refused":"dim_value_not_kept","s":1}"#,
+    ),
+    (
+        Refusal::NoSuchDocument { count: 5 },
+        r#"{"count":5,"line":4,"refused":"no_such_document","s":1}"#,
+    ),
+    (
+        Refusal::Disk { count: 1 },
+        r#"{"count":1,"line":4,"refused":"disk","s":1}"#,
+    ),
+    (
+        Refusal::Closed { count: 2 },
+        r#"{"count":2,"line":4,"refused":"closed","s":1}"#,
+    ),
+    (
+        Refusal::NumbersSpent {
+            number: 9_223_372_036_854_775_811,
+        },
+        r#"{"line":4,"number":9223372036854775811,"refused":"numbers_spent","s":1}"#,
+    ),
+    (
+        Refusal::NoMemory,
+        r#"{"line":4,"refused":"no_memory","s":1}"#,
+    ),
+];
+
+fn refusals() -> &'static [(Refusal, &'static str)] {
+    &REFUSALS
+}
+
+#[test]
+fn lines_of_refusals(rt: HostRuntime) -> Result<(), Fail> {
+    for (refusal, expected) in refusals() {
+        let found = has_line(rt.alloc(), &Reply::Refused(*refusal), *expected)?;
+        assert!(rt; found, "{expected}");
+    }
+    Ok(())
+}
+
+static STORE_FAULTS: [(StoreFault<'static>, &str); 6] = [
+    (
+        StoreFault::Missing {
+            file: "index/segment-3",
+        },
+        r#"{"fault":"missing","file":"index/segment-3"}"#,
+    ),
+    (
+        StoreFault::Damaged {
+            file: "index/segment-3",
+            kept: [0xa0; 32],
+            found: [0x1f; 32],
+        },
+        r#"{"fault":"damaged","file":"index/segment-3","found":"1f1f1f1f1f1f1f1f1f1f1f1f1f1f1f1f1f1f1f1f1f1f1f1f1f1f1f1f1f1f1f1f","kept":"a0a0a0a0a0a0a0a0a0a0a0a0a0a0a0a0a0a0a0a0a0a0a0a0a0a0a0a0a0a0a0a0"}"#,
+    ),
+    (
+        StoreFault::Malformed {
+            file: "index/commit-4",
+            at: 20,
+        },
+        r#"{"at":20,"fault":"malformed","file":"index/commit-4"}"#,
+    ),
+    (
+        StoreFault::Uncovered { needs: 3, has: 1 },
+        r#"{"fault":"uncovered","has":1,"needs":3}"#,
+    ),
+    (
+        StoreFault::NumbersSpent {
+            number: 9_223_372_036_854_775_808,
+        },
+        r#"{"fault":"numbers_spent","number":9223372036854775808}"#,
+    ),
+    (
+        StoreFault::OtherConfig { dim: "Author" },
+        r#"{"dim":"Author","fault":"other_config"}"#,
+    ),
+];
+
+fn store_faults() -> &'static [(StoreFault<'static>, &'static str)] {
+    &STORE_FAULTS
+}
+
+// Whether this is the line of a fault of a store.
+fn is_told(alloc: Global, fault: StoreFault<'static>, expected: &str) -> Result<bool, Fail> {
+    let mut out = Vec::new(alloc);
+    write_store_fault(alloc, &mut out, fault)?;
+    let mut line = String::from_str(alloc, expected)?;
+    line.push('\n')?;
+    Ok(out.as_slice() == line.as_str().as_bytes())
+}
+
+// Whether these are the lines of faults of scripts.
+fn are_told(alloc: Global) -> Result<bool, Fail> {
+    let mut out = Vec::new(alloc);
+    write_fault(alloc, &mut out, ScriptFault::NotJson { line: 7 })?;
+    write_fault(alloc, &mut out, ScriptFault::BadShape { line: 1 })?;
+    write_fault(
+        alloc,
+        &mut out,
+        ScriptFault::BadSession { line: 67_108_864 },
+    )?;
+    write_fault(alloc, &mut out, ScriptFault::NoConfigFirst)?;
+    write_fault(alloc, &mut out, ScriptFault::NoMemory)?;
+    let expected =
+        b"{\"fault\":\"not_json\",\"line\":7}\n{\"fault\":\"bad_shape\",\"line\":1}\n{\"fault\":\"bad_session\",\"line\":67108864}\n{\"fault\":\"no_config_first\"}\n{\"fault\":\"no_memory\"}\n";
+    Ok(out.as_slice() == expected.as_slice())
+}
+
+#[test]
+fn lines_of_faults(rt: HostRuntime) -> Result<(), Fail> {
+    assert!(rt; are_told(rt.alloc())?);
+    for (fault, expected) in store_faults() {
+        assert!(rt; is_told(rt.alloc(), *fault, *expected)?, "{expected}");
+    }
+    Ok(())
+}

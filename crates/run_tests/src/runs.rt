@@ -1,0 +1,152 @@
+//! Runs over disks, for the tests.
+ghost use Rattle.std.specs.Prelude.{◌≤◌};
+
+use commit_store::{Committer, Opened};
+use facet_config::FacetsConfig;
+use facet_disk::{Dir, Disk, MemoryDisk};
+use facet_io::{MemorySink, MemorySource};
+use facet_shell::{Ended, Status, run};
+use std::alloc::Global;
+use std::test::Fail;
+use taxo_list::Labelled;
+
+pub const CONFIG: &[u8] = b"{\"cmd\":\"config\"}\n";
+
+pub const BOB: &[u8] =
+    b"{\"s\":1,\"cmd\":\"add\",\"id\":\"b1\",\"facets\":[[\"Author\",\"Bob\"]]}\n";
+
+pub const LISA: &[u8] =
+    b"{\"s\":1,\"cmd\":\"add\",\"id\":\"b2\",\"facets\":[[\"Author\",\"Lisa\"]]}\n";
+
+pub const COMMIT: &[u8] = b"{\"s\":1,\"cmd\":\"commit\"}\n";
+
+pub const REFRESH: &[u8] = b"{\"s\":1,\"cmd\":\"refresh\"}\n";
+
+pub const STATS: &[u8] = b"{\"s\":1,\"cmd\":\"stats\"}\n";
+
+/// A script of these pieces, behind one another.
+pub fn joined(alloc: Global, pieces: &[&[u8]]) -> Result<Vec<u8>, Fail> {
+    let mut bytes = Vec::new(alloc);
+    for piece in pieces {
+        bytes.extend_from_slice(*piece)?;
+    }
+    Ok(bytes)
+}
+
+pub fn empty_disk(alloc: Global) -> MemoryDisk {
+    MemoryDisk::new(alloc, Vec::new(alloc))
+}
+
+// A run with one word.
+fn run_between<D: Disk>(
+    rt: &HostRuntime,
+    mut source: MemorySource,
+    mut sink: MemorySink,
+    disk: D,
+) -> Result<(Ended<D>, MemorySink), Fail> {
+    let words = vec![in rt.alloc(); String::from_str(rt.alloc(), "store")?]?;
+    let ended = run(rt, &words, &mut source, &mut sink, disk);
+    Ok((ended, sink))
+}
+
+/// How a run over an empty disk ends, and what it writes; the reads and writes with these numbers fail.
+pub fn run_on(
+    rt: &HostRuntime,
+    script: &[u8],
+    piece: usize,
+    reads: &[u64],
+    writes: &[u64],
+) -> Result<(Status, MemorySink), Fail>
+    requires { 1 ≤ piece }
+{
+    let alloc = rt.alloc();
+    let script = Vec::from_slice(alloc, script)?;
+    let source = MemorySource::new(script, piece, Vec::from_slice(alloc, reads)?);
+    let sink = MemorySink::new(alloc, Vec::from_slice(alloc, writes)?);
+    let (ended, sink) = run_between(rt, source, sink, empty_disk(alloc))?;
+    Ok((ended.status, sink))
+}
+
+/// A run over a disk; the writes with these numbers fail.
+pub fn run_over<D: Disk>(
+    rt: &HostRuntime,
+    script: &[u8],
+    writes: &[u64],
+    disk: D,
+) -> Result<(Ended<D>, MemorySink), Fail> {
+    let alloc = rt.alloc();
+    let script = Vec::from_slice(alloc, script)?;
+    let source = MemorySource::new(script, 4096, Vec::new(alloc));
+    let sink = MemorySink::new(alloc, Vec::from_slice(alloc, writes)?);
+    run_between(rt, source, sink, disk)
+}
+
+/// Whether a run over an empty disk ends and writes so; the reads and writes with these numbers fail.
+pub fn ends_on(
+    rt: &HostRuntime,
+    script: &[u8],
+    piece: usize,
+    faults: (&[u64], &[u64]),
+    status: Status,
+    output: &[u8],
+) -> Result<bool, Fail>
+    requires { 1 ≤ piece }
+{
+    let (found, sink) = run_on(rt, script, piece, faults.0, faults.1)?;
+    Ok(found == status && sink.bytes() == output)
+}
+
+/// Whether a run over a disk ends and writes so; the writes with these numbers fail.
+pub fn ends_over<D: Disk>(
+    rt: &HostRuntime,
+    script: &str,
+    writes: &[u64],
+    disk: D,
+    status: Status,
+    output: &str,
+) -> Result<bool, Fail> {
+    let (ended, sink) = run_over(rt, script.as_bytes(), writes, disk)?;
+    Ok(ended.status == status && sink.bytes() == output.as_bytes())
+}
+
+/// What a run of these lines leaves of an empty disk.
+pub fn disk_with(rt: &HostRuntime, lines: &[&[u8]]) -> Result<MemoryDisk, Fail> {
+    let alloc = rt.alloc();
+    let script = joined(alloc, lines)?;
+    let (ended, _) = run_over(rt, &script, &[], empty_disk(alloc))?;
+    Ok(ended.disk)
+}
+
+/// The names of all files of a disk.
+pub fn listing(alloc: Global, disk: &mut MemoryDisk) -> Result<String, Fail> {
+    let mut text = String::new(alloc);
+    for dir in [Dir::Taxonomy, Dir::Index] {
+        let names = disk.list(alloc, dir)?;
+        let mut names = names.into_vec();
+        names.sort()?;
+        for name in &names {
+            write!(text, "{name} ")?;
+        }
+    }
+    Ok(text)
+}
+
+/// How many documents and labels there are.
+pub type Counts = (u32, u32);
+
+/// The counts of a disk with no declared dimension.
+pub fn counts(alloc: Global, disk: MemoryDisk) -> Result<Counts, Fail> {
+    let Ok(opened) = Committer::open(alloc, disk, FacetsConfig::new(alloc)) else {
+        return Err("a disk that is opened".into());
+    };
+    let Opened {
+        labels,
+        segments,
+        ..
+    } = opened;
+    let mut documents = 0u32;
+    for segment in &segments {
+        documents = documents.saturating_add(segment.docs());
+    }
+    Ok((documents, labels.size()))
+}

@@ -1,0 +1,87 @@
+ghost use Rattle.std.specs.Prelude.{◌≡◌, ◌≤◌, ◌×◌, [], List, length, map, IfOk};
+ghost use Rattle.std.specs.Arc.{arc_value};
+ghost use Rattle.facet_model.specs.Documents.{Doc};
+ghost use Rattle.facet_model.specs.Stored.{Decodes};
+ghost use Rattle.seg_decoding.specs.Decoding.{docs_in};
+ghost use Rattle.sideways.specs.Searches.{records_of};
+
+use crate::runs::{BOB, COMMIT, CONFIG, LISA, disk_with};
+use commit_store::{Committer, Opened};
+use facet_config::FacetsConfig;
+use facet_disk::MemoryDisk;
+use facet_model::{Drill, Query};
+use facet_names::Path;
+use seg_file::Segment;
+use sideways::{DrillPlan, SearchAsk};
+use std::alloc::Global;
+use std::sync::Arc;
+use std::test::Fail;
+use taxo_list::{Labelled, TaxoView};
+
+// Opens a disk with no declared dimension.
+fn opened(alloc: Global, disk: MemoryDisk) -> Result<Opened<MemoryDisk>, Fail>
+    ensures decodes { IfOk result (λ o. Decodes o.labels [] (map arc_value o.segments.items) (docs_in o.labels (map arc_value o.segments.items))) }
+    ensures few { IfOk result (λ o. length (docs_in o.labels (map arc_value o.segments.items)) ≤ 1000000) }
+{
+    match Committer::open(alloc, disk, FacetsConfig::new(alloc)) {
+        Ok(opened) => Ok(opened),
+        Err(_) => Err("a disk that is opened".into()),
+    }
+}
+
+// A search for all documents, drilled down to one author.
+fn drilled(alloc: Global, sideways: bool) -> Result<SearchAsk, Fail> {
+    let mut parts = Vec::new(alloc);
+    for part in ["Author", "Bob"] {
+        parts.push(String::from_str(alloc, part)?)?;
+    }
+    let paths = vec![in alloc; Path::new(alloc, &parts)?]?;
+    if paths.len() > 256 {
+        return Err("one path".into());
+    }
+    Ok(SearchAsk {
+        query: Query::All,
+        drill: Drill::new(paths),
+        asks: Vec::new(alloc),
+        hits: 10,
+        sideways,
+    })
+}
+
+// How many documents each author has, by the counts of the answer.
+fn counted(
+    alloc: Global,
+    view: &TaxoView,
+    config: &FacetsConfig,
+    segments: &[Arc<Segment>],
+    sideways: bool,
+) -> Result<(u32, u32), Fail>
+    requires { (docs : List Doc) × Decodes view.now config.now (records_of segments.now) docs × (length docs ≤ 1000000) }
+{
+    let ask = drilled(alloc, sideways)?;
+    let Ok(plan) = DrillPlan::new(alloc, view, config, segments, &ask) else {
+        return Err("a plan".into());
+    };
+    let answer = plan.run()?;
+    if view.size() != 4 {
+        return Err("the root, a dimension and two authors".into());
+    }
+    let counts = answer.counts("Author");
+    Ok((counts.at(2), counts.at(3)))
+}
+
+#[test]
+fn counts_of_an_answer(rt: HostRuntime) -> Result<(), Fail> {
+    let alloc = rt.alloc();
+    let disk = disk_with(&rt, &[CONFIG, BOB, LISA, LISA, COMMIT])?;
+    let Opened {
+        labels,
+        segments,
+        ..
+    } = opened(alloc, disk)?;
+    let view = labels.view()?;
+    let config = FacetsConfig::new(alloc);
+    assert!(rt; counted(alloc, &view, &config, &segments, true)? == (1, 2));
+    assert!(rt; counted(alloc, &view, &config, &segments, false)? == (1, 0));
+    Ok(())
+}

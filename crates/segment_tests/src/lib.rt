@@ -1,0 +1,17 @@
+//! Tests of stored segments, the places of their terms, and the searches over them: what no run of the program shows.
+#![tactic(auto)]
+
+#[cfg(test)]
+mod codec;
+#[cfg(test)]
+mod making;
+#[cfg(test)]
+mod places;
+#[cfg(test)]
+mod plans;
+#[cfg(test)]
+mod searches;
+#[cfg(test)]
+mod segments;
+#[cfg(test)]
+mod terms;

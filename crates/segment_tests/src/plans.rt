@@ -1,0 +1,106 @@
+ghost use Rattle.std.specs.Prelude.{◌<◌, length, IfOk};
+
+use crate::making::{all, spelled};
+use plan_places::{PlanNode, PlanPlaces};
+use seg_postings::{Places, Postings};
+use std::alloc::{AllocFailed, Global};
+use std::test::Fail;
+
+// All places of the node.
+fn walked(alloc: Global, node: PlanNode<'_>) -> Result<Vec<u32>, AllocFailed<u32>> {
+    all(alloc, PlanPlaces::new(node))
+}
+
+// Two nodes.
+fn pair<'a>(
+    alloc: Global,
+    left: PlanNode<'a>,
+    right: PlanNode<'a>,
+) -> Result<Vec<PlanNode<'a>>, AllocFailed<PlanNode<'a>>>
+    ensures { IfOk result (λ pair. 0 < length pair.items) }
+{
+    let mut pair = Vec::new(alloc);
+    pair.push(left)?;
+    pair.push(right)?;
+    Ok(pair)
+}
+
+// The union, the intersection and the difference.
+fn sets<'a>(
+    alloc: Global,
+    left: &Postings<'a>,
+    right: &Postings<'a>,
+) -> Result<[Vec<u32>; 3], Fail> {
+    let nodes = pair(alloc, PlanNode::list(left), PlanNode::list(right))?;
+    let any = walked(alloc, PlanNode::any(nodes))?;
+    let nodes = pair(alloc, PlanNode::list(left), PlanNode::list(right))?;
+    let all = walked(alloc, PlanNode::all(alloc, nodes, Vec::new(alloc))?)?;
+    let nodes = pair(alloc, PlanNode::list(right), PlanNode::below(1))?;
+    let without = walked(
+        alloc,
+        PlanNode::without(alloc, PlanNode::list(left), nodes)?,
+    )?;
+    Ok([any, all, without])
+}
+
+#[test]
+fn set_operations(rt: HostRuntime) -> Result<(), Fail> {
+    let alloc = rt.alloc();
+    // left, right, their union and intersection, and the left without the right and without 0
+    let rows: [[&[u32]; 5]; 5] = [
+        [&[], &[], &[], &[], &[]],
+        [&[0, 2], &[2], &[0, 2], &[2], &[]],
+        [&[7], &[], &[7], &[], &[7]],
+        [
+            &[1, 3, 5, 9],
+            &[3, 4, 9, 12],
+            &[1, 3, 4, 5, 9, 12],
+            &[3, 9],
+            &[1, 5],
+        ],
+        [
+            &[5, 4294967295],
+            &[4294967295],
+            &[5, 4294967295],
+            &[4294967295],
+            &[5],
+        ],
+    ];
+    for [left, right, union, both, lacking] in rows {
+        let left = spelled(alloc, left)?;
+        let right = spelled(alloc, right)?;
+        let got = sets(alloc, &Postings::new(&left), &Postings::new(&right))?;
+        assert!(rt; got[0].as_slice() == union);
+        assert!(rt; got[1].as_slice() == both);
+        assert!(rt; got[2].as_slice() == lacking);
+    }
+    Ok(())
+}
+
+// The places of the one node within so many levels of intersections.
+fn nested<'a>(alloc: Global, node: PlanNode<'a>, levels: u32) -> Result<PlanNode<'a>, Fail> {
+    let mut node = node;
+    for _ in 0..levels {
+        let nodes = pair(alloc, node, PlanNode::below(8))?;
+        node = PlanNode::all(alloc, nodes, Vec::new(alloc))?;
+    }
+    Ok(node)
+}
+
+#[test]
+fn seeks_in_nested_nodes(rt: HostRuntime) -> Result<(), Fail> {
+    let alloc = rt.alloc();
+    let bytes = spelled(alloc, &[1, 3, 4, 7, 9])?;
+    let postings = Postings::new(&bytes);
+    let mut places = PlanPlaces::new(nested(alloc, PlanNode::list(&postings), 32)?);
+    assert_eq!(rt; places.next(), Some(1));
+    // each place that is asked for, and whether it is left
+    let rows = [(1, false), (2, false), (3, true), (3, true), (5, false)];
+    for (place, want) in rows {
+        assert_eq!(rt; places.has(place), want);
+    }
+    assert_eq!(rt; places.seek(4), Some(7));
+    assert_eq!(rt; places.seek(8), None);
+    assert!(rt; !places.has(9));
+    Ok(())
+}

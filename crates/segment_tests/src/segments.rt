@@ -1,0 +1,173 @@
+use crate::making::entry;
+use seg_file::{Ords, SegFault, Segment};
+use seg_postings::{Places, Postings};
+use std::alloc::{AllocError, AllocFailed, Global};
+use std::test::Fail;
+
+// One document with the id `b1`, the text `Rust` and the label Author/Bob, whose ordinal is 2. Its terms begin at bytes 34, 50 and 70.
+const ONE: [u8; 84] = [
+    0x46, 0x53, 0x45, 0x47, 0, 0, 0, 1, 0, 0, 0, 1, 2, 0x62, 0x31, 4, 0x52, 0x75, 0x73, 0x74, 1, 0,
+    0, 0, 2, 1, 0, 0, 0, 2, 0, 0, 0, 3, 7, 0x66, 0x41, 0x75, 0x74, 0x68, 0x6f, 0x72, 0, 0, 0, 1, 0,
+    0, 0, 0, 0x0b, 0x66, 0x41, 0x75, 0x74, 0x68, 0x6f, 0x72, 0x1f, 0x42, 0x6f, 0x62, 0, 0, 0, 1, 0,
+    0, 0, 0, 5, 0x77, 0x72, 0x75, 0x73, 0x74, 0, 0, 0, 1, 0, 0, 0, 0,
+];
+
+// The bytes of ONE with those from one place up to another exchanged for others.
+fn spliced(alloc: Global, from: usize, middle: &[u8], to: usize) -> Result<Vec<u8>, AllocError> {
+    let front = ONE.iter().take(from);
+    let back = ONE.iter().skip(to);
+    front
+        .chain(middle.iter())
+        .chain(back)
+        .copied()
+        .collect(alloc)
+}
+
+fn fault_of(alloc: Global, bytes: Vec<u8>) -> Option<SegFault> {
+    match Segment::open(alloc, bytes) {
+        Ok(_) => None,
+        Err(fault) => Some(fault),
+    }
+}
+
+fn ordinals(alloc: Global, mut ords: Ords<'_>) -> Result<Vec<u32>, AllocFailed<u32>> {
+    let mut all = Vec::new(alloc);
+    while let Some(ord) = ords.next() {
+        all.push(ord)?;
+    }
+    Ok(all)
+}
+
+fn first_place(postings: Option<Postings<'_>>) -> Option<(usize, Option<u32>)> {
+    let postings = postings?;
+    Some((postings.len(), postings.cursor().next()))
+}
+
+fn may_be_shared<T: Send + Sync>(_value: &T) -> bool {
+    true
+}
+
+// The segment of the first of these documents, or of both.
+fn built(alloc: Global, both: bool) -> Result<Segment, Fail> {
+    let mut entries = Vec::new(alloc);
+    entries.push(entry(alloc, "b1", "Rust", &["Author/Bob"], &[2])?)?;
+    if both {
+        entries.push(entry(alloc, "b2", "", &["Tag/b", "Tag/a"], &[5, 4])?)?;
+    }
+    Ok(Segment::build(alloc, &entries)?)
+}
+
+#[test]
+fn a_built_segment(rt: HostRuntime) -> Result<(), Fail> {
+    let alloc = rt.alloc();
+    assert!(rt; built(alloc, false)?.bytes() == ONE.as_slice());
+    let two = built(alloc, true)?;
+    assert!(rt; two.docs() == 2);
+    assert!(rt; two.id(1) == "b2" && two.text(1) == "");
+    assert!(rt; ordinals(alloc, two.leaves(1))?.as_slice() == [5, 4].as_slice());
+    assert!(rt; first_place(two.postings("fTag")) == Some((1, Some(1))));
+    assert!(rt; two.postings("fTag\u{1f}c").is_none());
+    assert!(rt; fault_of(alloc, two.bytes().to_vec(alloc)?).is_none());
+    Ok(())
+}
+
+// Whether the segment has the one document.
+fn has_one(alloc: Global, segment: &Segment) -> Result<bool, Fail> {
+    if segment.docs() != 1 || segment.bytes() != ONE.as_slice() {
+        return Ok(false);
+    }
+    let leaves = ordinals(alloc, segment.leaves(0))?;
+    let counted = ordinals(alloc, segment.counted(0))?;
+    let ords = leaves.as_slice() == [2].as_slice() && counted.as_slice() == [2].as_slice();
+    Ok(ords && segment.id(0) == "b1" && segment.text(0) == "Rust")
+}
+
+#[test]
+fn an_opened_segment(rt: HostRuntime) -> Result<(), Fail> {
+    let alloc = rt.alloc();
+    let Ok(segment) = Segment::open(alloc, ONE.as_slice().to_vec(alloc)?) else {
+        return Err("a segment".into());
+    };
+    assert!(rt; may_be_shared(&segment) && has_one(alloc, &segment)?);
+    let rows = [
+        ("fAuthor", true),
+        ("fAuthor\u{1f}Bob", true),
+        ("wrust", true),
+        ("", false),
+        ("fAuthor\u{1f}Bo", false),
+        ("rust", false),
+        ("wrust ", false),
+    ];
+    for (term, there) in rows {
+        let want = if there { Some((1, Some(0))) } else { None };
+        assert!(rt; first_place(segment.postings(term)) == want, "{term}");
+    }
+    Ok(())
+}
+
+// The same bytes with the last two terms exchanged, and with the first two exchanged.
+const LAST_TWO: [u8; 34] = [
+    5, 0x77, 0x72, 0x75, 0x73, 0x74, 0, 0, 0, 1, 0, 0, 0, 0, 0x0b, 0x66, 0x41, 0x75, 0x74, 0x68,
+    0x6f, 0x72, 0x1f, 0x42, 0x6f, 0x62, 0, 0, 0, 1, 0, 0, 0, 0,
+];
+
+const FIRST_TWO: [u8; 36] = [
+    0x0b, 0x66, 0x41, 0x75, 0x74, 0x68, 0x6f, 0x72, 0x1f, 0x42, 0x6f, 0x62, 0, 0, 0, 1, 0, 0, 0, 0,
+    7, 0x66, 0x41, 0x75, 0x74, 0x68, 0x6f, 0x72, 0, 0, 0, 1, 0, 0, 0, 0,
+];
+
+#[test]
+fn first_faults(rt: HostRuntime) -> Result<(), Fail> {
+    let alloc = rt.alloc();
+    // what stands between two places in the place of what did, and the fault
+    let rows: [(usize, &[u8], usize, SegFault); 20] = [
+        (0, &[], 84, SegFault::BadMagic),
+        (3, &[0x46], 84, SegFault::BadMagic),
+        (4, &[0, 0, 0], 84, SegFault::Codec { at: 4 }),
+        (7, &[2], 84, SegFault::BadVersion { v: 2 }),
+        (8, &[], 84, SegFault::Codec { at: 8 }),
+        (8, &[0, 0, 0, 0], 12, SegFault::Disorder { at: 8 }),
+        (8, &[0, 15, 66, 65], 12, SegFault::Codec { at: 8 }),
+        (12, &[0], 15, SegFault::Disorder { at: 12 }),
+        (12, &[0x81, 2], 13, SegFault::Codec { at: 12 }),
+        (16, &[0xff], 17, SegFault::Codec { at: 15 }),
+        (20, &[0x81, 0], 21, SegFault::Codec { at: 20 }),
+        (20, &[0x81, 2], 21, SegFault::Codec { at: 20 }),
+        (25, &[0x81, 0x40], 26, SegFault::Codec { at: 25 }),
+        (25, &[2, 0, 0, 0, 2], 26, SegFault::Disorder { at: 30 }),
+        (42, &[0, 0, 0, 0], 46, SegFault::Disorder { at: 42 }),
+        (46, &[0, 0, 0, 1], 50, SegFault::Disorder { at: 46 }),
+        (50, &LAST_TWO, 84, SegFault::Disorder { at: 64 }),
+        (34, &FIRST_TWO, 70, SegFault::Disorder { at: 54 }),
+        (83, &[], 84, SegFault::Codec { at: 80 }),
+        (84, &[0], 84, SegFault::Disorder { at: 84 }),
+    ];
+    for (from, middle, to, fault) in rows {
+        let bytes = spliced(alloc, from, middle, to)?;
+        assert!(rt; fault_of(alloc, bytes) == Some(fault), "{from}");
+    }
+    Ok(())
+}
+
+// Whether the bytes are no segment, or are opened as a segment that has just these bytes, and each time they are opened.
+fn is_consistent(alloc: Global, bytes: Vec<u8>) -> Result<bool, Fail> {
+    let copy = bytes.as_slice().to_vec(alloc)?;
+    let Ok(segment) = Segment::open(alloc, bytes) else {
+        return Ok(true);
+    };
+    Ok(segment.bytes() == copy.as_slice() && fault_of(alloc, copy).is_none())
+}
+
+#[test]
+fn cut_and_changed(rt: HostRuntime) -> Result<(), Fail> {
+    let alloc = rt.alloc();
+    for at in 0..84usize {
+        let cut = spliced(alloc, at, &[], 84)?;
+        assert!(rt; fault_of(alloc, cut).is_some(), "{at}");
+        for byte in 0..=255u8 {
+            let changed = spliced(alloc, at, &[byte], at + 1)?;
+            assert!(rt; is_consistent(alloc, changed)?, "{at} {byte}");
+        }
+    }
+    Ok(())
+}

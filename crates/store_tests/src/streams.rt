@@ -1,0 +1,123 @@
+ghost use Rattle.std.specs.Prelude.{◌≤◌};
+
+use facet_io::{
+    Failed, MemorySink, MemorySource, ReadFault, Sink, Source, StdSink, StdSource, read_to_end,
+    write_all,
+};
+use std::alloc::Global;
+use std::io;
+use std::io::{Read, Write};
+use std::test::Fail;
+
+const TEXT: &[u8] = b"facets and labels";
+
+// Gives three bytes a call, or an error where none are left.
+#[derive(Drop)]
+struct Broken {
+    bytes: &'static [u8],
+}
+
+impl Read for Broken {
+    fn read(&mut self, into: &mut [u8]) -> io::Result<usize> {
+        let count = into.len().min(self.bytes.len()).min(3);
+        if count == 0 {
+            return Err(io::ErrorKind::Other.into());
+        }
+        let (front, back) = self.bytes.split_at(count);
+        into[..count].copy_from_slice(front);
+        self.bytes = back;
+        Ok(count)
+    }
+}
+
+// Takes two bytes a call, and none once it is full.
+#[derive(Drop)]
+struct Small {
+    room: usize,
+}
+
+impl Write for Small {
+    fn write(&mut self, piece: &[u8]) -> io::Result<usize> {
+        let count = piece.len().min(self.room).min(2);
+        self.room -= count;
+        Ok(count)
+    }
+
+    fn flush(&mut self) -> io::Result<()> {
+        Ok(())
+    }
+}
+
+fn source(alloc: Global, piece: usize, failing: &[u64]) -> Result<MemorySource, Fail>
+    requires { 1 ≤ piece }
+{
+    let bytes = Vec::from_slice(alloc, TEXT)?;
+    let failing = Vec::from_slice(alloc, failing)?;
+    Ok(MemorySource::new(bytes, piece, failing))
+}
+
+// The piece, the reads that fail, the limit, and the answer.
+type Reading = (usize, &'static [u64], usize, Result<usize, ReadFault>);
+
+const READINGS: &[Reading] = &[
+    (1, &[], 17, Ok(17)),
+    (5, &[], 17, Ok(17)),
+    (100, &[], 100, Ok(17)),
+    (5, &[], 16, Err(ReadFault::TooLong)),
+    (1, &[], 0, Err(ReadFault::TooLong)),
+    (5, &[1], 17, Err(ReadFault::Failed)),
+    (5, &[9, 5], 17, Err(ReadFault::Failed)),
+    (5, &[6, 0], 17, Ok(17)),
+];
+
+// Whether this is the answer to a reading of the text.
+fn answers<S: Source>(
+    alloc: Global,
+    source: &mut S,
+    limit: usize,
+    want: Result<usize, ReadFault>,
+) -> bool {
+    match read_to_end(alloc, source, limit) {
+        Ok(bytes) => bytes.as_slice() == TEXT && want == Ok(bytes.len()),
+        Err(fault) => want == Err(fault),
+    }
+}
+
+fn is_read(alloc: Global, reading: &Reading) -> Result<bool, Fail> {
+    let (piece, failing, limit, want) = *reading;
+    if piece == 0 {
+        return Ok(false);
+    }
+    let mut source = source(alloc, piece, failing)?;
+    Ok(answers(alloc, &mut source, limit, want))
+}
+
+#[test]
+fn sources(rt: HostRuntime) -> Result<(), Fail> {
+    let alloc = rt.alloc();
+    for reading in READINGS {
+        assert!(rt; is_read(alloc, reading)?, "{reading:?}");
+    }
+    let mut outside = StdSource::new(TEXT);
+    assert!(rt; answers(alloc, &mut outside, 17, Ok(17)));
+    let mut broken = StdSource::new(Broken { bytes: TEXT });
+    assert!(rt; answers(alloc, &mut broken, 17, Err(ReadFault::Failed)));
+    Ok(())
+}
+
+#[test]
+fn sinks(rt: HostRuntime) -> Result<(), Fail> {
+    let alloc = rt.alloc();
+    let mut sink = MemorySink::new(alloc, Vec::from_slice(alloc, &[2u64])?);
+    assert!(rt; write_all(&mut sink, TEXT) == Ok(()));
+    assert!(rt; write_all(&mut sink, TEXT) == Err(Failed));
+    assert!(rt; write_all(&mut sink, b"!") == Ok(()));
+    assert!(rt; sink.bytes() == b"facets and labels!".as_slice());
+
+    let mut outside = StdSink::new(Vec::new(alloc));
+    assert!(rt; write_all(&mut outside, TEXT) == Ok(()));
+    let mut small = StdSink::new(Small { room: 5 });
+    assert!(rt; small.write(TEXT) == Ok(2));
+    assert!(rt; write_all(&mut small, TEXT) == Err(Failed));
+    Ok(())
+}
