@@ -7,8 +7,6 @@ mod chronicle;
 mod knowledge;
 mod rule;
 mod standing;
-#[cfg(test)]
-mod tests;
 mod token;
 
 pub use chronicle::Chronicle;

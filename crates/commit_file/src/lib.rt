@@ -11,8 +11,6 @@ mod kept;
 pub mod laws;
 mod reading;
 mod taxonomy;
-#[cfg(test)]
-mod tests;
 mod writing;
 
 pub use digest::{check_digest, digest_of};

@@ -18,6 +18,3 @@ pub use committer::Committer;
 pub use fault::CommitFault;
 pub use opening::{NotOpened, Opened};
 pub use state::CommitState;
-
-#[cfg(test)]
-mod tests;

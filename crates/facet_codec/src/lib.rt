@@ -7,8 +7,6 @@
 mod cursor;
 mod fault;
 pub mod laws;
-#[cfg(test)]
-mod tests;
 mod vint;
 mod writing;
 

@@ -7,8 +7,6 @@ mod differing;
 mod expanding;
 mod fault;
 mod laws;
-#[cfg(test)]
-mod tests;
 
 pub use config::FacetsConfig;
 pub use fault::{DeclareFault, DocFault};

@@ -7,8 +7,6 @@ mod laws;
 mod machine;
 mod parts;
 mod steps;
-#[cfg(test)]
-mod tests;
 
 pub use event::Event;
 pub use laws::{

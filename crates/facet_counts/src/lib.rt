@@ -11,8 +11,6 @@ mod dims;
 mod laws;
 mod links;
 mod rolled;
-#[cfg(test)]
-mod tests;
 
 pub use ask::{AskFault, check_ask};
 pub use counter::Counter;

@@ -14,6 +14,3 @@ pub use memory::{MemorySink, MemorySource};
 pub use sink::{Sink, write_all};
 pub use source::{ReadFault, Source, read_to_end};
 pub use standard::{StdSink, StdSource};
-
-#[cfg(test)]
-mod tests;

@@ -10,8 +10,6 @@ mod laws;
 mod plain;
 mod query;
 mod result;
-#[cfg(test)]
-mod tests;
 mod word;
 mod word_list;
 

@@ -5,8 +5,6 @@ mod fault;
 mod laws;
 mod path;
 mod term;
-#[cfg(test)]
-mod tests;
 
 pub use fault::{NoMemory, PathFault};
 pub use laws::{one_term_text, term_text_is_short};

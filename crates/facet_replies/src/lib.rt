@@ -6,8 +6,6 @@ mod fault;
 mod refusing;
 mod reply;
 mod store_fault;
-#[cfg(test)]
-mod tests;
 mod values;
 mod writing;
 

@@ -16,16 +16,3 @@ mod telling;
 
 pub use program::{place, run};
 pub use status::{Ended, Status};
-
-#[cfg(test)]
-mod folder_tests;
-#[cfg(test)]
-mod opening_tests;
-#[cfg(test)]
-mod rows;
-#[cfg(test)]
-mod store_tests;
-#[cfg(test)]
-mod test_runs;
-#[cfg(test)]
-mod tests;

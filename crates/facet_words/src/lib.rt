@@ -4,16 +4,12 @@
 mod asking;
 mod command;
 mod laws;
-#[cfg(test)]
-mod limit_tests;
 mod lines;
 mod order;
 mod query;
 mod script;
 mod settings;
 mod shape;
-#[cfg(test)]
-mod tests;
 
 pub use command::{Command, Order, Script, Settings};
 pub use facet_model::FacetAnswer;

@@ -9,8 +9,6 @@
 mod fault;
 pub mod laws;
 mod reading;
-#[cfg(test)]
-mod tests;
 mod writing;
 
 pub use fault::LabelsFault;

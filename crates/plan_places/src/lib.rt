@@ -6,8 +6,6 @@ mod leaf;
 mod node;
 mod places;
 mod range;
-#[cfg(test)]
-mod tests;
 mod union;
 
 pub use node::PlanNode;

@@ -6,8 +6,6 @@ mod plan;
 mod query;
 mod sets;
 mod terms;
-#[cfg(test)]
-mod tests;
 
 pub use drill::{has_path, paths_node};
 pub use plan::Plan;

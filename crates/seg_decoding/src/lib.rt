@@ -9,8 +9,6 @@ pub mod laws;
 mod opening;
 mod resolving;
 mod sizes;
-#[cfg(test)]
-mod tests;
 
 pub use entries::{document_of, ordinals_of};
 pub use fault::StoredFault;

@@ -3,8 +3,6 @@
 
 mod fronts;
 mod segment;
-#[cfg(test)]
-mod tests;
 
 pub use seg_grammar::SegFault;
 pub use seg_postings::Ords;

@@ -7,8 +7,6 @@ mod ords;
 mod places;
 mod postings;
 mod search;
-#[cfg(test)]
-mod tests;
 
 pub use ords::Ords;
 pub use places::{Places, least};

@@ -6,8 +6,6 @@ mod entry;
 mod laws;
 mod table;
 mod term_places;
-#[cfg(test)]
-mod tests;
 
 pub use entry::Entry;
 pub use laws::{terms_are_found, terms_rise};

@@ -3,8 +3,6 @@
 
 mod records;
 mod terms;
-#[cfg(test)]
-mod tests;
 mod writing;
 
 pub use writing::{Written, write_segment};

@@ -71,3 +71,9 @@ pub fn all<P: Places + Drop>(alloc: Global, mut places: P) -> Result<Vec<u32>, A
     }
     Ok(all)
 }
+
+/// What a seek answers, and the place after it.
+pub fn sought<P: Places + Drop>(mut places: P, place: u32) -> (Option<u32>, Option<u32>) {
+    let first = places.seek(place);
+    (first, places.next())
+}

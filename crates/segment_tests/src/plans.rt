@@ -1,6 +1,6 @@
 ghost use Rattle.std.specs.Prelude.{◌<◌, length, IfOk};
 
-use crate::making::{all, spelled};
+use crate::making::{all, sought, spelled};
 use plan_places::{PlanNode, PlanPlaces};
 use seg_postings::{Places, Postings};
 use std::alloc::{AllocFailed, Global};
@@ -47,8 +47,17 @@ fn sets<'a>(
 fn set_operations(rt: HostRuntime) -> Result<(), Fail> {
     let alloc = rt.alloc();
     // left, right, their union and intersection, and the left without the right and without 0
-    let rows: [[&[u32]; 5]; 5] = [
+    let rows: [[&[u32]; 5]; 8] = [
         [&[], &[], &[], &[], &[]],
+        [&[], &[2], &[2], &[], &[]],
+        [&[1, 2], &[1, 2], &[1, 2], &[1, 2], &[]],
+        [
+            &[0, 4294967295],
+            &[4294967295],
+            &[0, 4294967295],
+            &[4294967295],
+            &[],
+        ],
         [&[0, 2], &[2], &[0, 2], &[2], &[]],
         [&[7], &[], &[7], &[], &[7]],
         [
@@ -73,6 +82,51 @@ fn set_operations(rt: HostRuntime) -> Result<(), Fail> {
         assert!(rt; got[0].as_slice() == union);
         assert!(rt; got[1].as_slice() == both);
         assert!(rt; got[2].as_slice() == lacking);
+    }
+    Ok(())
+}
+
+// What is found in the union, the intersection and the difference from a place on.
+fn found<'a>(
+    alloc: Global,
+    left: &Postings<'a>,
+    right: &Postings<'a>,
+    place: u32,
+) -> Result<[(Option<u32>, Option<u32>); 3], Fail> {
+    let nodes = pair(alloc, PlanNode::list(left), PlanNode::list(right))?;
+    let any = sought(PlanPlaces::new(PlanNode::any(nodes)), place);
+    let nodes = pair(alloc, PlanNode::list(left), PlanNode::list(right))?;
+    let all = PlanNode::all(alloc, nodes, Vec::new(alloc))?;
+    let all = sought(PlanPlaces::new(all), place);
+    let nodes = vec![in alloc; PlanNode::list(right)]?;
+    let without = PlanNode::without(alloc, PlanNode::list(left), nodes)?;
+    let without = sought(PlanPlaces::new(without), place);
+    Ok([any, all, without])
+}
+
+#[test]
+fn seeks_in_sets(rt: HostRuntime) -> Result<(), Fail> {
+    let alloc = rt.alloc();
+    let left = spelled(alloc, &[1, 3, 5, 9])?;
+    let right = spelled(alloc, &[3, 4, 9, 12])?;
+    let left = Postings::new(&left);
+    let right = Postings::new(&right);
+    let rows = [
+        (
+            0,
+            [
+                (Some(1), Some(3)),
+                (Some(3), Some(9)),
+                (Some(1), Some(5)),
+            ],
+        ),
+        (4, [(Some(4), Some(5)), (Some(9), None), (Some(5), None)]),
+        (9, [(Some(9), Some(12)), (Some(9), None), (None, None)]),
+        (13, [(None, None), (None, None), (None, None)]),
+    ];
+    for (place, want) in rows {
+        let got = found(alloc, &left, &right, place)?;
+        assert!(rt; got == want, "{place}");
     }
     Ok(())
 }

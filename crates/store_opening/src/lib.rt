@@ -9,8 +9,6 @@ mod numbers;
 mod opening;
 mod reading;
 mod taxonomy;
-#[cfg(test)]
-mod tests;
 
 pub use fault::OpenFault;
 pub use newest::Newest;

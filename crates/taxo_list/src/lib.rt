@@ -7,8 +7,6 @@ mod fault;
 mod labelled;
 mod stored;
 mod taxonomy;
-#[cfg(test)]
-mod tests;
 mod view;
 
 pub use arrays::Arrays;

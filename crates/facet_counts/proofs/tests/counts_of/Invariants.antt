@@ -1,5 +1,0 @@
-use Rattle.std.proofs.Common.{◌≡◌}
-use Rattle.facet_counts.proofs.tests.counts_of.Given as goal
-
-abbrev pub invariant-loop-list : goal.invariant-loop-list
-invariant-loop-list g l = (l.counter.labels ≡ l.view) × (l.counter.config ≡ l.config) × (l.counter.added ≡ l.list-index)

@@ -1,6 +1,0 @@
-use Rattle.std.proofs.Common.{take}
-use Rattle.seg_postings.specs.Bytes.{AreNumbers}
-use Rattle.facet_counts.proofs.tests.spelled.Given as goal
-
-abbrev pub invariant-loop-ord : goal.invariant-loop-ord
-invariant-loop-ord l = AreNumbers l.out.items (take l.ord-index l.ords)

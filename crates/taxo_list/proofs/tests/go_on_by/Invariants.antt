@@ -1,6 +1,0 @@
-use Rattle.std.proofs.Common.{◌≡◌}
-use Rattle.taxo_list.specs.ArrayLists.{arrays_of}
-use Rattle.taxo_list.proofs.tests.go_on_by.Given as goal
-
-abbrev pub invariant-loop-part : goal.invariant-loop-part
-invariant-loop-part g l = l.arrays ≡ arrays_of l.list

@@ -1,0 +1,121 @@
+ghost use Rattle.std.specs.Prelude.{◌≡◌, ◌<◌, ◌^◌, [], ◌∷◌, ◌++◌, false, IfOk, OnOk};
+ghost use Rattle.chronicle.specs.History.{entries};
+ghost use Rattle.chronicle.specs.Shown.{mine, MayTake};
+
+use chronicle::{Chronicle, Standing, Token};
+use std::alloc::{AllocError, Global};
+use std::process::Abort;
+use std::sync::Wait;
+use std::test::Fail;
+use std::thread::{Threads, join};
+
+// A list of numbers, which stands for the numbers that were entered.
+#[derive(Drop)]
+struct Log {
+    items: Vec<u64>,
+}
+
+impl Standing for Log {
+    ghost use Rattle.std.specs.Prelude.{◌≡◌, []};
+    ghost use Rattle.chronicle.specs.Frame.{empty_frame};
+
+    type Entry = u64;
+
+    ghost stands = { λ v es. v.items.items ≡ es };
+
+    ghost opening = { λ v. v.items.items };
+
+    ghost frame = { λ _. empty_frame };
+}
+
+fn enter_one<R: Wait>(
+    rt: &R,
+    log: &Chronicle<Log>,
+    token: &mut Token<u64>,
+    number: u64,
+) -> Result<(), AllocError>
+    requires { (token.old.identity ≡ log.now) × MayTake token.old }
+    ensures rests { (token.new.identity ≡ log.now) × MayTake token.new }
+    ensures mine { OnOk result (entries (mine token.new) ≡ entries (mine token.old) ++ number ∷ []) }
+{
+    let mut value = log.take(rt, token);
+    match value.items.push(number) {
+        Ok(()) => {
+            log.enter(token, number);
+            log.give(token, value);
+            Ok(())
+        }
+        Err(_) => {
+            log.give(token, value);
+            Err(AllocError)
+        }
+    }
+}
+
+// Each number in a turn of its own. The token's own entries are then just these, in order.
+fn enter_all<R: Wait>(
+    rt: &R,
+    log: &Chronicle<Log>,
+    mut token: Token<u64>,
+    numbers: &[u64],
+) -> Result<Token<u64>, AllocError>
+    requires { (token.identity ≡ log.now) × MayTake token × (mine token ≡ []) }
+    ensures { IfOk result (λ t. (t.identity ≡ log.now) × MayTake t × (entries (mine t) ≡ numbers.now)) }
+{
+    for &number in numbers {
+        enter_one(rt, log, &mut token, number)?;
+    }
+    Ok(token)
+}
+
+fn numbers_from(alloc: Global, start: u64) -> Result<Vec<u64>, AllocError>
+    requires { start < 2 ^ 32 }
+{
+    let mut numbers = Vec::new(alloc);
+    for i in 0..100u64 {
+        numbers.push(start + i)?;
+    }
+    Ok(numbers)
+}
+
+fn two_threads<R: Threads + Wait + Abort + Sync>(rt: &R, alloc: Global) -> Result<(), Fail> {
+    let Ok((log, mut first)) = Chronicle::open(
+        alloc,
+        Log {
+            items: Vec::new(alloc),
+        },
+    ) else {
+        return Err("open".into());
+    };
+    let one = log.token(&mut first);
+    let two = log.token(&mut first);
+    assert!(rt; first.number() == 0 && one.number() == 1 && two.number() == 2);
+    let low = numbers_from(alloc, 0)?;
+    let high = numbers_from(alloc, 1000)?;
+    let (one, two) = join(
+        rt,
+        || -> Result<Token<u64>, AllocError>
+            requires { (one.identity ≡ log) × MayTake one × (mine one ≡ []) }
+            ensures { IfOk result (λ t. (t.identity ≡ log) × MayTake t × (entries (mine t) ≡ low.items)) }
+        { enter_all(rt, &log, one, &low) },
+        || -> Result<Token<u64>, AllocError>
+            requires { (two.identity ≡ log) × MayTake two × (mine two ≡ []) }
+            ensures { IfOk result (λ t. (t.identity ≡ log) × MayTake t × (entries (mine t) ≡ high.items)) }
+        { enter_all(rt, &log, two, &high) },
+    );
+    log.meet(&mut first, one?);
+    log.meet(&mut first, two?);
+    let value = log.end(rt, &mut first);
+    let _note = log.note(&mut first);
+    assert!(rt; value.items.len() == 200);
+    let mut lows = value.items.iter().filter(|&&n| n < 1000);
+    assert!(rt; low.iter().all(|n| lows.next() == Some(n)));
+    let mut highs = value.items.iter().filter(|&&n| n >= 1000);
+    assert!(rt; high.iter().all(|n| highs.next() == Some(n)));
+    Ok(())
+}
+
+#[test]
+fn two_threads_enter_a_hundred_each(rt: HostRuntime) -> Result<(), Fail> {
+    two_threads(&rt, rt.alloc())
+}
