@@ -91,23 +91,6 @@ fn shape_of(alloc: Global, id: usize, text: usize) -> Result<Option<DocShape>, F
     Ok(Document::new(alloc, id.as_str(), text.as_str(), Vec::new(alloc)).err())
 }
 
-#[test]
-fn shapes_of_documents(rt: HostRuntime) -> Result<(), Fail> {
-    let alloc = rt.alloc();
-    assert!(rt; is_copied(alloc)?);
-    let rows = [
-        (0usize, 65537usize, DocShape::BadId { len: 0 }),
-        (257, 0, DocShape::BadId { len: 257 }),
-        (2, 65537, DocShape::TextTooLong { len: 65537 }),
-    ];
-    for (id, text, expected) in rows {
-        assert!(rt; shape_of(alloc, id, text)? == Some(expected));
-    }
-    let long = "x".repeat(alloc, 65537)?;
-    assert!(rt; Word::new(alloc, "")? == None && Word::new(alloc, long.as_str())? == None);
-    Ok(())
-}
-
 fn has_words(alloc: Global, text: &str, expected: &[&str]) -> Result<bool, Fail> {
     let list = words(alloc, text)?;
     for (at, word) in expected.iter().enumerate() {
@@ -140,9 +123,24 @@ fn drill_is_copied(alloc: Global) -> Result<bool, Fail> {
     Ok(copy.paths().len() == 2 && copy.paths() == drill.paths())
 }
 
+const SHAPES: &[(usize, usize, DocShape)] = &[
+    (0, 65537, DocShape::BadId { len: 0 }),
+    (257, 0, DocShape::BadId { len: 257 }),
+    (2, 65537, DocShape::TextTooLong { len: 65537 }),
+];
+
+fn are_no_words(alloc: Global) -> Result<bool, Fail> {
+    let long = "x".repeat(alloc, 65537)?;
+    Ok(Word::new(alloc, "")? == None && Word::new(alloc, long.as_str())? == None)
+}
+
 #[test]
-fn words_queries_and_drills(rt: HostRuntime) -> Result<(), Fail> {
+fn shapes_and_copies(rt: HostRuntime) -> Result<(), Fail> {
     let alloc = rt.alloc();
+    for (id, text, expected) in SHAPES {
+        assert!(rt; shape_of(alloc, *id, *text)? == Some(*expected));
+    }
+    assert!(rt; is_copied(alloc)? && are_no_words(alloc)?);
     let expected = &["Ä", "rust", "in\u{b}rust"];
     assert!(rt; has_words(alloc, "\tÄ  Rust\r\nin\u{b}RUST\n", expected)?);
     assert!(rt; has_words(alloc, " \t", &[])?);

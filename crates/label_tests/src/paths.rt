@@ -11,27 +11,24 @@ fn fault(alloc: Global, parts: &[&str]) -> Option<PathFault> {
     }
 }
 
-#[test]
-fn refused_paths(rt: HostRuntime) -> Result<(), Fail> {
-    let alloc = rt.alloc();
-    let longest = "x".repeat(alloc, 1024)?;
-    let too_long = "é".repeat(alloc, 513)?;
-    let rows: [(&[&str], Option<PathFault>); 6] = [
-        (&[], Some(PathFault::NoPart)),
-        (&["A", longest.as_str()], None),
-        (&["A", ""], Some(PathFault::EmptyPart { at: 1 })),
-        (
-            &["A", "b", too_long.as_str(), ""],
-            Some(PathFault::PartTooLong { at: 2, len: 1026 }),
-        ),
-        (&["A"; 32], None),
-        (&[""; 33], Some(PathFault::TooManyParts { len: 33 })),
-    ];
-    for (parts, expected) in rows {
-        assert_eq!(rt; fault(alloc, parts), expected);
-    }
-    Ok(())
+// Whether a component of so many letters é is refused at its place, before an empty one behind it.
+fn is_too_long(alloc: Global) -> Result<bool, Fail> {
+    let long = "é".repeat(alloc, 513)?;
+    let found = fault(alloc, &["A", "b", long.as_str(), ""]);
+    Ok(found == Some(PathFault::PartTooLong { at: 2, len: 1026 }))
 }
+
+fn longest_is_taken(alloc: Global) -> Result<bool, Fail> {
+    let longest = "x".repeat(alloc, 1024)?;
+    Ok(fault(alloc, &["A", longest.as_str()]) == None)
+}
+
+const REFUSED: &[(&[&str], Option<PathFault>)] = &[
+    (&[], Some(PathFault::NoPart)),
+    (&["A", ""], Some(PathFault::EmptyPart { at: 1 })),
+    (&["A"; 32], None),
+    (&[""; 33], Some(PathFault::TooManyParts { len: 33 })),
+];
 
 // Whether the parts and the parent of a date are what they should be.
 fn is_taken_apart(alloc: Global) -> Result<bool, Fail> {
@@ -51,20 +48,25 @@ fn is_under(alloc: Global, parts: &[&str], above: &[&str]) -> Result<bool, Fail>
     Ok(path.is_under(&above))
 }
 
+const DATE: &[&str] = &["Date", "2010", "10"];
+
+const FAMILIES: &[(&[&str], &[&str], bool)] = &[
+    (DATE, DATE, true),
+    (DATE, &["Date"], true),
+    (&["Date"], DATE, false),
+    (DATE, &["Date", "20"], false),
+];
+
 #[test]
-fn families(rt: HostRuntime) -> Result<(), Fail> {
+fn refused_paths_and_families(rt: HostRuntime) -> Result<(), Fail> {
     let alloc = rt.alloc();
-    assert!(rt; is_taken_apart(alloc)?);
-    let date: &[&str] = &["Date", "2010", "10"];
-    let rows: [(&[&str], &[&str], bool); 4] = [
-        (date, date, true),
-        (date, &["Date"], true),
-        (&["Date"], date, false),
-        (date, &["Date", "20"], false),
-    ];
-    for (parts, above, expected) in rows {
-        assert!(rt; is_under(alloc, parts, above)? == expected);
+    for (parts, expected) in REFUSED {
+        assert!(rt; fault(alloc, *parts) == *expected, "{expected:?}");
     }
+    for (parts, above, expected) in FAMILIES {
+        assert!(rt; is_under(alloc, *parts, *above)? == *expected);
+    }
+    assert!(rt; is_too_long(alloc)? && longest_is_taken(alloc)? && is_taken_apart(alloc)?);
     Ok(())
 }
 

@@ -144,18 +144,15 @@ const FAILED_OUTPUT: &[u8] =
 {\"count\":1,\"line\":5,\"refused\":\"disk\",\"s\":1}\n{\"count\":1,\"line\":6,\"refused\":\"closed\",\"s\":1}\n\
 {\"line\":7,\"n\":2,\"s\":1}\n{\"documents\":2,\"labels\":4,\"line\":8,\"n\":2,\"s\":1}\n";
 
-#[test]
-fn a_failed_second_commit(rt: HostRuntime) -> Result<(), Fail> {
+// Whether the second commit ends at its call 5, and what was committed before it is opened.
+fn second_ends(rt: &HostRuntime) -> Result<bool, Fail> {
     let alloc = rt.alloc();
     let script = joined(alloc, FAILED)?;
-    // The second commit's call 5.
     let disk = MemoryDisk::new(alloc, vec![in alloc; 19]?);
-    let (ended, sink) = run_over(&rt, &script, &[], disk)?;
-    assert!(rt; ended.status == Status::Done && sink.bytes() == FAILED_OUTPUT);
-    assert_eq!(rt; ended.disk.call_count(), 19);
-    let counts = counts(alloc, ended.disk)?;
-    assert!(rt; counts == (1, 3), "{counts:?}");
-    Ok(())
+    let (ended, sink) = run_over(rt, &script, &[], disk)?;
+    let told = ended.status == Status::Done && sink.bytes() == FAILED_OUTPUT;
+    let calls = ended.disk.call_count();
+    Ok(told && calls == 19 && counts(alloc, ended.disk)? == (1, 3))
 }
 
 const ENDED_OUTPUT: &[u8] =
@@ -185,6 +182,6 @@ fn a_commit_ends_at_its_first_fault(rt: HostRuntime) -> Result<(), Fail> {
             "{failing}"
         );
     }
-    assert!(rt; ended(&rt, 15, MADE_OUTPUT)? == (14, true));
+    assert!(rt; ended(&rt, 15, MADE_OUTPUT)? == (14, true) && second_ends(&rt)?);
     Ok(())
 }

@@ -70,15 +70,6 @@ fn refusals() -> &'static [(Refusal, &'static str)] {
     &REFUSALS
 }
 
-#[test]
-fn lines_of_refusals(rt: HostRuntime) -> Result<(), Fail> {
-    for (refusal, expected) in refusals() {
-        let found = has_line(rt.alloc(), &Reply::Refused(*refusal), *expected)?;
-        assert!(rt; found, "{expected}");
-    }
-    Ok(())
-}
-
 static STORE_FAULTS: [(StoreFault<'static>, &str); 6] = [
     (
         StoreFault::Missing {
@@ -148,8 +139,12 @@ fn are_told(alloc: Global) -> Result<bool, Fail> {
 }
 
 #[test]
-fn lines_of_faults(rt: HostRuntime) -> Result<(), Fail> {
+fn lines_of_refusals_and_faults(rt: HostRuntime) -> Result<(), Fail> {
     assert!(rt; are_told(rt.alloc())?);
+    for (refusal, expected) in refusals() {
+        let found = has_line(rt.alloc(), &Reply::Refused(*refusal), *expected)?;
+        assert!(rt; found, "{expected}");
+    }
     for (fault, expected) in store_faults() {
         assert!(rt; is_told(rt.alloc(), *fault, *expected)?, "{expected}");
     }

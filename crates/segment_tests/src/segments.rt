@@ -57,18 +57,23 @@ fn built(alloc: Global, both: bool) -> Result<Segment, Fail> {
     Ok(Segment::build(alloc, &entries)?)
 }
 
-#[test]
-fn a_built_segment(rt: HostRuntime) -> Result<(), Fail> {
-    let alloc = rt.alloc();
-    assert!(rt; built(alloc, false)?.bytes() == ONE.as_slice());
+// Whether the segment has a second document, and the places of its terms.
+fn has_second(alloc: Global, segment: &Segment) -> Result<bool, Fail> {
+    if segment.docs() != 2 {
+        return Ok(false);
+    }
+    let leaves = ordinals(alloc, segment.leaves(1))?;
+    let texts = segment.id(1) == "b2" && segment.text(1) == "";
+    let tag = first_place(segment.postings("fTag")) == Some((1, Some(1)));
+    let none = segment.postings("fTag\u{1f}c").is_none();
+    Ok(leaves.as_slice() == [5, 4].as_slice() && texts && tag && none)
+}
+
+fn are_built(alloc: Global) -> Result<bool, Fail> {
+    let one = built(alloc, false)?;
     let two = built(alloc, true)?;
-    assert!(rt; two.docs() == 2);
-    assert!(rt; two.id(1) == "b2" && two.text(1) == "");
-    assert!(rt; ordinals(alloc, two.leaves(1))?.as_slice() == [5, 4].as_slice());
-    assert!(rt; first_place(two.postings("fTag")) == Some((1, Some(1))));
-    assert!(rt; two.postings("fTag\u{1f}c").is_none());
-    assert!(rt; fault_of(alloc, two.bytes().to_vec(alloc)?).is_none());
-    Ok(())
+    let again = fault_of(alloc, two.bytes().to_vec(alloc)?).is_none();
+    Ok(one.bytes() == ONE.as_slice() && has_second(alloc, &two)? && again)
 }
 
 // Whether the segment has the one document.
@@ -83,12 +88,12 @@ fn has_one(alloc: Global, segment: &Segment) -> Result<bool, Fail> {
 }
 
 #[test]
-fn an_opened_segment(rt: HostRuntime) -> Result<(), Fail> {
+fn built_and_opened_segments(rt: HostRuntime) -> Result<(), Fail> {
     let alloc = rt.alloc();
     let Ok(segment) = Segment::open(alloc, ONE.as_slice().to_vec(alloc)?) else {
         return Err("a segment".into());
     };
-    assert!(rt; may_be_shared(&segment) && has_one(alloc, &segment)?);
+    assert!(rt; may_be_shared(&segment) && has_one(alloc, &segment)? && are_built(alloc)?);
     let rows = [
         ("fAuthor", true),
         ("fAuthor\u{1f}Bob", true),
