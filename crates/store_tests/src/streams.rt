@@ -1,4 +1,4 @@
-ghost use Rattle.std.specs.Prelude.{◌≤◌};
+ghost use Rattle.std.specs.Prelude.{◌≤◌, ◌<◌, ◌^◌};
 
 use facet_io::{
     Failed, MemorySink, MemorySource, ReadFault, Sink, Source, StdSink, StdSource, read_to_end,
@@ -76,7 +76,9 @@ fn answers<S: Source>(
     source: &mut S,
     limit: usize,
     want: Result<usize, ReadFault>,
-) -> bool {
+) -> bool
+    requires { limit < 2 ^ 32 }
+{
     match read_to_end(alloc, source, limit) {
         Ok(bytes) => bytes.as_slice() == TEXT && want == Ok(bytes.len()),
         Err(fault) => want == Err(fault),
@@ -85,7 +87,7 @@ fn answers<S: Source>(
 
 fn is_read(alloc: Global, reading: &Reading) -> Result<bool, Fail> {
     let (piece, failing, limit, want) = *reading;
-    if piece == 0 {
+    if piece == 0 || limit > 100 {
         return Ok(false);
     }
     let mut source = source(alloc, piece, failing)?;
