@@ -12,4 +12,3 @@ pub mod Listed
 pub mod Below
 pub mod Results
 pub mod EachDim
-mod Spelled
