@@ -1,9 +1,7 @@
-ghost use Rattle.std.specs.Prelude.{◌≡◌, ◌≤◌, ◌×◌, [], List, length, map, IfOk};
+ghost use Rattle.std.specs.Prelude.{◌≡◌, ◌≤◌, [], length, map, IfOk};
 ghost use Rattle.std.specs.Arc.{arc_value};
-ghost use Rattle.facet_model.specs.Documents.{Doc};
 ghost use Rattle.facet_model.specs.Stored.{Decodes};
 ghost use Rattle.seg_decoding.specs.Decoding.{docs_in};
-ghost use Rattle.sideways.specs.Searches.{records_of};
 
 use crate::runs::{BOB, COMMIT, CONFIG, LISA, disk_with};
 use commit_store::{Committer, Opened};
@@ -56,7 +54,8 @@ fn counted(
     segments: &[Arc<Segment>],
     sideways: bool,
 ) -> Result<(u32, u32), Fail>
-    requires { (docs : List Doc) × Decodes view.now config.now (records_of segments.now) docs × (length docs ≤ 1000000) }
+    requires decodes { Decodes view.now config.now (map arc_value segments.now) (docs_in view.now (map arc_value segments.now)) }
+    requires few { length (docs_in view.now (map arc_value segments.now)) ≤ 1000000 }
 {
     let ask = drilled(alloc, sideways)?;
     let Ok(plan) = DrillPlan::new(alloc, view, config, segments, &ask) else {
