@@ -114,11 +114,7 @@ fn seeks_in_sets(rt: HostRuntime) -> Result<(), Fail> {
     let rows = [
         (
             0,
-            [
-                (Some(1), Some(3)),
-                (Some(3), Some(9)),
-                (Some(1), Some(5)),
-            ],
+            [(Some(1), Some(3)), (Some(3), Some(9)), (Some(1), Some(5))],
         ),
         (4, [(Some(4), Some(5)), (Some(9), None), (Some(5), None)]),
         (9, [(Some(9), Some(12)), (Some(9), None), (None, None)]),
