@@ -1,6 +1,4 @@
 pub mod Unique
-pub mod Made
-pub mod Below
 pub mod Tops
 pub mod Cut
 pub mod Fronts

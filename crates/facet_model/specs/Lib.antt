@@ -5,7 +5,6 @@ pub mod Accepts
 pub mod Words
 pub mod Results
 pub mod Laws
-pub mod Plain
 pub mod Asks
 pub mod ResultViews
 pub mod AskViews

@@ -37,15 +37,6 @@ impl Word {
         Ok(Some(Word { text }))
     }
 
-    pub(crate) fn copied(alloc: Global, text: &str) -> Result<Word, NoMemory>
-        requires some { 0 < length text.now }
-        requires short { length text.now ≤ 65536 }
-        ensures { IfOk result (λ w. w ≡ text.now) }
-    {
-        let text = String::from_str(alloc, text)?;
-        Ok(Word { text })
-    }
-
     /// The text itself.
     pub fn text(&self) -> &str
         ensures { result.now ≡ self.now }

@@ -1,1 +1,3 @@
 mod Spelled
+mod Below
+mod Made

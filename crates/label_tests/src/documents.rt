@@ -1,7 +1,6 @@
 use crate::making::{document, path};
-use facet_model::{
-    Ask, DimFlags, DocShape, Document, Drill, FacetResult, Query, Word, plain_top, words,
-};
+use crate::plain_top;
+use facet_model::{Ask, DimFlags, DocShape, Document, Drill, FacetResult, Query, Word, words};
 use std::alloc::Global;
 use std::test::Fail;
 

@@ -1,4 +1,5 @@
-//! Tests of labels, documents, what is counted of them, and the core: what no run of the program shows.
+//! Tests of labels, documents, what is counted of them, and the core: what no run of the program shows; and the plain, slow program that says what
+//! a listing is, by which they compare.
 #![tactic(auto)]
 
 #[cfg(test)]
@@ -15,3 +16,6 @@ mod labels;
 mod making;
 #[cfg(test)]
 mod paths;
+mod plain;
+
+pub use plain::plain_top;

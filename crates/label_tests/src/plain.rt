@@ -8,12 +8,9 @@ ghost use Rattle.facet_model.specs.Listing.{IsListing, counted_child};
 ghost use Rattle.facet_model.specs.ResultViews.{result_view};
 ghost use Rattle.facet_model.specs.Results.{IsTop};
 ghost use Rattle.facet_model.specs.Words.{word_cmp};
-ghost use Rattle.facet_model.specs.Plain.{child_of, with_part};
+ghost use Rattle.label_tests.specs.Plain.{child_of, with_part};
 
-use crate::document::Document;
-use crate::flags::DimFlags;
-use crate::result::{Child, FacetResult};
-use crate::word::Word;
+use facet_model::{Child, DimFlags, Document, FacetResult, Word};
 use facet_names::{NoMemory, Path};
 use std::alloc::Global;
 use std::collections::BTreeMap;
@@ -45,7 +42,7 @@ fn note(alloc: Global, parts: &mut Vec<Word>, part: Option<&str>) -> Result<(), 
         return Ok(());
     };
     if !is_among(parts, part) {
-        parts.push(Word::copied(alloc, part)?)?;
+        parts.push(Word::new(alloc, part)?.unwrap())?;
     }
     Ok(())
 }

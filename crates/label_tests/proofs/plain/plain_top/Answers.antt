@@ -7,7 +7,7 @@ use Rattle.facet_model.specs.Flags.{flags}
 use Rattle.facet_model.specs.Listing.{counted_child}
 use Rattle.facet_model.specs.Results.{value_of}
 use Rattle.facet_model.proofs.Tops.{children_are, none_is, some_is}
-use Rattle.facet_model.proofs.plain.plain_top.Goals as goal
+use Rattle.label_tests.proofs.plain.plain_top.Goals as goal
 
 pub returns-then-is_empty : goal.returns-then-is_empty
 returns-then-is_empty c = λ config same.

@@ -1,7 +1,7 @@
 use Rattle.std.proofs.Common.{◌≡◌, ◌≤◌, ◌*◌, ◌++◌, [], ◌∷◌, ℕ, List, length, take}
 use Rattle.facet_model.specs.Documents.{count}
-use Rattle.facet_model.proofs.Below.{times_in}
-use Rattle.facet_model.proofs.plain.parts_below.Given as goal
+use Rattle.label_tests.proofs.Below.{times_in}
+use Rattle.label_tests.proofs.plain.parts_below.Given as goal
 
 abbrev pub invariant-loop-doc : goal.invariant-loop-doc
 invariant-loop-doc l = record {

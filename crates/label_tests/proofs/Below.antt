@@ -12,7 +12,7 @@ use Rattle.std.proofs.lemmas.List.Sums.{sum_by-cons, sum_by-append, sum_by_more}
 use Rattle.std.proofs.lemmas.List.Folds.{list_any_more}
 use Rattle.facet_names.specs.Paths.{is_under}
 use Rattle.facet_model.specs.Documents.{Doc, has, count}
-use Rattle.facet_model.specs.Plain.{child_of, with_part}
+use Rattle.label_tests.specs.Plain.{child_of, with_part}
 use Rattle.facet_model.proofs.Unique.{one_if}
 
 abbrev pub below : List (List ℕ) → List ℕ → List (List ℕ) → Bool

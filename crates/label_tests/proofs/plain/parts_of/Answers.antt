@@ -1,10 +1,10 @@
 use Rattle.std.proofs.Common.{arith, List, ℕ, length, get_or, ap, ◌∙◌}
 use Rattle.std.specs.List.{list_any}
 use Rattle.std.proofs.lemmas.List.{take_all}
-use Rattle.facet_model.specs.Plain.{child_of, with_part}
-use Rattle.facet_model.proofs.Below.{below, noted_label, longer_by_one}
+use Rattle.label_tests.specs.Plain.{child_of, with_part}
+use Rattle.label_tests.proofs.Below.{below, noted_label, longer_by_one}
 use Rattle.facet_model.proofs.Unique.{one_if}
-use Rattle.facet_model.proofs.plain.parts_of.Goals as goal
+use Rattle.label_tests.proofs.plain.parts_of.Goals as goal
 
 pub loop-label-preserved : goal.loop-label-preserved
 loop-label-preserved c =

@@ -5,9 +5,9 @@ use Rattle.std.specs.Ordering.{nat_cmp}
 use Rattle.std.specs.Cmp.Lexicographic.{slice_cmp}
 use Rattle.std.proofs.lemmas.List.{length-append}
 use Rattle.facet_model.specs.Words.{word_cmp}
-use Rattle.facet_model.proofs.Made.{one_more}
-use Rattle.facet_model.proofs.Below.{counted_more, positive_more, entry_more}
-use Rattle.facet_model.proofs.plain.tally.Goals as goal
+use Rattle.label_tests.proofs.Made.{one_more}
+use Rattle.label_tests.proofs.Below.{counted_more, positive_more, entry_more}
+use Rattle.label_tests.proofs.plain.tally.Goals as goal
 
 pub loop-part-preserved : goal.loop-part-preserved
 loop-part-preserved c =

@@ -3,7 +3,7 @@ use Rattle.std.specs.Prelude.{count_by, sum_by, IfSome}
 use Rattle.std.specs.BTreeMap.{get, values, IsOrdered}
 use Rattle.std.specs.Str.{bytes_eq}
 use Rattle.facet_model.specs.Words.{word_cmp}
-use Rattle.facet_model.proofs.plain.tally.Given as goal
+use Rattle.label_tests.proofs.plain.tally.Given as goal
 
 abbrev pub invariant-loop-part : goal.invariant-loop-part
 invariant-loop-part l = record {

@@ -1,9 +1,9 @@
 use Rattle.std.proofs.Common.{arith, ◌++◌, ◌∷◌, [], length, ap, ◌∙◌}
 use Rattle.std.proofs.lemmas.List.{length-append, take_all}
 use Rattle.facet_model.specs.Documents.{has, count}
-use Rattle.facet_model.proofs.Below.{times_in, noted_doc}
+use Rattle.label_tests.proofs.Below.{times_in, noted_doc}
 use Rattle.facet_model.proofs.Unique.{one_if}
-use Rattle.facet_model.proofs.plain.parts_below.Goals as goal
+use Rattle.label_tests.proofs.plain.parts_below.Goals as goal
 
 pub loop-doc-preserved : goal.loop-doc-preserved
 loop-doc-preserved c = record {

@@ -1,8 +1,8 @@
 use Rattle.std.proofs.Common.{◌≡◌, ◌≤◌, ℕ, List, length, take}
 use Rattle.std.specs.List.{list_any}
-use Rattle.facet_model.proofs.Below.{below, times_in}
+use Rattle.label_tests.proofs.Below.{below, times_in}
 use Rattle.facet_model.proofs.Unique.{one_if}
-use Rattle.facet_model.proofs.plain.parts_of.Given as goal
+use Rattle.label_tests.proofs.plain.parts_of.Given as goal
 
 abbrev pub invariant-loop-label : goal.invariant-loop-label
 invariant-loop-label l = record {
