@@ -199,7 +199,8 @@ pub fn lend_to_all<N: Name + Send + Sync, R: Threads + Wait + Sync>(
 )
     requires own { All (λ v. (v.titles.identity ≡ library.now.titles) × (v.loans.identity ≡ library.now.loans)) visits.old }
     ensures own { All (λ v. (v.titles.identity ≡ library.now.titles) × (v.loans.identity ≡ library.now.loans)) visits.new }
-    ensures lent { (i : ℕ) (d : VisitData) → i < length visits.old → HasOneMoreAtMost (slice_index_or visits.old i d).loans.number (mine (slice_index_or visits.old i d).loans) (mine (slice_index_or visits.new i d).loans) }
+    ensures lent { (i : ℕ) (d : VisitData) → i < length visits.old → HasOneMoreAtMost (slice_index_or visits.old i d).loans.number
+        (mine (slice_index_or visits.old i d).loans) (mine (slice_index_or visits.new i d).loans) }
 {
     if visits.is_empty() {
         return;

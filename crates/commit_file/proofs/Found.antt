@@ -177,7 +177,7 @@ label_found labels left start p part q fits e =
     let tc = Takes-then b.0.1 (be32 c.0.0) c.0.1 d.0.0 d.0.1 kc.0 kd.0 in
     let tb = Takes-then a.0.1 (be32 b.0.0) b.0.1 (be32 c.0.0 ++ d.0.0) d.0.1 kb.0 tc in
     let ta = Takes-then p (be64 a.0.0) a.0.1 (be32 b.0.0 ++ (be32 c.0.0 ++ d.0.0)) d.0.1 ka.0 tb in
-    subst (λ (x : LabelPart × Place). Takes p (label_bytes x.0) x.1 × FitsBehind labels left start x.0) (done_is FileFault (made, d.0.1) (part, q) d.2)
+    subst (λ (x : LabelPart × Place). Takes p (label_bytes x.0) x.1 × FitsBehind labels left start x.0) {x = (made, d.0.1)} {y = (part, q)} (done_is FileFault (made, d.0.1) (part, q) d.2)
     (ta, record { fits = record { number = ka.1; first = kb.1.1; count = kc.1.1; digest = kd.1 }; begins = kb.1.0; last = kc.1.0 })
 
 in_order : (labels start : ℕ) (parts : List LabelPart) → 0 < length parts → EachFits (label_part_at labels) (λ _ part. end_of part) label_bytes (FitsBehind labels) start parts → AreInOrder labels start parts

@@ -16,6 +16,7 @@ use Rattle.std.proofs.lemmas.Map.Text.{is_eq-slice_cmp}
 use Rattle.facet_model.specs.declared.flags.DimFlags.{DimFlags}
 use Rattle.facet_model.specs.Flags.{Config, flags, no_flags}
 use Rattle.facet_model.specs.Words.{word_cmp}
+use Rattle.facet_config.specs.Declarations.{AreDimensions, IsDimension}
 use Rattle.commit_file.specs.Commits.{entry, in_order, is_some_set, kept_of}
 use Rattle.commit_file.proofs.Rising.{flipped}
 
@@ -131,6 +132,34 @@ filter_whole (d ∷ ds) all = rw (all.0, filter_whole ds all.1) refl
 pub kept_whole : (ds : Config) → IsStrictlySortedBy word_cmp (keys_of ds) → AllByRecursion (λ d. is_set d ≡ true) ds → kept_of ds ≡ ds
 unfolding kept_of
 kept_whole ds up set = ap (filter is_set) (order_whole ds up) ∙ filter_whole ds set
+
+-- ---- the names
+
+put_named : (k : List ℕ) (f : DimFlags) (es : Config) → IsDimension k → AreDimensions es → AreDimensions (insert_entry word_cmp es k f)
+put_named k f [] is all = (is, tt)
+put_named k f (e ∷ es) is all = by (word_cmp k e.0) (put_named k f es is all.1)
+  where
+    by : (o : Ordering) → AreDimensions (insert_entry word_cmp es k f) → AreDimensions (match_ordering o ((k, f) ∷ e ∷ es) ((e.0, f) ∷ es) (e ∷ insert_entry word_cmp es k f))
+    by Less rest = (is, all)
+    by Equal rest = all
+    by Greater rest = (all.0, rest)
+
+order_named : (config : Config) → AreDimensions config → AreDimensions (in_order config)
+unfolding in_order
+order_named [] all = tt
+order_named (d ∷ ds) all = put_named d.0 d.1 (in_order ds) all.0 (order_named ds all.1)
+
+filter_named : (es : Config) → AreDimensions es → AreDimensions (filter is_set es)
+filter_named [] all = tt
+filter_named (e ∷ es) all = by (is_set e) (filter_named es all.1)
+  where
+    by : (b : Bool) → AreDimensions (filter is_set es) → AreDimensions (cond b (e ∷ filter is_set es) (filter is_set es))
+    by true rest = (all.0, rest)
+    by false rest = rest
+
+pub kept_named : (config : Config) → AreDimensions config → AreDimensions (kept_of config)
+unfolding kept_of
+kept_named config all = filter_named (in_order config) (order_named config all)
 
 -- ---- the flags
 

@@ -4,6 +4,7 @@ ghost use Rattle.std.specs.Ordering.{is_lt};
 ghost use Rattle.std.specs.List.{AllByRecursion, sum_by};
 ghost use Rattle.facet_model.specs.Words.{word_cmp};
 ghost use Rattle.facet_config.specs.Faults.{declare_fault};
+ghost use Rattle.facet_config.specs.Declarations.{AreDimensions};
 ghost use Rattle.commit_file.specs.Commits.{index_listing, declaration, documents_of, documents_listed, kept_of};
 ghost use Rattle.commit_file.specs.Limits.{IsDocumentPart, IsDeclaration};
 ghost use Rattle.commit_file.specs.Spelling.{index_commit_bytes};
@@ -207,6 +208,7 @@ fn write(
     parts: &[DocumentPart],
 ) -> Result<Vec<u8>, facet_codec::NoMemory>
     requires kept { length kept.now < 2 ^ 32 }
+    requires named { AreDimensions (map declaration kept.now) }
     requires parts { length parts.now < 2 ^ 32 }
     ensures bytes { IfOk result (λ v. v.items ≡ index_commit_bytes number (documents_listed needs (map declaration kept.now) parts.now)) }
     ensures declarations { IfOk result (λ _. AllByRecursion IsDeclaration (map declaration kept.now)) }

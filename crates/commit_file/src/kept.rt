@@ -1,4 +1,5 @@
 ghost use Rattle.std.specs.Prelude.{◌≡◌, ◌++◌, ◌∷◌, [], map, OnOk, IfOk, if◌then◌else◌};
+ghost use Rattle.facet_config.specs.Declarations.{AreDimensions};
 ghost use Rattle.commit_file.specs.Commits.{declaration, entry, in_order, is_some_set, kept_of};
 
 use facet_config::FacetsConfig;
@@ -17,7 +18,8 @@ pub(crate) struct Declaration<'a> {
 // The flags of each declared dimension, by its bytes; of two declarations of one dimension the first.
 #[tactic(auto, unfolding(crate::specs::Commits::in_order))]
 fn in_order(alloc: Global, config: &FacetsConfig) -> Result<BTreeMap<&str, DimFlags>, NoMemory>
-    ensures { IfOk result (λ m. map entry m.entries ≡ in_order config.now) }
+    ensures is { IfOk result (λ m. map entry m.entries ≡ in_order config.now) }
+    ensures named { AreDimensions config.now }
 {
     let mut all = BTreeMap::new(alloc);
     let mut at = config.len();
@@ -36,7 +38,8 @@ fn is_some_set(flags: DimFlags) -> bool
 }
 
 fn push_set<'a>(kept: &mut Vec<Declaration<'a>>, one: Declaration<'a>) -> Result<(), NoMemory>
-    ensures { OnOk result (map declaration kept.new.items ≡ map declaration kept.old.items ++ (if is_some_set one.entry.flags then declaration one.entry ∷ [] else [])) }
+    ensures { OnOk result (map declaration kept.new.items
+        ≡ map declaration kept.old.items ++ (if is_some_set one.entry.flags then declaration one.entry ∷ [] else [])) }
 {
     if is_some_set(one.flags) {
         kept.push(one)?;
@@ -47,7 +50,8 @@ fn push_set<'a>(kept: &mut Vec<Declaration<'a>>, one: Declaration<'a>) -> Result
 /// The declarations of a config of which a flag is set, by their dimensions' bytes.
 #[tactic(auto, unfolding(crate::specs::Commits::kept_of))]
 pub(crate) fn kept(alloc: Global, config: &FacetsConfig) -> Result<Vec<Declaration<'_>>, NoMemory>
-    ensures { IfOk result (λ v. map declaration v.items ≡ kept_of config.now) }
+    ensures is { IfOk result (λ v. map declaration v.items ≡ kept_of config.now) }
+    ensures named { IfOk result (λ v. AreDimensions (map declaration v.items)) }
 {
     let all = in_order(alloc, config)?;
     let mut kept = Vec::new(alloc);

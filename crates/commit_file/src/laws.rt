@@ -11,13 +11,15 @@ ghost use Rattle.commit_file.specs.Reading.{taxonomy_commit, index_commit};
 
 /// Commits of the taxonomy that were read.
 pub fn of_taxonomy_commit()
-    ensures spelled { (number : ℕ) (bytes : List ℕ) (c : TaxonomyListing) → IsBytes bytes → taxonomy_commit number bytes ≡ Ok c → bytes ≡ taxonomy_commit_bytes number c }
+    ensures spelled { (number : ℕ) (bytes : List ℕ) (c : TaxonomyListing) → IsBytes bytes
+        → taxonomy_commit number bytes ≡ Ok c → bytes ≡ taxonomy_commit_bytes number c }
     ensures limits { (number : ℕ) (bytes : List ℕ) (c : TaxonomyListing) → IsBytes bytes → taxonomy_commit number bytes ≡ Ok c → IsTaxonomy c }
 {}
 
 /// Commits of the index that were read.
 pub fn of_index_commit()
-    ensures spelled { (number : ℕ) (bytes : List ℕ) (c : IndexListing) → IsBytes bytes → index_commit number bytes ≡ Ok c → bytes ≡ index_commit_bytes number c }
+    ensures spelled { (number : ℕ) (bytes : List ℕ) (c : IndexListing) → IsBytes bytes
+        → index_commit number bytes ≡ Ok c → bytes ≡ index_commit_bytes number c }
     ensures limits { (number : ℕ) (bytes : List ℕ) (c : IndexListing) → IsBytes bytes → index_commit number bytes ≡ Ok c → IsIndex c }
 {}
 

@@ -1,5 +1,6 @@
 ghost use Rattle.std.specs.Prelude.{◌≡◌, ◌<◌, ◌^◌, ◌++◌, map, length, OnOk};
 ghost use Rattle.std.specs.List.{flat_map, AllByRecursion};
+ghost use Rattle.facet_config.specs.Declarations.{AreDimensions, IsDimension};
 ghost use Rattle.commit_file.specs.Commits.{declaration};
 ghost use Rattle.commit_file.specs.Limits.{IsLabelPart, IsDocumentPart, IsDeclaration};
 ghost use Rattle.commit_file.specs.Spelling.{head_bytes, label_bytes, flags_number, declaration_bytes, document_bytes};
@@ -67,16 +68,13 @@ fn dim_of<'a>(one: &Declaration<'a>) -> &'a str
     one.dim
 }
 
-// Each declared dimension has 1 to 1,024 bytes, but its type doesn't tell that here.
 #[tactic(auto, unfolding(crate::specs::Spelling::declaration_bytes))]
 fn put_declaration(out: &mut Vec<u8>, one: &Declaration<'_>) -> Result<(), NoMemory>
+    requires { IsDimension one.now.dim.now }
     ensures bytes { OnOk result (out.new.items ≡ out.old.items ++ declaration_bytes (declaration one.now)) }
     ensures fits { OnOk result (IsDeclaration (declaration one.now)) }
 {
     let dim = dim_of(one);
-    if dim.is_empty() || dim.len() > 1024 {
-        return Err(NoMemory);
-    }
     put_text(out, dim)?;
     put_u8(out, flags_number(one.flags))?;
     Ok(())
@@ -84,6 +82,7 @@ fn put_declaration(out: &mut Vec<u8>, one: &Declaration<'_>) -> Result<(), NoMem
 
 /// Declarations.
 pub(crate) fn put_declarations(out: &mut Vec<u8>, kept: &[Declaration<'_>]) -> Result<(), NoMemory>
+    requires { AreDimensions (map declaration kept.now) }
     ensures bytes { OnOk result (out.new.items ≡ out.old.items ++ flat_map declaration_bytes (map declaration kept.now)) }
     ensures fit { OnOk result (AllByRecursion IsDeclaration (map declaration kept.now)) }
 {

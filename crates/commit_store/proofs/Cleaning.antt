@@ -115,10 +115,10 @@ made_left (f ∷ fs) s n left = ⊎_elim
 abbrev IsPendingOf : Dir → Option ℕ → FileName → Type 0
 IsPendingOf dir part n = (k : ℕ) × (part ≡ Some k) × (n ≡ file dir Pending k)
 
-abbrev label_names : List LabelPart → List FileName
+abbrev pub label_names : List LabelPart → List FileName
 label_names parts = map (λ part. file Taxonomy Segment part.number) parts
 
-abbrev document_names : List Kept → List FileName
+abbrev pub document_names : List Kept → List FileName
 document_names kept = map (λ k. file Index Segment k.part.number) kept
 
 -- the labels' files

@@ -1,21 +1,24 @@
 -- What was read of a disk is what its directories hold.
-use Rattle.std.proofs.Common.{◌≡◌, ◌≤◌, ◌^◌, ℕ, List, [], ◌∷◌, length, map, Option, Some, None, Result, Ok, refl, sym, ap, ◌∙◌, subst, arith}
+use Rattle.std.proofs.Common.{◌≡◌, ◌≤◌, ◌<◌, ◌^◌, ℕ, List, [], ◌∷◌, length, map, Option, Some, None, Result, Ok, refl, sym, ap, ◌∙◌, subst, arith, length-append}
 use Rattle.std.specs.Option.{option_map}
+use Rattle.std.proofs.lemmas.List.{length-map}
 use Rattle.std.specs.List.{AllByRecursion, AllZip}
 use Rattle.facet_codec.specs.Faults.{told_as}
 use Rattle.facet_codec.specs.Reading.{◌>>=◌}
 use Rattle.facet_codec.proofs.Taking.{bind_ok, told_ok, done, done_is}
 use Rattle.facet_disk.specs.declared.name.Dir.TheVariants.{Taxonomy, Index}
 use Rattle.facet_disk.specs.declared.name.Kind.TheVariants.{Segment, Commit}
+use Rattle.facet_disk.specs.declared.disk.Disk.{Ghosts}
 use Rattle.facet_disk.specs.Images.{Image}
+use Rattle.facet_model.specs.Documents.{Doc}
 use Rattle.facet_model.specs.Flags.{Config}
 use Rattle.facet_model.specs.Stored.{Stored, Records, IsRecordOf, IsSegmentOf}
 use Rattle.commit_calls.specs.Held.{Held, Stands, file, newest_file}
-use Rattle.commit_calls.specs.Moments.{IsAt, Passes}
+use Rattle.commit_calls.specs.Moments.{IsAt}
 use Rattle.commit_file.specs.Commits.{AreInOrder, TaxonomyListing, IndexListing, documents_listed}
 use Rattle.commit_file.specs.declared.taxonomy.LabelPart.{LabelPart}
 use Rattle.commit_file.specs.declared.index.DocumentPart.{DocumentPart}
-use Rattle.seg_decoding.specs.Decoding.{doc_in}
+use Rattle.seg_decoding.specs.Decoding.{doc_in, docs_in, records_in}
 use Rattle.seg_decoding.specs.Opening.{stored_segment, opened, documents_fit, unless_at, first_difference, counted_anew, rebuilt}
 use Rattle.seg_decoding.proofs.Differences.{same_from_none}
 use Rattle.seg_grammar.specs.Spelling.{seg_bytes}
@@ -23,11 +26,10 @@ use Rattle.store_opening.specs.declared.fault.OpenFault.{OpenFault}
 use Rattle.store_opening.specs.declared.fault.OpenFault.TheVariants.{Malformed}
 use Rattle.store_opening.specs.declared.newest.Newest.{Newest}
 use Rattle.store_opening.specs.Files.{Found, Segments, segments_in as image_segments, greatest_number, unspent, of_file, segment_bytes, segment_of, segments_of, labels_of, taxonomy_in, agrees, index_in, held_segments, files}
-use Rattle.store_opening.specs.Laws.{HoldsFiles}
 use Rattle.store_opening.specs.Newest.{IsNewestTaxonomy, IsNewestIndex, IsNamedAs}
-use Rattle.store_opening.specs.Quiet.{IsUnchanged}
+use Rattle.store_opening.specs.Quiet.{IsQuiet}
 use Rattle.store_opening.specs.Settled.{named, label_numbers, document_numbers, there, held_in}
-use Rattle.store_opening.proofs.Held.{taxonomy_there}
+use Rattle.store_opening.proofs.Held.{taxonomy_there, files_held}
 use Rattle.commit_store.specs.Committed.{IsKept, IsOwn, IsCommitted, segments_in}
 use Rattle.commit_store.specs.Openings.{kept_by, committed_read}
 use Rattle.commit_store.specs.Plannings.{IsKnown}
@@ -43,10 +45,16 @@ as_long R (x ∷ xs) [] all = absurd all
 as_long R (x ∷ xs) (y ∷ ys) all = omega (arith, as_long R xs ys all.1)
 
 module _ (config : Config) (labels : Labels) where
-  all_kept : (parts : List DocumentPart) (ss : List Records) → AllZip (IsNamedAs config labels) parts ss → AllByRecursion IsOwn ss → AllByRecursion IsKept (kept_by parts ss)
-  all_kept [] ss named own = tt
-  all_kept (p ∷ parts) [] named own = tt
-  all_kept (p ∷ parts) (s ∷ ss) named own = (record { segment = own.0; documents = sym named.0.documents; digest = sym named.0.digest }, all_kept parts ss named.1 own.1)
+  all_kept : (parts : List DocumentPart) (ss : List Records) → AllZip (IsNamedAs config labels) parts ss → AllByRecursion IsKept (kept_by parts ss)
+  all_kept [] ss named = tt
+  all_kept (p ∷ parts) [] named = tt
+  all_kept (p ∷ parts) (s ∷ ss) named = (record { segment = named.0.own; documents = sym named.0.documents; digest = sym named.0.digest }, all_kept parts ss named.1)
+
+  pub all_own : (parts : List DocumentPart) (ss : List Records) → AllZip (IsNamedAs config labels) parts ss → AllByRecursion IsOwn ss
+  all_own [] [] named = tt
+  all_own [] (s ∷ ss) named = absurd named
+  all_own (p ∷ parts) [] named = tt
+  all_own (p ∷ parts) (s ∷ ss) named = (named.0.own, all_own parts ss named.1)
 
   pub all_segments : (parts : List DocumentPart) (ss : List Records) → AllZip (IsNamedAs config labels) parts ss → segments_in (kept_by parts ss) ≡ ss
   all_segments [] [] named = refl
@@ -54,8 +62,9 @@ module _ (config : Config) (labels : Labels) where
   all_segments (p ∷ parts) [] named = absurd named
   all_segments (p ∷ parts) (s ∷ ss) named = λ i. s ∷ all_segments parts ss named.1 i
 
-  pub read_committed : (n : Newest) (ss : List Records) → 1 ≤ n.next → n.next ≤ 2 ^ 63 → AreInOrder (length labels) 1 n.label_parts.items → AllZip (IsNamedAs config labels) n.document_parts.items ss → AllByRecursion IsOwn ss → IsCommitted (committed_read n labels ss)
-  read_committed n ss some room order named own = record { some = some; room = room; order = order; kept = all_kept n.document_parts.items ss named own }
+  pub read_committed : (n : Newest) (ss : List Records) → 1 ≤ n.next → n.next ≤ 2 ^ 63 → AreInOrder (length labels) 1 n.label_parts.items → length n.label_parts.items < length labels
+      → AllZip (IsNamedAs config labels) n.document_parts.items ss → IsCommitted (committed_read n labels ss)
+  read_committed n ss some room order many named = record { some = some; room = room; order = order; few = many; kept = all_kept n.document_parts.items ss named }
 
   -- ---- a segment is made of the bytes that it was read from
 
@@ -144,10 +153,10 @@ module _ (config : Config) (labels : Labels) where
       let b = bind_ok (agrees config (length labels) (documents_listed is.1.0 is.1.1 parts)) (λ agreed. segments_of config labels is.1.0 g parts) ss listed in
       ap (λ r. there g (document_numbers r)) commit ∙ all_there is.1.0 g parts ss named b.2
 
-  pub read_known : HoldsFiles → (c : Image) (n : Newest) (ss : List Records) → files config c ≡ Ok (record { labels = labels; segments = ss }) → IsNewestTaxonomy (newest_file Taxonomy c) n.taxonomy n.label_parts.items labels → IsNewestIndex (newest_file Index c) n.index n.document_parts.items
+  pub read_known : (c : Image) (n : Newest) (ss : List Records) → files config c ≡ Ok (record { labels = labels; segments = ss }) → IsNewestTaxonomy (newest_file Taxonomy c) n.taxonomy n.label_parts.items labels → IsNewestIndex (newest_file Index c) n.index n.document_parts.items
       → AllZip (IsNamedAs config labels) n.document_parts.items ss → IsKnown config (committed_read n labels ss) (held_in Taxonomy c) (held_in Index c) labels ss
-  read_known law c n ss e taxonomy index named_as =
-      let held_files = law config c (record { labels = labels; segments = ss }) e in
+  read_known c n ss e taxonomy index named_as =
+      let held_files = files_held config c (record { labels = labels; segments = ss }) e in
       let found = found_files config (held_in Taxonomy c) (held_in Index c) labels ss held_files in
       let read = files_read c ss e in
       record {
@@ -162,7 +171,15 @@ module _ (config : Config) (labels : Labels) where
       }
 
 -- an image from before a run that writes nothing
-pub at_unchanged : {D : Type 0} (may_leave : D → Image → Type 0) (moment : D → ℕ) (left_since : D → ℕ → Image → Type 0) (next : ℕ) (t i : Held) (old new : D) → Passes may_leave moment left_since IsUnchanged old new → IsAt may_leave next t i old → IsAt may_leave next t i new
-at_unchanged may_leave moment left_since next t i old new passes at c left =
-    let was = passes.now c left in
+pub at_unchanged : {D : Type 0} (disk : Ghosts D) (next : ℕ) (t i : Held) (old new : D) → IsQuiet disk old new → IsAt disk.may_leave next t i old → IsAt disk.may_leave next t i new
+at_unchanged disk next t i old new quiet at c left =
+    let was = quiet.passes.now c left in
     subst (Stands next t i) (sym was.2) (at was.0 was.1)
+
+-- ---- segments without a document are none
+
+pub none_left : (labels : Labels) (ss : List Records) → AllByRecursion IsOwn ss → docs_in labels ss ≡ [] → ss ≡ []
+none_left labels [] own none = refl
+none_left labels (s ∷ ss) own none =
+    let long : length (docs_in labels (s ∷ ss)) ≡ length (records_in (s ∷ ss)) = length-map (records_in (s ∷ ss)) (doc_in labels) in
+    absurd (omega (arith, own.0.some, long, ap (λ (docs : List Doc). length docs) none, length-append s.records (records_in ss)))

@@ -14,6 +14,8 @@ pub mod Named
 pub mod FromDisk
 pub mod InOrder
 pub mod Cleaning
+pub mod Remaining
 pub mod Listed
 pub mod Fitting
+pub mod Carried
 pub mod Leading

@@ -10,16 +10,20 @@ use Rattle.facet_disk.specs.declared.name.FileName.{FileName}
 use Rattle.facet_disk.specs.Images.{Image, Told}
 use Rattle.facet_model.specs.Flags.{Config}
 use Rattle.facet_model.specs.Stored.{Records}
-use Rattle.commit_calls.specs.Held.{Stands, file, newest, newest_file}
+use Rattle.commit_calls.specs.Held.{Held, Holds, file, newest, newest_file}
+use Rattle.store_opening.specs.Files.{Segments, segments_in}
 use Rattle.store_opening.specs.Newest.{AreListed}
+use Rattle.store_opening.specs.Settled.{before, named, there, held_in}
 use Rattle.commit_store.specs.Committed.{Committed, Kept}
 use Rattle.commit_store.specs.Drafts.{commit_names, named_files, committed_after}
-use Rattle.commit_store.specs.Plannings.{IsCommittedAt}
+use Rattle.commit_store.specs.Plannings.{IsKnown}
+use Rattle.commit_store.specs.Promised.{HasNamed}
 use Rattle.commit_store.specs.Results.{committed_told}
 use Rattle.commit_store.proofs.Cleaning.{named_after, left_named}
 use Rattle.commit_store.proofs.Held.{Labels}
 use Rattle.commit_store.proofs.InOrder.{in_order_only, in_order_once}
 use Rattle.commit_store.proofs.Keeping.{all_mapped, pairs}
+use Rattle.commit_store.proofs.Remaining.{named_stays}
 
 some_is : {X : Type 0} {a b : X} → Some a ≡ Some b → a ≡ b
 some_is is = cc is
@@ -52,10 +56,16 @@ segments_there {P} number dir c (x ∷ xs) (p ∷ ps) same all =
       segments_there number dir c xs ps tail all.1,
     )
 
-module _ {D : Type 0} (may_leave : D → Image → Type 0) (config : Config) (st : Committed) (disk : D) (labels : Labels) (segs : List Records) (at : IsCommittedAt may_leave config st disk labels segs) (c : Image) (left : may_leave disk c) where
-  stands : Stands st.next at.taxonomy at.index c
-  stands = at.stands c left
+-- the segments that are there, with their bytes
+there_again : (f : Segments) (ns : List ℕ) → AllByRecursion (λ s. f s.0 ≡ Some s.1) (there f ns)
+there_again f [] = tt
+there_again f (n ∷ ns) = go (there_again f ns) (f n) refl
+  where
+    go : AllByRecursion (λ s. f s.0 ≡ Some s.1) (there f ns) → (o : Option (List ℕ)) → f n ≡ o → AllByRecursion (λ s. f s.0 ≡ Some s.1) (before n o (there f ns))
+    go rest None e = rest
+    go rest (Some bytes) e = (e, rest)
 
+module _ (config : Config) (st : Committed) (t i : Held) (labels : Labels) (segs : List Records) (known : IsKnown config st t i labels segs) (c : Image) (taxonomy_held : Holds Taxonomy t c) (index_held : Holds Index i c) where
   document_numbers : (ks : List Kept) → map (λ x. x.0) (pairs ks) ≡ map (λ k. k.part.number) ks
   document_numbers [] = refl
   document_numbers (k ∷ ks) = λ i. k.part.number ∷ document_numbers ks i
@@ -67,14 +77,14 @@ module _ {D : Type 0} (may_leave : D → Image → Type 0) (config : Config) (st
       (All-from_recursion (λ m. c m ≢ None) (map (λ p. file dir Segment (number p)) ps) (all_mapped (λ p. file dir Segment (number p)) (λ m. c m ≢ None) ps
       (segments_there number dir c xs ps same (recursion_from_All (λ s. c (file dir Segment s.0) ≡ Some s.1) xs all)))) has
 
-  pub named_there : (n : FileName) → Contains (named_files st.taxonomy st.label_parts st.index st.kept) n → c n ≢ None
+  pub named_there : HasNamed c st
   named_there n has = ⊎_elim
-      (λ one. commit_there Taxonomy c at.taxonomy.commit st.taxonomy stands.taxonomy_held.commit at.known.taxonomy n one)
+      (λ one. commit_there Taxonomy c t.commit st.taxonomy taxonomy_held.commit known.taxonomy n one)
       (λ rest. ⊎_elim
-      (λ one. segment_there (λ part. part.number) Taxonomy at.taxonomy.segments st.label_parts at.known.label_numbers stands.taxonomy_held.segments n one)
+      (λ one. segment_there (λ part. part.number) Taxonomy t.segments st.label_parts known.label_numbers taxonomy_held.segments n one)
       (λ more. ⊎_elim
-      (λ one. commit_there Index c at.index.commit st.index stands.index_held.commit at.known.index n one)
-      (λ one. segment_there (λ k. k.part.number) Index at.index.segments st.kept (ap (λ (xs : List (ℕ × List ℕ)). map (λ x. x.0) xs) at.known.kept ∙ document_numbers st.kept) stands.index_held.segments n one)
+      (λ one. commit_there Index c i.commit st.index index_held.commit known.index n one)
+      (λ one. segment_there (λ k. k.part.number) Index i.segments st.kept (ap (λ (xs : List (ℕ × List ℕ)). map (λ x. x.0) xs) known.kept ∙ document_numbers st.kept) index_held.segments n one)
       (Contains-append_cases index_names document_names n more))
       (Contains-append_cases label_names (index_names ++ document_names) n rest))
       (Contains-append_cases taxonomy_names (label_names ++ (index_names ++ document_names)) n has)
@@ -91,15 +101,23 @@ module _ {D : Type 0} (may_leave : D → Image → Type 0) (config : Config) (st
       document_names : List FileName
       document_names = map (λ k. file Index Segment k.part.number) st.kept
 
+-- what is known of the files that were read
+pub read_named : (config : Config) (st : Committed) (c : Image) (labels : Labels) (segs : List Records) → IsKnown config st (held_in Taxonomy c) (held_in Index c) labels segs → HasNamed c st
+read_named config st c labels segs known = named_there config st (held_in Taxonomy c) (held_in Index c) labels segs known c (held Taxonomy) (held Index)
+  where
+    held : (dir : Dir) → Holds dir (held_in dir c) c
+    held dir = record {
+      commit = refl;
+      segments = All-from_recursion (λ s. c (file dir Segment s.0) ≡ Some s.1) (held_in dir c).segments (there_again (segments_in dir c) (named dir (newest_file dir c)));
+    }
+
 -- after a commit the files are those of the newest commits alone
-pub are_listed : {D : Type 0} (may_leave : D → Image → Type 0) (told : D → Option Told) → ((d : D) (s : Told) → told d ≡ Some s → may_leave d s.files) → (config : Config) (old : Committed) (view : Labels) (ss : List Records) (s : Told)
-    → AreListed s.files old.listed → (disk : D) (u : Told) → told disk ≡ Some u → u ≡ committed_told config old view ss s → (new : Committed) → new ≡ committed_after config old view ss → IsCommittedAt may_leave config new disk view ss
-    → AreListed u.files new.listed
-are_listed may_leave told own config old view ss s listed disk u now is new after at =
-    let at_after = subst (λ (st : Committed). IsCommittedAt may_leave config st disk view ss) after at in
+pub are_listed : (config : Config) (old : Committed) (view : Labels) (ss : List Records) (s : Told) → HasNamed s.files old → AreListed s.files old.listed → (u : Told) → u ≡ committed_told config old view ss s
+    → AreListed u.files (committed_after config old view ss).listed
+are_listed config old view ss s before listed u is =
     let names = named_after config old view ss in
-    subst (λ (st : Committed). AreListed u.files st.listed) (sym after) (record {
-      each = λ n has. named_there may_leave config (committed_after config old view ss) disk view ss at_after u.files (own disk u now) n (in_order_only names n has);
+    record {
+      each = λ n has none. named_stays config old view ss s before n (in_order_only names n has) (sym (ap (λ (t : Told). t.files n) is) ∙ none);
       all = λ n some. left_named config old view ss s listed.all n (λ none. some (ap (λ (t : Told). t.files n) is ∙ none));
       once = in_order_once names;
-    })
+    }

@@ -1,7 +1,7 @@
 -- Stored segments that have given bytes.
-use Rattle.std.proofs.Common.{◌≡◌, ℕ, ◌+◌, ◌<◌, ◌≤◌, Bool, true, false, ◌&&◌, List, [], ◌∷◌, length, drop, get_or, map, Some, None, refl, ap, ◌∙◌, sym, arith}
+use Rattle.std.proofs.Common.{◌≡◌, ℕ, ◌+◌, ◌<◌, ◌≤◌, ◌-◌, Bool, true, false, ◌&&◌, List, [], ◌∷◌, length, take, drop, get_or, map, Some, None, refl, ap, ◌∙◌, sym, arith}
 use Rattle.std.specs.Str.{bytes_eq}
-use Rattle.std.proofs.lemmas.List.{drop_more, drop_all, get_or-map, get_or_default, length-map}
+use Rattle.std.proofs.lemmas.List.{drop_more, drop_all, drop-drop, drop-map, take_all, get_or-map, length-drop, length-map}
 use Rattle.facet_model.specs.Stored.{Records}
 use Rattle.seg_grammar.specs.Spelling.{seg_bytes}
 use Rattle.commit_store.specs.Committed.{Kept}
@@ -16,9 +16,9 @@ module _ {S : Type 0} (f : S → Kept) (ks : List S) (at : ℕ) (k : S) (low : a
   unfolding taken
   taken_more bytes other = rw (drop_more (map f ks) at (f k) (omega (arith, low, length-map ks f)), mapped_at f ks at k low is, other) refl
 
-  pub taken_here : (other : S) (bytes : List ℕ) → bytes_eq (seg_bytes (f k).segment) bytes ≡ true → taken (drop at (map f ks)) bytes ≡ Some ((f (get_or ks at other)).part, drop (at + 1) (map f ks))
+  pub taken_here : (bytes : List ℕ) → bytes_eq (seg_bytes (f k).segment) bytes ≡ true → taken (drop at (map f ks)) bytes ≡ Some ((f k).part, drop (at + 1) (map f ks))
   unfolding taken
-  taken_here other bytes same = rw (sym (is ∙ get_or_default ks at k other low), drop_more (map f ks) at (f k) (omega (arith, low, length-map ks f)), mapped_at f ks at k low is, same) refl
+  taken_here bytes same = rw (drop_more (map f ks) at (f k) (omega (arith, low, length-map ks f)), mapped_at f ks at k low is, same) refl
 
   module _ {T : Type 0} (g : T → Records) (ss : List T) (s : T) (high : at < length ss) (there : s ≡ get_or ss at s) where
     pub same_more : bytes_eq (seg_bytes (f k).segment) (seg_bytes (g s)) ≡ true → are_same (drop (at + 1) (map f ks)) (drop (at + 1) (map g ss)) ≡ are_same (drop at (map f ks)) (drop at (map g ss))
@@ -28,6 +28,14 @@ module _ {S : Type 0} (f : S → Kept) (ks : List S) (at : ℕ) (k : S) (low : a
     pub same_apart : bytes_eq (seg_bytes (f k).segment) (seg_bytes (g s)) ≡ false → are_same (drop at (map f ks)) (drop at (map g ss)) ≡ false
     unfolding are_same
     same_apart other = rw (drop_more (map f ks) at (f k) (omega (arith, low, length-map ks f)), drop_more (map g ss) at (g s) (omega (arith, high, length-map ss g)), mapped_at f ks at k low is, mapped_at g ss at s high there, other) refl
+
+-- the rest of a list from a place on, mapped, and what lies behind a place of it
+module _ {S T : Type 0} (f : S → T) (ks : List S) (from : ℕ) (low : from ≤ length ks) where
+  pub rest_mapped : map f (take (length ks - from) (drop from ks)) ≡ drop from (map f ks)
+  rest_mapped = ap (map f) (take_all (length ks - from) (drop from ks) (omega (arith, length-drop from ks))) ∙ sym (drop-map f from ks)
+
+  pub rest_behind : (ahead : ℕ) → drop (ahead + 1) (map f (take (length ks - from) (drop from ks))) ≡ drop (from + ahead + 1) (map f ks)
+  rest_behind ahead = ap (drop (ahead + 1)) rest_mapped ∙ drop-drop (ahead + 1) from (map f ks) ∙ ap (λ (n : ℕ). drop n (map f ks)) (omega arith)
 
 pub taken_none : (ks : List Kept) (at : ℕ) (bytes : List ℕ) → length ks ≤ at → taken (drop at ks) bytes ≡ None
 unfolding taken

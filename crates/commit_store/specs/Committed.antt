@@ -1,5 +1,5 @@
 -- What is known of the newest commits of a disk.
-use Rattle.std.specs.Prelude.{◌≡◌, ◌≤◌, ◌^◌, ℕ, List, Option, length, map}
+use Rattle.std.specs.Prelude.{◌≡◌, ◌≤◌, ◌<◌, ◌^◌, ℕ, List, Option, length, map}
 use Rattle.std.specs.Arc.{arc_value}
 use Rattle.std.specs.List.{AllByRecursion}
 use Rattle.sha2.specs.Sha256.{sha256}
@@ -30,6 +30,18 @@ pub record Committed : Type 0 where
 abbrev pub kept_view : StoredSegment → Kept
 kept_view s = record { part = s.part; segment = arc_value s.segment }
 
+-- what is known, of stored segments
+abbrev pub committed_of : ℕ → List FileName → Option ℕ → List LabelPart → ℕ → Option ℕ → List StoredSegment → Committed
+committed_of next listed taxonomy label_parts labels index stored = record {
+  next = next;
+  listed = listed;
+  taxonomy = taxonomy;
+  label_parts = label_parts;
+  labels = labels;
+  index = index;
+  kept = map kept_view stored;
+}
+
 -- the segments of a list
 abbrev pub segments_in : List Kept → List Records
 segments_in kept = map (λ k. k.segment) kept
@@ -44,11 +56,13 @@ pub record IsKept (k : Kept) : Type 0 where
   pub documents : k.part.documents ≡ length k.segment.records
   pub digest : k.part.digest ≡ sha256 (seg_bytes k.segment)
 
--- Numbers begin at 1. The segments of labels follow one another from ordinal 1 on, and each segment of documents is named by what it is.
+-- Numbers begin at 1. The segments of labels follow one another from ordinal 1 on, each with one label or more, and each segment of documents is named
+-- by what it is.
 pub record IsCommitted (s : Committed) : Type 0 where
   pub some : 1 ≤ s.next
   pub room : s.next ≤ 2 ^ 63
   pub order : AreInOrder s.labels 1 s.label_parts
+  pub few : length s.label_parts < s.labels
   pub kept : AllByRecursion IsKept s.kept
 
 -- a segment is read from its own bytes

@@ -4,4 +4,6 @@ pub mod Drafts
 pub mod Plannings
 pub mod Committing
 pub mod Openings
+pub mod Committers
+pub mod Promised
 pub mod Results

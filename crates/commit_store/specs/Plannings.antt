@@ -2,7 +2,7 @@
 use Rattle.std.specs.Prelude.{◌≡◌, ◌⊎◌, ◌≤◌, ◌^◌, ℕ, List, [], ◌∷◌, length, map, not, IsTrue, Ok, Some}
 use Rattle.std.specs.Option.{option_map}
 use Rattle.std.specs.List.{AllByRecursion}
-use Rattle.facet_disk.specs.Images.{Image}
+use Rattle.facet_disk.specs.declared.disk.Disk.{Ghosts}
 use Rattle.facet_model.specs.Flags.{Config}
 use Rattle.facet_model.specs.Stored.{Records}
 use Rattle.commit_calls.specs.declared.plan.Plan.{Plan}
@@ -13,6 +13,8 @@ use Rattle.commit_calls.specs.Outcomes.{file_view}
 use Rattle.commit_calls.specs.Plans.{Rises, Leads}
 use Rattle.seg_grammar.specs.Spelling.{seg_bytes}
 use Rattle.store_opening.specs.Files.{labels_of, held_segments, files_of}
+use Rattle.commit_store.specs.declared.fault.CommitFault.{CommitFault}
+use Rattle.commit_store.specs.declared.fault.CommitFault.TheVariants.{NumbersSpent, NoMemory}
 use Rattle.commit_store.specs.Committed.{Committed, segments_in}
 use Rattle.commit_store.specs.Drafts.{drafted, committed_after, strays_after, labels_number, index_number, is_longer, is_index_left_out, segments_next, AreLabelsAgain, IsIndexAgain}
 
@@ -28,10 +30,10 @@ pub record IsKnown (config : Config) (s : Committed) (t i : Held) (labels : List
   pub documents : segments_in s.kept ≡ segments
 
 -- Whatever a crash leaves now are the files of these labels and segments, and this is known of them.
-pub record IsCommittedAt {D : Type 0} (may_leave : D → Image → Type 0) (config : Config) (s : Committed) (disk : D) (labels : List (List (List ℕ))) (segments : List Records) : Type 0 where
+pub record IsCommittedAt {D : Type 0} (disk : Ghosts D) (config : Config) (s : Committed) (now : D) (labels : List (List (List ℕ))) (segments : List Records) : Type 0 where
   pub taxonomy : Held
   pub index : Held
-  pub stands : IsAt may_leave s.next taxonomy index disk
+  pub stands : IsAt disk.may_leave s.next taxonomy index now
   pub known : IsKnown config s taxonomy index labels segments
 
 -- a plan makes the files of a commit of these labels and segments, and removes its strays
@@ -45,6 +47,10 @@ pub record IsPlanOf (config : Config) (old : Committed) (view : List (List (List
   pub index : p.index ≡ index_number old view segments
   pub after : new ≡ committed_after config old view segments
   pub strays : p.strays.items ≡ strays_after config old view segments
+
+-- memory is wanting, or numbers are, of which this is the last
+abbrev pub IsOutOf : ℕ → CommitFault → Type 0
+IsOutOf last e = (e ≡ NoMemory) ⊎ ((e ≡ NumbersSpent last) × (2 ^ 63 ≤ last))
 
 -- what is written is read again
 pub record IsReadAgain (config : Config) (old : Committed) (view : List (List (List ℕ))) (segments : List Records) : Type 0 where

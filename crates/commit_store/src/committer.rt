@@ -1,25 +1,23 @@
-ghost use Rattle.std.specs.Prelude.{◌≡◌, ◌≢◌, ◌<◌, ◌≤◌, ◌+◌, ◌^◌, ◌↔◌, [], ℕ, List, Some, None, Err, length, map, OnOk, IfOk, IfErr, Contains};
+ghost use Rattle.std.specs.Prelude.{◌≡◌, ◌≢◌, ◌≤◌, ◌+◌, ◌^◌, ◌↔◌, [], ℕ, Some, None, Err, length, map, OnOk, IfOk, IfErr};
 ghost use Rattle.std.specs.Arc.{arc_value};
-ghost use Rattle.facet_disk.specs.declared.name.FileName.{FileName as Name};
-ghost use Rattle.facet_disk.specs.Images.{Image, Told};
+ghost use Rattle.std.specs.List.{AllByRecursion};
+ghost use Rattle.facet_disk.specs.Images.{Told};
 ghost use Rattle.facet_disk.specs.Calls.{Rose};
-ghost use Rattle.facet_model.specs.Stored.{Records, Decodes};
-ghost use Rattle.facet_names.specs.Labels.{GoesOn};
+ghost use Rattle.facet_model.specs.Stored.{Decodes};
+ghost use Rattle.facet_names.specs.Labels.{IsLabelList};
 ghost use Rattle.commit_calls.specs.Held.{Below};
-ghost use Rattle.commit_calls.specs.Moments.{LeavesOnly};
 ghost use Rattle.seg_decoding.specs.Decoding.{docs_in, records_in};
-ghost use Rattle.commit_store.specs.declared.fault.CommitFault.TheVariants.{Disk as OfDisk, Closed, NoMemory as Memory, NumbersSpent};
+ghost use Rattle.commit_store.specs.declared.fault.CommitFault.TheVariants.{Disk as OfDisk, Closed, NumbersSpent};
 ghost use Rattle.store_opening.specs.declared.fault.OpenFault.TheVariants.{Disk as FaultOfDisk, NoMemory as NoRoom};
 ghost use Rattle.store_opening.specs.Faults.{IsSound};
 ghost use Rattle.store_opening.specs.Files.{files, greatest_number};
 ghost use Rattle.store_opening.specs.Newest.{AreListed, next_after};
 ghost use Rattle.store_opening.specs.Quiet.{IsQuiet};
 ghost use Rattle.store_opening.specs.Settled.{IsSettled};
-ghost use Rattle.commit_store.specs.Committed.{segments_in};
-ghost use Rattle.commit_store.specs.Committing.{HasFiles, HasOneOfThree};
-ghost use Rattle.commit_store.specs.Drafts.{last_number, committed_after};
-ghost use Rattle.commit_store.specs.Plannings.{IsCommittedAt};
-ghost use Rattle.commit_store.specs.Results.{committed_told, IsCutShort};
+ghost use Rattle.commit_store.specs.Committed.{IsOwn, segments_in};
+ghost use Rattle.commit_store.specs.Committing.{HasFiles};
+ghost use Rattle.commit_store.specs.Drafts.{committed_after};
+ghost use Rattle.commit_store.specs.Promised.{IsHere, OfBoth, PassesThree, LeavesThree, Acknowledges, Settles, TellsCommit, AreAmong, HasNamed, StaysListed, CutsShort, ClosesAt, FailsDevice, last_of, IsSpentAt, IsRefusedAt};
 
 use crate::fault::CommitFault;
 use crate::opening::{NotOpened, Opened, state_of};
@@ -30,20 +28,31 @@ use facet_config::FacetsConfig;
 use facet_disk::Disk;
 use seg_file::Segment;
 use std::alloc::Global;
+use std::marker::Model;
 use std::sync::Arc;
-use store_opening::laws::{of_files, of_settled};
 use store_opening::{OpenFault, Read, read_store};
 use taxo_list::TaxoView;
 
 /// A disk to which commits go. After a fault of the disk it takes no more.
 #[derive(Drop)]
 pub struct Committer<D: Disk> {
-    pub disk: D,
-    pub config: FacetsConfig,
-    pub state: CommitState,
-    /// The count of faults with which a commit ended.
-    pub closed: Option<u64>,
+    disk: D,
+    config: FacetsConfig,
+    state: CommitState,
+    // the count of faults with which a commit ended
+    closed: Option<u64>,
     alloc: Global,
+}
+
+impl<D: Disk> Model for Committer<D> {
+    ghost use Rattle.std.specs.Prelude.{◌≤◌, ◌^◌};
+    ghost use Rattle.commit_store.specs.Committers.{CommitterView};
+
+    ghost Value = { CommitterView D };
+
+    ghost view = { λ c. record { closed = c.closed; config = c.config; state = c.state; disk = c.disk } };
+
+    ghost invariant = { λ c. c.state.next ≤ 2 ^ 63 };
 }
 
 impl<D: Disk> Committer<D> {
@@ -57,8 +66,8 @@ impl<D: Disk> Committer<D> {
         ensures sound { IfErr result (λ n. IsSound n.fault) }
 
         // The disk is as it was.
-        ensures quiet { IfOk result (λ o. IsQuiet D.told D.may_leave D.moment D.left_since D.faults disk o.committer.disk) }
-        ensures not_opened { IfErr result (λ n. IsQuiet D.told D.may_leave D.moment D.left_since D.faults disk n.disk) }
+        ensures quiet { IfOk result (λ o. IsQuiet D.Disk disk o.committer.disk) }
+        ensures not_opened { IfErr result (λ n. IsQuiet D.Disk disk n.disk) }
         ensures still { IfOk result (λ o. D.faults o.committer.disk ≡ D.faults disk) }
         ensures still_not_opened { IfErr result (λ n. n.fault ≢ FaultOfDisk → D.faults n.disk ≡ D.faults disk) }
         ensures unfailed { IfOk result (λ o. D.failures o.committer.disk ≡ D.failures disk) }
@@ -66,19 +75,22 @@ impl<D: Disk> Committer<D> {
         // What is known of the newest commits are these labels and segments.
         ensures kept { IfOk result (λ o. (segments_in o.committer.state.kept ≡ map arc_value o.segments.items) × (o.committer.state.labels ≡ length o.labels)) }
 
-        // Commits go on from it.
+        // Whatever the disk tells, these are a label list, and segments of their documents, which are at most 1,000,000.
+        ensures list { IfOk result (λ o. IsLabelList o.labels) }
         ensures decodes { IfOk result (λ o. Decodes o.labels config (map arc_value o.segments.items) (docs_in o.labels (map arc_value o.segments.items))) }
         ensures few { IfOk result (λ o. length (docs_in o.labels (map arc_value o.segments.items)) ≤ 1000000) }
+        ensures own { IfOk result (λ o. AllByRecursion IsOwn (map arc_value o.segments.items)) }
+        ensures some { IfOk result (λ o. docs_in o.labels (map arc_value o.segments.items) ≡ [] → map arc_value o.segments.items ≡ []) }
+
+        // Commits go on from it.
         ensures unclosed { IfOk result (λ o. (o.committer.closed ≡ None) × (o.committer.config ≡ config)) }
         ensures next { IfOk result (λ o. (s : Told) → D.told disk ≡ Some s → o.committer.state.next ≡ next_after (greatest_number s.files)) }
         ensures fresh { IfOk result (λ o. (s : Told) → D.told disk ≡ Some s → Below o.committer.state.next s.files) }
         ensures listed { IfOk result (λ o. (s : Told) → D.told disk ≡ Some s → AreListed s.files o.committer.state.listed) }
-        ensures committed { IfOk result (λ o. (s : Told) → D.told disk ≡ Some s → IsSettled D.may_leave config s disk
-            → IsCommittedAt D.may_leave config o.committer.state o.committer.disk o.labels (map arc_value o.segments.items)) }
+        ensures named { IfOk result (λ o. (s : Told) → D.told disk ≡ Some s → HasNamed s.files o.committer.state) }
+        ensures committed { IfOk result (λ o. (s : Told) → D.told disk ≡ Some s → IsSettled D.Disk config s disk
+            → IsHere D.Disk config o.committer o.labels (map arc_value o.segments.items)) }
     {
-        // Their clauses are laws.
-        of_settled(&disk);
-        of_files();
         let read = match read_store(alloc, &mut disk, &config) {
             Ok(read) => read,
             Err(fault) => return Err(NotOpened { fault, disk }),
@@ -116,63 +128,51 @@ impl<D: Disk> Committer<D> {
     /// segments are given; strays are removed all the same. It takes all memory before its first call of the disk.
     pub fn commit(&mut self, view: &TaxoView, segments: &[Arc<Segment>]) -> Result<(), CommitFault>
         requires few { length (records_in (map arc_value segments.now)) ≤ 1000000 }
+        requires own { AllByRecursion IsOwn (map arc_value segments.now) }
         requires decodes { Decodes view.now self.old.config (map arc_value segments.now) (docs_in view.now (map arc_value segments.now)) }
 
         // At each moment of it every image has the files of the pair before, of the old segments under the new labels, or of the pair after.
-        ensures any_moment { (s : Told) (labels : List (List (List ℕ))) (old_segments : List Records) → self.old.closed ≡ None → D.told self.old.disk ≡ Some s
-            → IsCommittedAt D.may_leave self.old.config self.old.state self.old.disk labels old_segments → GoesOn labels view.now
-            → LeavesOnly D.moment D.left_since self.old.disk self.new.disk (HasOneOfThree self.old.config labels old_segments view.now (map arc_value segments.now)) }
+        ensures any_moment { self.old.closed ≡ None → PassesThree D.Disk self.old self.new view.now (map arc_value segments.now) }
 
         // And so has every image at its end, whatever it answers.
-        ensures now { (s : Told) (labels : List (List (List ℕ))) (old_segments : List Records) → self.old.closed ≡ None → D.told self.old.disk ≡ Some s
-            → IsCommittedAt D.may_leave self.old.config self.old.state self.old.disk labels old_segments → GoesOn labels view.now
-            → (c : Image) → D.may_leave self.new.disk c → HasOneOfThree self.old.config labels old_segments view.now (map arc_value segments.now) c }
+        ensures now { self.old.closed ≡ None → LeavesThree D.Disk self.old self.new view.now (map arc_value segments.now) }
 
         // After Ok every image has the files of the pair after.
-        ensures acknowledged { OnOk result ((s : Told) (labels : List (List (List ℕ))) (old_segments : List Records) → D.told self.old.disk ≡ Some s
-            → IsCommittedAt D.may_leave self.old.config self.old.state self.old.disk labels old_segments → GoesOn labels view.now
-            → (map arc_value segments.now ≡ [] → old_segments ≡ [])
-            → IsCommittedAt D.may_leave self.new.config self.new.state self.new.disk view.now (map arc_value segments.now)) }
+        ensures acknowledged { OnOk result (Acknowledges D.Disk self.old self.new view.now (map arc_value segments.now)) }
 
         // Then the disk is settled, as whoever opens it next may need.
-        ensures settled { OnOk result ((s u : Told) (labels : List (List (List ℕ))) (old_segments : List Records) → D.told self.old.disk ≡ Some s → D.told self.new.disk ≡ Some u
-            → IsCommittedAt D.may_leave self.old.config self.old.state self.old.disk labels old_segments → GoesOn labels view.now
-            → (map arc_value segments.now ≡ [] → old_segments ≡ [])
-            → IsSettled D.may_leave self.new.config u self.new.disk) }
+        ensures settled { OnOk result (Settles D.Disk self.old self.new view.now (map arc_value segments.now)) }
 
         // After Ok the disk tells what it told, with the files of the commit made, its pending files renamed and its strays removed.
-        ensures told { OnOk result ((s : Told) → D.told self.old.disk ≡ Some s → D.told self.new.disk ≡ Some (committed_told self.old.config self.old.state view.now (map arc_value segments.now) s)) }
+        ensures told { OnOk result (TellsCommit D.Disk self.old self.new view.now (map arc_value segments.now)) }
         ensures state { OnOk result (self.new.state ≡ committed_after self.old.config self.old.state view.now (map arc_value segments.now)) }
 
-        // What is left are the newest commit files and the segments that they name, where the files before were those listed; and each of these is there.
-        ensures cleaned { OnOk result ((s u : Told) → D.told self.old.disk ≡ Some s → D.told self.new.disk ≡ Some u → ((n : Name) → s.files n ≢ None → Contains self.old.state.listed n)
-            → (n : Name) → u.files n ≢ None → Contains self.new.state.listed n) }
-        ensures listed { OnOk result ((s u : Told) (labels : List (List (List ℕ))) (old_segments : List Records) → D.told self.old.disk ≡ Some s → D.told self.new.disk ≡ Some u
-            → IsCommittedAt D.may_leave self.old.config self.old.state self.old.disk labels old_segments → GoesOn labels view.now
-            → (map arc_value segments.now ≡ [] → old_segments ≡ [])
-            → AreListed s.files self.old.state.listed → AreListed u.files self.new.state.listed) }
+        // What is left are the newest commit files and the segments that they name, where the files before were those listed; and each of these is there,
+        // where each of those before was.
+        ensures cleaned { OnOk result (OfBoth D.Disk self.old.disk self.new.disk (λ s u.
+            AreAmong s.files self.old.state.listed → AreAmong u.files self.new.state.listed)) }
+        ensures listed { OnOk result (StaysListed D.Disk self.old self.new) }
+        ensures named { OnOk result (OfBoth D.Disk self.old.disk self.new.disk (λ s u. HasNamed s.files self.old.state → HasNamed u.files self.new.state)) }
 
         // Where a fault ends it, it has removed strays in their order alone, and none before all else was done.
-        ensures cut_short { IfErr result (λ e. (count : ℕ) → e ≡ OfDisk count → (s : Told) → D.told self.old.disk ≡ Some s
-            → IsCutShort self.old.config self.old.state view.now (map arc_value segments.now) s (D.told self.new.disk)) }
+        ensures cut_short { IfErr result (λ e. (count : ℕ) → e ≡ OfDisk count → CutsShort D.Disk self.old self.new view.now (map arc_value segments.now)) }
 
-        ensures fresh { OnOk result ((s u : Told) → D.told self.old.disk ≡ Some s → D.told self.new.disk ≡ Some u → Below self.old.state.next s.files → Below self.new.state.next u.files) }
+        ensures fresh { OnOk result (OfBoth D.Disk self.old.disk self.new.disk (λ s u. Below self.old.state.next s.files → Below self.new.state.next u.files)) }
 
         // What is known stays where it fails.
         ensures known { IfErr result (λ _. self.new.state ≡ self.old.state) }
         ensures refused { IfErr result (λ e. ((count : ℕ) → e ≢ OfDisk count) → self.new ≡ self.old) }
-        ensures disk { IfErr result (λ e. (count : ℕ) → e ≡ OfDisk count → Rose (D.faults self.old.disk) (D.faults self.new.disk) × (count ≡ D.faults self.new.disk) × (self.new.closed ≡ Some count)) }
+        ensures disk { IfErr result (λ e. (count : ℕ) → e ≡ OfDisk count → ClosesAt D.Disk self.old self.new count) }
 
         // No call of it is bound to be refused, where what is known of the files is true of those that the disk tells: then the device failed.
-        ensures failed { IfErr result (λ e. (count : ℕ) → e ≡ OfDisk count → (s : Told) → D.told self.old.disk ≡ Some s → AreListed s.files self.old.state.listed → Below self.old.state.next s.files
-            → Rose (D.failures self.old.disk) (D.failures self.new.disk)) }
+        ensures failed { IfErr result (λ e. (count : ℕ) → e ≡ OfDisk count → FailsDevice D.Disk self.old self.new) }
         ensures unfailed { OnOk result (D.failures self.new.disk ≡ D.failures self.old.disk) }
 
         ensures closed { (count : ℕ) → (self.old.closed ≡ Some count) ↔ (result ≡ Err (Closed count)) }
-        ensures spent { IfErr result (λ e. (number : ℕ) → e ≡ NumbersSpent number → (number ≡ last_number self.old.config self.old.state view.now (map arc_value segments.now)) × (2 ^ 63 ≤ number) × (number < self.old.state.next + 1000003)) }
-        ensures unspent { self.old.closed ≡ None → 2 ^ 63 ≤ last_number self.old.config self.old.state view.now (map arc_value segments.now)
-            → IfErr result (λ e. e ≢ Memory → e ≡ NumbersSpent (last_number self.old.config self.old.state view.now (map arc_value segments.now))) × OnOk result ⊥ }
-        ensures tells { OnOk result ((s : Told) → D.told self.old.disk ≡ Some s → (u : Told) × (D.told self.new.disk ≡ Some u)) }
+        ensures spent { IfErr result (λ e. (number : ℕ) → e ≡ NumbersSpent number
+            → IsSpentAt self.old.state.next (last_of self.old view.now (map arc_value segments.now)) number) }
+        ensures unspent { self.old.closed ≡ None → IsRefusedAt (last_of self.old view.now (map arc_value segments.now)) result }
+        ensures tells { (s : Told) → D.told self.old.disk ≡ Some s → (u : Told) × (D.told self.new.disk ≡ Some u) }
         ensures open { OnOk result ((self.old.closed ≡ None) × (self.new.closed ≡ None)) }
         ensures later { D.faults self.old.disk ≤ D.faults self.new.disk }
         ensures still { OnOk result (D.faults self.new.disk ≡ D.faults self.old.disk) }
@@ -180,12 +180,9 @@ impl<D: Disk> Committer<D> {
         ensures takes { (self.old.state.next ≤ self.new.state.next) × (self.new.state.next ≤ self.old.state.next + 1000003) }
         ensures config { self.new.config ≡ self.old.config }
     {
-        // Its clause bounds the numbers before.
-        self.state.has_room();
         if let Some(count) = self.closed {
             return Err(CommitFault::Closed { count });
         }
-        of_files();
         let planned = plan_commit(self.alloc, &self.config, &self.state, view, segments)?;
         if carry_out(&mut self.disk, &planned.plan).is_err() {
             let count = self.disk.fault_count();

@@ -2,19 +2,18 @@ ghost use Rattle.std.specs.Prelude.{◌≡◌, ◌≤◌, ◌<◌, ◌+◌, ◌^
 ghost use Rattle.std.specs.Arc.{arc_value};
 ghost use Rattle.std.specs.List.{AllByRecursion};
 ghost use Rattle.seg_decoding.specs.Decoding.{records_in};
-ghost use Rattle.commit_store.specs.Committed.{IsKept, kept_view, parts_in};
+ghost use Rattle.commit_store.specs.Committed.{IsKept, IsOwn, kept_view, parts_in};
 ghost use Rattle.commit_store.specs.Drafts.{placed, with_index, is_index_left_out, index_drafted, index_number_from, kept_from, IsIndexAgain};
 
 use crate::draft::Draft;
 use crate::matching::are_same;
-use crate::placing::{Placing, look_at};
+use crate::placing::Placing;
 use crate::state::{CommitState, StoredSegment};
 use commit_file::{DocumentPart, write_index_commit};
 use facet_config::FacetsConfig;
 use facet_disk::{Dir, Kind};
 use facet_names::NoMemory;
 use seg_file::Segment;
-use seg_grammar::laws::of_segment;
 use std::alloc::Global;
 use std::sync::Arc;
 
@@ -63,6 +62,7 @@ fn draft_new_index(
 ) -> Result<IndexDraft, NoMemory>
     requires segments { 0 < length segments.now }
     requires few { length (records_in (map arc_value segments.now)) ≤ 1000000 }
+    requires own { AllByRecursion IsOwn (map arc_value segments.now) }
     requires some { 0 < draft.next }
     requires room { draft.next ≤ 2 ^ 63 + 2 }
     ensures draft { IfOk result (λ r. r.draft ≡ with_index config.now needs (placed state.now (map arc_value segments.now) draft)) }
@@ -71,9 +71,6 @@ fn draft_new_index(
     ensures again { IfOk result (λ _. IsIndexAgain config.now needs (placed state.now (map arc_value segments.now) draft)) }
     ensures are { IfOk result (λ r. AllByRecursion IsKept (map kept_view r.kept.items)) }
 {
-    // Their clauses say that these are segments, and that bytes are one segment's alone.
-    look_at(segments);
-    of_segment();
     let mut placing = Placing::new(alloc, &state.stored, draft);
     placing.place_all(segments)?;
     let (mut draft, kept) = placing.finish();
@@ -98,12 +95,14 @@ pub(crate) fn draft_index(
     draft: Draft,
 ) -> Result<IndexDraft, NoMemory>
     requires few { length (records_in (map arc_value segments.now)) ≤ 1000000 }
+    requires own { AllByRecursion IsOwn (map arc_value segments.now) }
     requires some { 0 < draft.next }
     requires room { draft.next ≤ 2 ^ 63 + 2 }
     ensures draft { IfOk result (λ r. r.draft ≡ index_drafted config.now needs state.now (map arc_value segments.now) draft) }
     ensures commit { IfOk result (λ r. r.commit ≡ index_number_from draft state.now (map arc_value segments.now)) }
     ensures kept { IfOk result (λ r. map kept_view r.kept.items ≡ kept_from draft state.now (map arc_value segments.now)) }
-    ensures again { IfOk result (λ _. IsTrue (not (is_index_left_out state.now (map arc_value segments.now))) → IsIndexAgain config.now needs (placed state.now (map arc_value segments.now) draft)) }
+    ensures again { IfOk result (λ _. IsTrue (not (is_index_left_out state.now (map arc_value segments.now)))
+        → IsIndexAgain config.now needs (placed state.now (map arc_value segments.now) draft)) }
     ensures are { IfOk result (λ r. AllByRecursion IsKept (map kept_view r.kept.items)) }
 {
     if segments.is_empty() || are_same(&state.stored, segments) {

@@ -31,7 +31,7 @@ fn with_new_part(
     requires longer { state.now.labels < length view.now }
     requires bytes { bytes.now ≡ labels_bytes view.now state.now.labels }
     ensures parts { IfOk result (λ parts. parts.items ≡ label_parts_with number state.now view.now) }
-    ensures few { IfOk result (λ parts. length parts.items < 2 ^ 32) }
+    ensures few { IfOk result (λ parts. length parts.items < length view.now) }
 {
     let first = state.labels;
     let part = LabelPart {
@@ -42,9 +42,6 @@ fn with_new_part(
     };
     let mut parts = Vec::from_slice(alloc, &state.label_parts)?;
     parts.push(part)?;
-    if parts.len() > u32::MAX as usize {
-        return Err(NoMemory);
-    }
     Ok(parts)
 }
 
@@ -63,6 +60,7 @@ fn draft_new_labels(
     ensures count { IfOk result (λ r. r.labels ≡ length view.now) }
     ensures parts { IfOk result (λ r. r.parts.items ≡ label_parts_with draft.old.next state.now view.now) }
     ensures order { IfOk result (λ r. AreInOrder (length view.now) 1 r.parts.items) }
+    ensures few { IfOk result (λ r. length r.parts.items < length view.now) }
     ensures again { OnOk result (AreLabelsAgain state.now view.now draft.old.next) }
 {
     let first = state.labels;
@@ -95,6 +93,7 @@ pub(crate) fn draft_labels(
     ensures count { IfOk result (λ r. r.labels ≡ labels_after state.now view.now) }
     ensures parts { IfOk result (λ r. r.parts.items ≡ label_parts_from draft.old.next state.now view.now) }
     ensures order { IfOk result (λ r. AreInOrder (labels_after state.now view.now) 1 r.parts.items) }
+    ensures few { IfOk result (λ r. length r.parts.items < labels_after state.now view.now) }
     ensures again { OnOk result (IsTrue (is_longer state.now view.now) → AreLabelsAgain state.now view.now draft.old.next) }
 {
     if state.labels < view.size() {

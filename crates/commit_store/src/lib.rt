@@ -6,7 +6,6 @@ mod documents;
 mod draft;
 mod fault;
 mod labels;
-mod laws;
 mod matching;
 mod names;
 mod opening;

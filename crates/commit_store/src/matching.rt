@@ -28,9 +28,10 @@ pub(crate) fn take_same(
     ensures within { IfSome result (λ found. found.1 ≤ length stored.now) }
     ensures taken { taken (drop from (map kept_view stored.now)) bytes.now ≡ option_map (λ found. (found.0, drop found.1 (map kept_view stored.now))) result }
 {
-    for at in from..stored.len() {
-        if has_bytes(&stored[at].segment, bytes) {
-            return Some((stored[at].part, at + 1));
+    let rest = &stored[from..];
+    for (ahead, kept) in rest.iter().enumerate() {
+        if has_bytes(&kept.segment, bytes) {
+            return Some((kept.part, from + ahead + 1));
         }
     }
     None
@@ -43,8 +44,8 @@ pub(crate) fn are_same(stored: &[StoredSegment], segments: &[Arc<Segment>]) -> b
     if stored.len() != segments.len() {
         return false;
     }
-    for at in 0..stored.len() {
-        if !has_bytes(&stored[at].segment, segments[at].bytes()) {
+    for (at, kept) in stored.iter().enumerate() {
+        if !has_bytes(&kept.segment, segments[at].bytes()) {
             return false;
         }
     }

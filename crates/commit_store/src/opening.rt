@@ -1,4 +1,4 @@
-ghost use Rattle.std.specs.Prelude.{◌≡◌, ◌≤◌, ◌^◌, ◌++◌, ◌∷◌, [], length, map, IfOk, OnOk};
+ghost use Rattle.std.specs.Prelude.{◌≡◌, ◌≤◌, ◌<◌, ◌^◌, ◌++◌, ◌∷◌, [], length, map, IfOk, OnOk};
 ghost use Rattle.std.specs.Arc.{arc_value};
 ghost use Rattle.std.specs.List.{AllZip};
 ghost use Rattle.commit_file.specs.Commits.{AreInOrder};
@@ -7,7 +7,6 @@ ghost use Rattle.commit_store.specs.Committed.{kept_view};
 ghost use Rattle.commit_store.specs.Openings.{committed_read, kept_by};
 
 use crate::committer::Committer;
-use crate::placing::look_at;
 use crate::state::{CommitState, StoredSegment};
 use commit_file::DocumentPart;
 use facet_config::FacetsConfig;
@@ -57,8 +56,8 @@ fn stored_segments(
     ensures { IfOk result (λ stored. map kept_view stored.items ≡ kept_by parts.now (map arc_value segments.now)) }
 {
     let mut stored = Vec::new(alloc);
-    for at in 0..parts.len() {
-        push_stored(&mut stored, parts[at], &segments[at])?;
+    for (at, part) in parts.iter().enumerate() {
+        push_stored(&mut stored, *part, &segments[at])?;
     }
     Ok(stored)
 }
@@ -74,12 +73,11 @@ pub(crate) fn state_of(
     requires some { 1 ≤ newest.next }
     requires room { newest.next ≤ 2 ^ 63 }
     requires order { AreInOrder (length labels.now) 1 newest.label_parts.items }
+    requires many { length newest.label_parts.items < length labels.now }
     requires named { AllZip (IsNamedAs config.now labels.now) newest.document_parts.items (map arc_value segments.now) }
     ensures { IfOk result (λ state. state ≡ committed_read newest labels.now (map arc_value segments.now)) }
 {
     let _ = config;
-    // Its clause says that these are segments.
-    look_at(segments);
     let stored = stored_segments(alloc, &newest.document_parts, segments)?;
     Ok(CommitState {
         next: newest.next,

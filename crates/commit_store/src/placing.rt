@@ -1,7 +1,6 @@
 ghost use Rattle.std.specs.Prelude.{◌≡◌, ◌<◌, ◌+◌, ◌-◌, ◌^◌, ◌++◌, ◌∷◌, [], fold, length, map, None, OnOk};
 ghost use Rattle.std.specs.Arc.{arc_value};
-ghost use Rattle.std.specs.List.{AllByRecursion};
-ghost use Rattle.commit_store.specs.Committed.{IsOwn, kept_view};
+ghost use Rattle.commit_store.specs.Committed.{kept_view};
 ghost use Rattle.commit_store.specs.Drafts.{place, placed_by};
 
 use crate::draft::Draft;
@@ -35,15 +34,6 @@ impl<'a> Model for Placing<'a> {
     ghost view = { λ p. record { draft = p.draft; behind = drop p.behind (map kept_view p.stored.now); kept = map kept_view p.kept.items } };
 
     ghost invariant = { λ p. p.behind ≤ length p.stored.now };
-}
-
-// What is true of each segment: its bytes are one.
-pub(crate) fn look_at(segments: &[Arc<Segment>])
-    ensures { AllByRecursion IsOwn (map arc_value segments.now) }
-{
-    for segment in segments {
-        let _ = segment.docs();
-    }
 }
 
 impl<'a> Placing<'a> {

@@ -1,4 +1,4 @@
-ghost use Rattle.std.specs.Prelude.{◌≡◌, ◌⊎◌, ◌<◌, ◌≤◌, ◌+◌, ◌^◌, ℕ, length, map, IfOk, IfErr};
+ghost use Rattle.std.specs.Prelude.{◌≡◌, ◌<◌, ◌≤◌, ◌+◌, ◌^◌, ℕ, length, map, IfOk, IfErr};
 ghost use Rattle.std.specs.Arc.{arc_value};
 ghost use Rattle.std.specs.List.{AllByRecursion};
 ghost use Rattle.std.specs.Option.{option_or};
@@ -7,19 +7,17 @@ ghost use Rattle.commit_calls.specs.Plans.{IsPlan, Rises};
 ghost use Rattle.facet_model.specs.Stored.{Decodes};
 ghost use Rattle.commit_file.specs.Commits.{AreInOrder};
 ghost use Rattle.seg_decoding.specs.Decoding.{records_in, docs_in};
-ghost use Rattle.commit_store.specs.declared.fault.CommitFault.TheVariants.{NumbersSpent, NoMemory as Memory};
-ghost use Rattle.commit_store.specs.Committed.{IsKept, kept_view};
+ghost use Rattle.commit_store.specs.declared.fault.CommitFault.TheVariants.{NumbersSpent};
+ghost use Rattle.commit_store.specs.Committed.{IsKept, IsOwn, kept_view};
 ghost use Rattle.commit_store.specs.Drafts.{last_number, committed_by};
 ghost use Rattle.commit_store.specs.Strays.{strays};
-ghost use Rattle.commit_store.specs.Plannings.{IsPlanOf, IsReadAgain, LeadsOn};
+ghost use Rattle.commit_store.specs.Plannings.{IsPlanOf, IsReadAgain, IsOutOf, LeadsOn};
 
 use crate::documents::{IndexDraft, draft_index};
 use crate::draft::Draft;
 use crate::fault::CommitFault;
 use crate::labels::{LabelsDraft, draft_labels};
-use crate::laws::of_laws;
 use crate::names::{in_order, named_files, names_of, strays};
-use crate::placing::look_at;
 use crate::state::CommitState;
 use commit_calls::Plan;
 use facet_config::FacetsConfig;
@@ -47,6 +45,7 @@ fn join_parts(
     index: IndexDraft,
 ) -> Result<Planned, NoMemory>
     requires order { AreInOrder labels.labels 1 labels.parts.items }
+    requires few { length labels.parts.items < labels.labels }
     requires kept { AllByRecursion IsKept (map kept_view index.kept.items) }
     requires some { 1 ≤ index.draft.next }
     requires room { index.draft.next ≤ 2 ^ 63 }
@@ -55,7 +54,8 @@ fn join_parts(
     ensures rises { IfOk result (λ p. (p.plan.from ≤ p.plan.to) × Rises p.plan.from p.plan.to p.plan.writes.items) }
     ensures parts { IfOk result (λ p. (p.plan.taxonomy ≡ labels.commit) × (p.plan.index ≡ index.commit)) }
     ensures strays { IfOk result (λ p. p.plan.strays.items ≡ strays state.now.listed p.after.listed) }
-    ensures after { IfOk result (λ p. p.after ≡ committed_by (option_or labels.commit state.now.taxonomy) labels.parts.items labels.labels (option_or index.commit state.now.index) (map kept_view index.kept.items) index.draft.next) }
+    ensures after { IfOk result (λ p. p.after ≡ committed_by (option_or labels.commit state.now.taxonomy) labels.parts.items labels.labels
+        (option_or index.commit state.now.index) (map kept_view index.kept.items) index.draft.next) }
 {
     let taxonomy = labels.commit.or(state.taxonomy);
     let newest = index.commit.or(state.index);
@@ -87,6 +87,7 @@ pub(crate) fn plan_commit(
     segments: &[Arc<Segment>],
 ) -> Result<Planned, CommitFault>
     requires few { length (records_in (map arc_value segments.now)) ≤ 1000000 }
+    requires own { AllByRecursion IsOwn (map arc_value segments.now) }
     requires decodes { Decodes view.now config.now (map arc_value segments.now) (docs_in view.now (map arc_value segments.now)) }
     ensures is_plan { IfOk result (λ p. IsPlan p.plan) }
     ensures leads { IfOk result (λ p. LeadsOn config.now state.now p.plan p.after view.now (map arc_value segments.now)) }
@@ -94,12 +95,8 @@ pub(crate) fn plan_commit(
     ensures plan { IfOk result (λ p. IsPlanOf config.now state.now view.now (map arc_value segments.now) p.plan p.after) }
     ensures again { IfOk result (λ _. IsReadAgain config.now state.now view.now (map arc_value segments.now)) }
     ensures bound { IfErr result (λ e. (number : ℕ) → e ≡ NumbersSpent number → number < state.now.next + 1000003) }
-    ensures err { IfErr result (λ e. (e ≡ Memory)
-        ⊎ ((e ≡ NumbersSpent (last_number config.now state.now view.now (map arc_value segments.now))) × (2 ^ 63 ≤ last_number config.now state.now view.now (map arc_value segments.now)))) }
+    ensures err { IfErr result (IsOutOf (last_number config.now state.now view.now (map arc_value segments.now))) }
 {
-    // Their clauses are laws, and that these are segments.
-    of_laws();
-    look_at(segments);
     let mut draft = Draft::new(alloc, state.next);
     let labels = draft_labels(alloc, state, view, &mut draft)?;
     let index = draft_index(alloc, config, view.size(), state, segments, draft)?;

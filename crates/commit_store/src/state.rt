@@ -28,23 +28,11 @@ pub struct CommitState {
 }
 
 impl Model for CommitState {
-    ghost use Rattle.std.specs.Prelude.{map};
-    ghost use Rattle.commit_store.specs.Committed.{Committed, IsCommitted, kept_view};
+    ghost use Rattle.commit_store.specs.Committed.{Committed, IsCommitted, committed_of};
 
     ghost Value = { Committed };
 
-    ghost view = { λ s. record { next = s.next; listed = s.listed.items; taxonomy = s.taxonomy; label_parts = s.label_parts.items; labels = s.labels; index = s.index; kept = map kept_view s.stored.items } };
+    ghost view = { λ s. committed_of s.next s.listed.items s.taxonomy s.label_parts.items s.labels s.index s.stored.items };
 
-    ghost invariant = { λ s. IsCommitted (record { next = s.next; listed = s.listed.items; taxonomy = s.taxonomy; label_parts = s.label_parts.items; labels = s.labels; index = s.index; kept = map kept_view s.stored.items }) };
-}
-
-impl CommitState {
-    ghost use Rattle.std.specs.Prelude.{◌≤◌, ◌^◌};
-
-    // The bound that each state keeps.
-    pub(crate) fn has_room(&self)
-        ensures { self.now.next ≤ 2 ^ 63 }
-    {
-        let _next = self.next;
-    }
+    ghost invariant = { λ s. IsCommitted (committed_of s.next s.listed.items s.taxonomy s.label_parts.items s.labels s.index s.stored.items) };
 }

@@ -1,5 +1,5 @@
 -- Looking a dimension up in the map, and in the list of declarations.
-use Rattle.std.proofs.Common.{◌≡◌, ℕ, Bool, true, false, List, [], ◌∷◌, ◌++◌, Option, Some, None, String, string_bytes, Global, is_some, refl, ap, ◌∙◌, map, slice_get}
+use Rattle.std.proofs.Common.{◌≡◌, ℕ, Bool, true, false, List, [], ◌∷◌, ◌++◌, Option, Some, None, String, string_bytes, Global, is_some, refl, ap, sym, subst, ◌∙◌, map, slice_get, zero, suc}
 use Rattle.std.specs.Prelude.{option_map}
 use Rattle.std.proofs.lemmas.Option.{slice_get-map}
 use Rattle.std.specs.Map.{lookup}
@@ -8,7 +8,7 @@ use Rattle.std.specs.Option.{option_map_or}
 use Rattle.std.specs.Str.{bytes_eq}
 use Rattle.facet_model.specs.declared.flags.DimFlags.{DimFlags}
 use Rattle.facet_model.specs.Flags.{Config, flags, no_flags}
-use Rattle.facet_config.specs.Declarations.{declarations}
+use Rattle.facet_config.specs.Declarations.{declarations, AreDimensions, IsDimension}
 
 abbrev Entry : Type 0
 Entry = String Global × DimFlags
@@ -63,3 +63,25 @@ name_at es at e is =
     let named : Entry → List ℕ × DimFlags = λ e. (string_bytes e.0, e.1) in
     let name : List ℕ × DimFlags → List ℕ = λ d. d.0 in
     slice_get-map name (declarations es) at ∙ ap (option_map name) (slice_get-map named es at ∙ ap (option_map named) is)
+
+-- ---- the names
+
+named_push : (config : Config) (d : List ℕ × DimFlags) → IsDimension d.0 → AreDimensions config → AreDimensions (config ++ d ∷ [])
+named_push [] d is all = (is, tt)
+named_push (e ∷ es) d is all = (all.0, named_push es d is all.1)
+
+pub named_more : (es new : List Entry) (key : String Global) (f : DimFlags) (dim : List ℕ) → string_bytes key ≡ dim → new ≡ es ++ (key, f) ∷ [] → IsDimension dim → AreDimensions (declarations es) → AreDimensions (declarations new)
+named_more es new key f dim is made fits all = subst AreDimensions (sym (one_more es new key f dim is made)) (named_push (declarations es) (dim, f) fits all)
+
+named_at : (config : Config) (at : ℕ) (d : List ℕ × DimFlags) → AreDimensions config → slice_get config at ≡ Some d → IsDimension d.0
+named_at [] at d all there = absurd cc
+named_at (e ∷ es) zero d all there = by cc
+  where
+    by : e ≡ d → IsDimension d.0
+    by h = subst (λ (x : List ℕ × DimFlags). IsDimension x.0) h all.0
+named_at (e ∷ es) (suc at) d all there = named_at es at d all.1 there
+
+pub named_in : (es : List Entry) (at : ℕ) (e : Entry) (name : List ℕ) → AreDimensions (declarations es) → slice_get es at ≡ Some e → name ≡ string_bytes e.0 → IsDimension name
+named_in es at e name all there is =
+    let named : Entry → List ℕ × DimFlags = λ e. (string_bytes e.0, e.1) in
+    subst IsDimension (sym is) (named_at (declarations es) at (named e) all (slice_get-map named es at ∙ ap (option_map named) there))

@@ -2,6 +2,7 @@ ghost use Rattle.std.specs.Prelude.{◌≡◌, ◌≢◌, ◌<◌, ◌++◌, [],
 ghost use Rattle.std.specs.List.{list_any};
 ghost use Rattle.std.specs.Str.{bytes_eq};
 ghost use Rattle.facet_model.specs.Flags.{flags};
+ghost use Rattle.facet_config.specs.Declarations.{AreDimensions, IsDimension};
 ghost use Rattle.facet_config.specs.Faults.{declare_fault};
 
 use crate::fault::DeclareFault;
@@ -21,11 +22,13 @@ pub struct FacetsConfig {
 
 impl Model for FacetsConfig {
     ghost use Rattle.facet_model.specs.Flags.{Config};
-    ghost use Rattle.facet_config.specs.Declarations.{declarations};
+    ghost use Rattle.facet_config.specs.Declarations.{declarations, AreDimensions};
 
     ghost Value = { Config };
 
     ghost view = { λ c. declarations c.dims.entries };
+
+    ghost invariant = { λ c. AreDimensions (declarations c.dims.entries) };
 }
 
 impl FacetsConfig {
@@ -81,9 +84,10 @@ impl FacetsConfig {
         Ok(())
     }
 
-    /// How many dimensions are declared.
+    /// How many dimensions are declared. Each has a name of 1 to 1,024 bytes.
     pub fn len(&self) -> usize
-        ensures { result ≡ length self.now }
+        ensures is { result ≡ length self.now }
+        ensures named { AreDimensions self.now }
     {
         self.dims.len()
     }
@@ -91,7 +95,8 @@ impl FacetsConfig {
     /// The dimension that was declared at a place, from 0, with its flags. It takes no memory.
     pub fn declared(&self, at: usize) -> (&str, DimFlags)
         requires { at < length self.now }
-        ensures { slice_get self.now at ≡ Some (result.0.now, result.1) }
+        ensures is { slice_get self.now at ≡ Some (result.0.now, result.1) }
+        ensures named { IsDimension result.0.now }
     {
         let (name, flags) = self.dims.get_index(at).unwrap();
         (name.as_str(), *flags)

@@ -1,6 +1,7 @@
 //! Where two configs differ.
 ghost use Rattle.std.specs.Prelude.{◌≡◌, ℕ, List, map, fold, option_map, IfSome, IfNone};
 ghost use Rattle.facet_model.specs.Flags.{flags};
+ghost use Rattle.facet_config.specs.Declarations.{IsDimension};
 ghost use Rattle.facet_config.specs.Differences.{IsFirstDifference, first_different, is_different, nearer};
 
 use crate::config::FacetsConfig;
@@ -12,6 +13,7 @@ impl FacetsConfig {
         ensures is { option_map (λ s. s.now) result ≡ first_different self.now other.now }
         ensures none { IfNone result ((dim : List ℕ) → flags self.now dim ≡ flags other.now dim) }
         ensures first { IfSome result (λ d. IsFirstDifference self.now other.now d.now) }
+        ensures named { IfSome result (λ d. IsDimension d.now) }
     {
         let own = self.first_different(self, other, None);
         other.first_different(self, other, own)
@@ -24,7 +26,9 @@ impl FacetsConfig {
         other: &FacetsConfig,
         before: Option<&'a str>,
     ) -> Option<&'a str>
-        ensures { option_map (λ s. s.now) result ≡ fold (nearer one.now other.now) (option_map (λ s. s.now) before.entry) (map (λ d. d.0) self.now) }
+        requires { IfSome before (λ d. IsDimension d.now) }
+        ensures is { option_map (λ s. s.now) result ≡ fold (nearer one.now other.now) (option_map (λ s. s.now) before.entry) (map (λ d. d.0) self.now) }
+        ensures named { IfSome result (λ d. IsDimension d.now) }
     {
         let mut first = before;
         for at in 0..self.len() {
@@ -52,7 +56,10 @@ fn nearer<'a>(
     first: Option<&'a str>,
     dim: &'a str,
 ) -> Option<&'a str>
-    ensures { option_map (λ s. s.now) result ≡ nearer one.now other.now (option_map (λ s. s.now) first.entry) dim.now }
+    requires first { IfSome first (λ d. IsDimension d.now) }
+    requires dim { IsDimension dim.now }
+    ensures is { option_map (λ s. s.now) result ≡ nearer one.now other.now (option_map (λ s. s.now) first.entry) dim.now }
+    ensures named { IfSome result (λ d. IsDimension d.now) }
 {
     if !is_different(one, other, dim) {
         return first;

@@ -4,6 +4,7 @@
 mod calls;
 mod failed;
 mod memory;
+mod retrying;
 mod sink;
 mod source;
 mod standard;
@@ -11,6 +12,7 @@ mod standard;
 pub use calls::Calls;
 pub use failed::Failed;
 pub use memory::{MemorySink, MemorySource};
+pub use retrying::{read_retrying, write_retrying};
 pub use sink::{Sink, write_all};
 pub use source::{ReadFault, Source, read_to_end};
 pub use standard::{StdSink, StdSource};

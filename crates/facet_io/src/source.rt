@@ -49,8 +49,8 @@ pub fn read_to_end<S: Source>(
     ensures within { IfOk result (λ v. length v.items ≤ limit) }
 
     // Whatever the answer, at most one byte more than the limit was read; at TooLong just so many.
-    ensures taken { (bytes : List ℕ) × (length bytes ≤ limit + 1) × Consumes (S.left source.old) (S.left source.new) bytes }
-    ensures too_long { IsErrOf result ReadFault.TooLong → (bytes : List ℕ) × (length bytes ≡ limit + 1) × Consumes (S.left source.old) (S.left source.new) bytes }
+    ensures taken { (bs : List ℕ) × (length bs ≤ limit + 1) × Consumes (S.left source.old) (S.left source.new) bs }
+    ensures too_long { IsErrOf result ReadFault.TooLong → (bs : List ℕ) × (length bs ≡ limit + 1) × Consumes (S.left source.old) (S.left source.new) bs }
     ensures cause { CountsFaults (S.faults source.old) (S.faults source.new) (IsErrOf result ReadFault.Failed) }
 {
     let mut bytes = Vec::new(alloc);

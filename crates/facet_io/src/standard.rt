@@ -1,9 +1,10 @@
 use crate::failed::Failed;
+use crate::retrying::{read_retrying, write_retrying};
 use crate::sink::Sink;
 use crate::source::Source;
 use std::io::{Read, Write};
 
-/// A reader of the standard library as a source. Each error that it answers is a fault, whatever its kind.
+/// A reader of the standard library as a source. A read that a signal interrupts is tried again; each other error is a fault.
 #[derive(Drop)]
 pub struct StdSource<R: Read + Drop> {
     reader: R,
@@ -27,7 +28,7 @@ impl<R: Read + Drop> Source for StdSource<R> {
     ghost faults = { λ s. s.faults };
 
     fn read(&mut self, into: &mut [u8]) -> Result<usize, Failed> {
-        match self.reader.read(into) {
+        match read_retrying(&mut self.reader, into) {
             Ok(count) => Ok(count),
             Err(_) => {
                 self.faults = self.faults.saturating_add(1);
@@ -37,7 +38,7 @@ impl<R: Read + Drop> Source for StdSource<R> {
     }
 }
 
-/// A writer of the standard library as a sink. Each error that it answers is a fault, whatever its kind, and so is a
+/// A writer of the standard library as a sink. A write that a signal interrupts is tried again; each other error is a fault, and so is a
 /// write that takes nothing.
 #[derive(Drop)]
 pub struct StdSink<W: Write + Drop> {
@@ -62,7 +63,7 @@ impl<W: Write + Drop> Sink for StdSink<W> {
     ghost faults = { λ s. s.faults };
 
     fn write(&mut self, piece: &[u8]) -> Result<usize, Failed> {
-        match self.writer.write(piece) {
+        match write_retrying(&mut self.writer, piece) {
             Ok(0) | Err(_) => {
                 self.faults = self.faults.saturating_add(1);
                 Err(Failed)

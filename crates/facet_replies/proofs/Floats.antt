@@ -1,18 +1,25 @@
 -- No reply and no fault has a float.
-use Rattle.std.proofs.Common.{◌≡◌, ℕ, false, List, [], ◌∷◌, map, Some, None, refl}
-use Rattle.std.specs.Prelude.{ℤ, pos, negsuc}
-use Rattle.serde_json.specs.Data.{string}
+use Rattle.std.proofs.Common.{◌≡◌, ℕ, Bool, true, false, List, [], ◌∷◌, map, Some, None, refl}
+use Rattle.std.specs.Borrow.{Bor}
+use Rattle.std.specs.Cmp.Lexicographic.{slice_cmp}
+use Rattle.std.proofs.Common.{Ordering, Less, Equal, Greater}
+use Rattle.std.specs.Ordering.{nat_cmp, match_ordering}
+use Rattle.std.specs.Prelude.{◌||◌, ℤ, pos, negsuc, codes}
+use Rattle.hex.specs.Hex.{encode_lower}
+use Rattle.serde_json.specs.Data.{Data, string, Members, no_members, member, put}
 use Rattle.serde_json.specs.Find.{of_integer, is_float}
 use Rattle.serde_json.specs.View.{items_of}
-use Rattle.serde_json.specs.Written.{has_float, items_have_float}
+use Rattle.serde_json.specs.Written.{has_float, items_have_float, members_have_float}
 use Rattle.facet_model.specs.Listing.{PartCount}
 use Rattle.facet_model.specs.Results.{Listed, Answer, top_answer, value_answer, dims_answer}
 use Rattle.facet_model.specs.Accepts.{no_component, not_hierarchical, not_multi_valued}
 use Rattle.facet_replies.specs.declared.fault.ScriptFault.{ScriptFault}
 use Rattle.facet_replies.specs.declared.fault.ScriptFault.TheVariants as faults
 use Rattle.facet_replies.specs.Replies.{broken, labels_full, docs_full, top_zero, dim_value_not_kept, no_such_document, disk_failed, closed, numbers_spent, no_memory, Reply, placed, numbered, found, shown, stats, refused}
-use Rattle.facet_replies.specs.ReplyLines.{whole_data, path_data, child_data, listed_data, value_data, dims_data, answer_data, hit_data, reply_data, fault_data}
-use Rattle.facet_replies.specs.StoreLines.{Unopened, missing, damaged, malformed, uncovered, spent, other_config, unopened_data}
+use Rattle.facet_replies.specs.ReplyLines.{with_fields, whole_data, path_data, child_data, listed_data, value_data, dims_data, answer_data, hit_data, reply_data, fault_data}
+use Rattle.facet_replies.specs.NamedFaults.{detail_field, named_fault_data}
+use Rattle.facet_replies.specs.declared.named_fault.Detail.{Detail}
+use Rattle.facet_replies.specs.declared.named_fault.Detail.TheVariants.{Text, Number, Digest}
 
 children_plain : (cs : List PartCount) → items_have_float (items_of (map child_data cs)) ≡ false
 children_plain [] = refl
@@ -90,11 +97,30 @@ fault_plain (faults.BadSession line) = refl
 fault_plain faults.NoConfigFirst = refl
 fault_plain faults.NoMemory = refl
 
-pub unopened_plain : (why : Unopened) → has_float (unopened_data why) ≡ false
-unfolding unopened_data
-unopened_plain (missing file) = refl
-unopened_plain (damaged file kept digest) = refl
-unopened_plain (malformed file at) = refl
-unopened_plain (uncovered needs has) = refl
-unopened_plain (spent number) = refl
-unopened_plain (other_config dim) = refl
+-- ---- a fault with details
+
+or_false : (a b : Bool) → (a || b) ≡ false → (a ≡ false) × (b ≡ false)
+or_false true b e = absurd cc
+or_false false b e = (refl, e)
+
+put_plain : (k : List ℕ) (d : Data) (ms : Members) → has_float d ≡ false → members_have_float ms ≡ false → members_have_float (put k d ms) ≡ false
+put_plain k d no_members plain none = rw plain refl
+put_plain k d (member l e ms) plain none =
+    let parts = or_false (has_float e) (members_have_float ms) none in
+    by parts (put_plain k d ms plain parts.1) (slice_cmp nat_cmp k l)
+  where
+    by : (has_float e ≡ false) × (members_have_float ms ≡ false) → members_have_float (put k d ms) ≡ false → (o : Ordering)
+        → members_have_float (match_ordering o (member k d (member l e ms)) (member l d ms) (member l e (put k d ms))) ≡ false
+    by parts later Less = rw (plain, parts.0, parts.1) refl
+    by parts later Equal = rw (plain, parts.1) refl
+    by parts later Greater = rw (parts.0, later) refl
+
+details_plain : (ms : Members) (details : List (Bor (List ℕ) × Detail)) → members_have_float ms ≡ false → members_have_float (with_fields ms (map detail_field details)) ≡ false
+details_plain ms [] none = none
+details_plain ms ((key, Text text) ∷ ds) none = details_plain (put key.now (string text.now) ms) ds (put_plain key.now (string text.now) ms refl none)
+details_plain ms ((key, Number n) ∷ ds) none = details_plain (put key.now (whole_data n) ms) ds (put_plain key.now (whole_data n) ms refl none)
+details_plain ms ((key, Digest digest) ∷ ds) none = details_plain (put key.now (string (encode_lower digest)) ms) ds (put_plain key.now (string (encode_lower digest)) ms refl none)
+
+pub named_plain : (name : List ℕ) (details : List (Bor (List ℕ) × Detail)) → has_float (named_fault_data name (map detail_field details)) ≡ false
+unfolding named_fault_data
+named_plain name details = details_plain (member (codes "fault") (string name) no_members) details refl

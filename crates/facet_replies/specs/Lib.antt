@@ -1,5 +1,4 @@
 pub mod Replies
 pub mod ReplyViews
 pub mod ReplyLines
-pub mod StoreLines
-pub mod StoreViews
+pub mod NamedFaults

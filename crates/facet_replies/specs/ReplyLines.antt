@@ -16,10 +16,14 @@ use Rattle.facet_replies.specs.Replies.{Refusal, broken, labels_full, docs_full,
 abbrev pub Fields : Type 0
 Fields = List (List ℕ × Data)
 
+-- members, and then these keys, put in one after the other
+abbrev pub with_fields : Members → Fields → Members
+with_fields ms [] = ms
+with_fields ms (f ∷ fs) = with_fields (put f.0 f.1 ms) fs
+
 -- the members with these keys, in the order of the keys' bytes
 abbrev pub members : Fields → Members
-members [] = no_members
-members (f ∷ fs) = put f.0 f.1 (members fs)
+members fs = with_fields no_members fs
 
 abbrev pub fields : Fields → Data
 fields fs = object (members fs)

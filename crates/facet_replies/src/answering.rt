@@ -65,9 +65,10 @@ fn counts_fields(
     path: Value,
     value: i64,
 ) -> Result<Value, AllocError>
-    ensures { IfOk result (λ v. view v ≡ fields ((codes "child_count", whole_data child_count) ∷ (codes "children", view children) ∷ (codes "path", view path) ∷ (codes "value", number (of_integer value)) ∷ [])) }
+    ensures { IfOk result (λ v. view v ≡ fields ((codes "child_count", whole_data child_count) ∷ (codes "children", view children)
+        ∷ (codes "path", view path) ∷ (codes "value", number (of_integer value)) ∷ [])) }
 {
-    json!(in alloc; {"value": value, "path": path, "children": children, "child_count": child_count})
+    json!(in alloc; {"child_count": child_count, "children": children, "path": path, "value": value})
 }
 
 #[tactic(auto, unfolding(crate::specs::ReplyLines::listed_data))]
@@ -99,7 +100,7 @@ impl ToValue for FacetResult {
 fn specific_fields(alloc: Global, path: Value, value: i64) -> Result<Value, AllocError>
     ensures { IfOk result (λ v. view v ≡ fields ((codes "path", view path) ∷ (codes "value", number (of_integer value)) ∷ [])) }
 {
-    json!(in alloc; {"value": value, "path": path})
+    json!(in alloc; {"path": path, "value": value})
 }
 
 #[tactic(auto, unfolding(crate::specs::ReplyLines::value_data))]

@@ -3,13 +3,13 @@
 
 mod answering;
 mod fault;
+mod named_fault;
 mod refusing;
 mod reply;
-mod store_fault;
 mod values;
 mod writing;
 
 pub use fault::ScriptFault;
+pub use named_fault::{Detail, write_named_fault};
 pub use reply::{HitLine, Refusal, Reply};
-pub use store_fault::{StoreFault, write_store_fault};
 pub use writing::{write_fault, write_reply};

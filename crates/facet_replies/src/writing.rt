@@ -1,15 +1,14 @@
-ghost use Rattle.std.specs.Prelude.{◌≡◌, ◌++◌, ◌∷◌, [], IfOk, OnOk, OnErr, false, string_bytes, map, codes};
-ghost use Rattle.serde_json.specs.Data.{string};
+ghost use Rattle.std.specs.Prelude.{◌≡◌, ◌++◌, IfOk, OnOk, OnErr, false, string_bytes, map};
 ghost use Rattle.serde_json.specs.View.{view, members_view};
 ghost use Rattle.serde_json.specs.Written.{has_float};
 ghost use Rattle.facet_model.specs.ResultViews.{answer_view};
 ghost use Rattle.facet_replies.specs.Replies.{found, shown, stats};
-ghost use Rattle.facet_replies.specs.ReplyLines.{members, fields, whole_data, list_data, hit_data, document_fields as fields_of_document, reply_fields as fields_of_reply, reply_data, json_line, reply_line, at_line, fault_data, fault_line};
+ghost use Rattle.facet_replies.specs.ReplyLines.{with_fields, fields, whole_data, list_data, hit_data, document_fields, reply_fields as fields_of_reply, reply_data, json_line, reply_line, at_line, fault_data, fault_line};
 ghost use Rattle.facet_replies.specs.ReplyViews.{hit_view, reply_view};
 
 use crate::answering::{answers_value, paths_value};
 use crate::fault::ScriptFault;
-use crate::refusing::refusal_fields;
+use crate::refusing::{put_refusal, put_text};
 use crate::reply::{HitLine, Reply};
 use crate::values::{ToValue, list_value};
 use facet_model::{Document, FacetAnswer};
@@ -21,7 +20,7 @@ use std::alloc::{AllocError, Global};
 fn hit_value(alloc: Global, hit: &HitLine) -> Result<Value, NoMemory>
     ensures { IfOk result (λ v. view v ≡ hit_data (hit_view hit.now)) }
 {
-    Ok(json!(in alloc; {"id": hit.id.text(), "at": hit.at})?)
+    Ok(json!(in alloc; {"at": hit.at, "id": hit.id.text()})?)
 }
 
 impl ToValue for HitLine {
@@ -52,136 +51,106 @@ fn ordinals_value(alloc: Global, ordinals: &[u32]) -> Result<Value, NoMemory>
     list_value(alloc, ordinals)
 }
 
-fn number_fields(alloc: Global, key: &str, number: u64) -> Result<Map<String, Value>, AllocError>
-    ensures { IfOk result (λ m. members_view m.entries ≡ members ((key.now, whole_data number) ∷ [])) }
-{
-    let mut fields = Map::new(alloc);
-    put(&mut fields, alloc, key, Value::from(number))?;
-    Ok(fields)
-}
-
-fn found_fields(
+fn put_found(
     alloc: Global,
+    fields: &mut Map<String, Value>,
     n: u64,
     hit_count: u64,
     hits: &[HitLine],
     results: &[FacetAnswer],
-) -> Result<Map<String, Value>, NoMemory>
-    ensures { IfOk result (λ m. members_view m.entries ≡ members (fields_of_reply (found (record { operations = n; hit_count = hit_count; hits = map hit_view hits.now; answers = map answer_view results.now })))) }
+) -> Result<(), NoMemory>
+    ensures { OnOk result (members_view fields.new.entries ≡ with_fields (members_view fields.old.entries)
+        (fields_of_reply (found (record { operations = n; hit_count = hit_count; hits = map hit_view hits.now; answers = map answer_view results.now })))) }
 {
-    let mut fields = Map::new(alloc);
-    put(
-        &mut fields,
-        alloc,
-        "results",
-        answers_value(alloc, results)?,
-    )?;
-    put(&mut fields, alloc, "hits", hits_value(alloc, hits)?)?;
-    put(&mut fields, alloc, "hit_count", Value::from(hit_count))?;
-    put(&mut fields, alloc, "n", Value::from(n))?;
-    Ok(fields)
+    put(fields, alloc, "n", Value::from(n))?;
+    put(fields, alloc, "hit_count", Value::from(hit_count))?;
+    put(fields, alloc, "hits", hits_value(alloc, hits)?)?;
+    put(fields, alloc, "results", answers_value(alloc, results)?)?;
+    Ok(())
 }
 
-fn document_fields(
+fn put_document(
     alloc: Global,
+    fields: &mut Map<String, Value>,
     doc: &Document,
     ordinals: &[u32],
-) -> Result<Map<String, Value>, NoMemory>
-    ensures { IfOk result (λ m. members_view m.entries ≡ members (fields_of_document doc.now ordinals.now)) }
+) -> Result<(), NoMemory>
+    ensures { OnOk result (members_view fields.new.entries ≡ with_fields (members_view fields.old.entries) (document_fields doc.now ordinals.now)) }
 {
-    let mut fields = Map::new(alloc);
-    put(
-        &mut fields,
-        alloc,
-        "ordinals",
-        ordinals_value(alloc, ordinals)?,
-    )?;
-    put(
-        &mut fields,
-        alloc,
-        "labels",
-        paths_value(alloc, doc.facets())?,
-    )?;
-    put(
-        &mut fields,
-        alloc,
-        "text",
-        Value::try_from_str(alloc, doc.text())?,
-    )?;
-    put(
-        &mut fields,
-        alloc,
-        "id",
-        Value::try_from_str(alloc, doc.id())?,
-    )?;
-    Ok(fields)
+    put_text(alloc, fields, "id", doc.id())?;
+    put_text(alloc, fields, "text", doc.text())?;
+    put(fields, alloc, "labels", paths_value(alloc, doc.facets())?)?;
+    put(fields, alloc, "ordinals", ordinals_value(alloc, ordinals)?)?;
+    Ok(())
 }
 
-fn shown_fields(
+fn put_shown(
     alloc: Global,
+    fields: &mut Map<String, Value>,
     n: u64,
     at: u32,
     doc: &Document,
     ordinals: &[u32],
-) -> Result<Map<String, Value>, NoMemory>
-    ensures { IfOk result (λ m. members_view m.entries ≡ members (fields_of_reply (shown (record { operations = n; at = at; doc = doc.now; ordinals = ordinals.now })))) }
+) -> Result<(), NoMemory>
+    ensures { OnOk result (members_view fields.new.entries ≡ with_fields (members_view fields.old.entries)
+        (fields_of_reply (shown (record { operations = n; at = at; doc = doc.now; ordinals = ordinals.now })))) }
 {
-    let mut fields = document_fields(alloc, doc, ordinals)?;
-    put(&mut fields, alloc, "at", Value::from(at))?;
-    put(&mut fields, alloc, "n", Value::from(n))?;
-    Ok(fields)
+    put(fields, alloc, "n", Value::from(n))?;
+    put(fields, alloc, "at", Value::from(at))?;
+    put_document(alloc, fields, doc, ordinals)
 }
 
-fn stats_fields(
+fn put_stats(
     alloc: Global,
+    fields: &mut Map<String, Value>,
     n: u64,
     labels: u32,
     documents: u32,
-) -> Result<Map<String, Value>, AllocError>
-    ensures { IfOk result (λ m. members_view m.entries ≡ members (fields_of_reply (stats (record { operations = n; labels = labels; documents = documents })))) }
+) -> Result<(), AllocError>
+    ensures { OnOk result (members_view fields.new.entries ≡ with_fields (members_view fields.old.entries)
+        (fields_of_reply (stats (record { operations = n; labels = labels; documents = documents })))) }
 {
-    let mut fields = Map::new(alloc);
-    put(&mut fields, alloc, "documents", Value::from(documents))?;
-    put(&mut fields, alloc, "labels", Value::from(labels))?;
-    put(&mut fields, alloc, "n", Value::from(n))?;
-    Ok(fields)
+    put(fields, alloc, "n", Value::from(n))?;
+    put(fields, alloc, "labels", Value::from(labels))?;
+    put(fields, alloc, "documents", Value::from(documents))
 }
 
-// What it has besides its line and its session. The fields are put from the last to the first, as their definition puts them.
-fn reply_fields(alloc: Global, reply: &Reply) -> Result<Map<String, Value>, NoMemory>
-    ensures { IfOk result (λ m. members_view m.entries ≡ members (fields_of_reply (reply_view reply.now))) }
+// What it has besides its line and its session.
+fn put_reply(alloc: Global, fields: &mut Map<String, Value>, reply: &Reply) -> Result<(), NoMemory>
+    ensures { OnOk result (members_view fields.new.entries ≡ with_fields (members_view fields.old.entries) (fields_of_reply (reply_view reply.now))) }
 {
     match reply {
-        Reply::Placed { at } => Ok(number_fields(alloc, "at", *at)?),
-        Reply::Number { n } => Ok(number_fields(alloc, "n", *n)?),
+        Reply::Placed { at } => Ok(put(fields, alloc, "at", Value::from(*at))?),
+        Reply::Number { n } => Ok(put(fields, alloc, "n", Value::from(*n))?),
         Reply::Found {
             n,
             hit_count,
             hits,
             results,
-        } => found_fields(alloc, *n, *hit_count, hits, results),
+        } => put_found(alloc, fields, *n, *hit_count, hits, results),
         Reply::Shown {
             n,
             at,
             doc,
             ordinals,
-        } => shown_fields(alloc, *n, *at, doc, ordinals),
+        } => put_shown(alloc, fields, *n, *at, doc, ordinals),
         Reply::Stats {
             n,
             labels,
             documents,
-        } => Ok(stats_fields(alloc, *n, *labels, *documents)?),
-        Reply::Refused(refusal) => Ok(refusal_fields(alloc, *refusal)?),
+        } => Ok(put_stats(alloc, fields, *n, *labels, *documents)?),
+        Reply::Refused(refusal) => Ok(put_refusal(alloc, fields, *refusal)?),
     }
 }
 
 #[tactic(auto, unfolding(crate::specs::ReplyLines::reply_data))]
-fn reply_value(alloc: Global, session: u32, line: u32, reply: &Reply) -> Result<Value, NoMemory>
+fn reply_value(alloc: Global, session: u32, line: u64, reply: &Reply) -> Result<Value, NoMemory>
     ensures { IfOk result (λ v. view v ≡ reply_data session line (reply_view reply.now)) }
 {
-    let mut fields = reply_fields(alloc, reply)?;
-    put(&mut fields, alloc, "s", Value::from(session))?;
+    let mut fields = Map::new(alloc);
     put(&mut fields, alloc, "line", Value::from(line))?;
+    put(&mut fields, alloc, "s", Value::from(session))?;
+    put_reply(alloc, &mut fields, reply)?;
     Ok(Value::Object(fields))
 }
 
@@ -201,7 +170,7 @@ pub fn write_reply(
     alloc: Global,
     out: &mut Vec<u8>,
     session: u32,
-    line: u32,
+    line: u64,
     reply: &Reply,
 ) -> Result<(), NoMemory>
     ensures ok { OnOk result (out.new.items ≡ out.old.items ++ reply_line session line (reply_view reply.now)) }
@@ -216,7 +185,7 @@ pub fn write_reply(
 fn fault_at_value(alloc: Global, fault: &str, line: u64) -> Result<Value, AllocError>
     ensures { IfOk result (λ v. view v ≡ fields (at_line fault.now line)) }
 {
-    json!(in alloc; {"line": line, "fault": fault})
+    json!(in alloc; {"fault": fault, "line": line})
 }
 
 #[tactic(auto, unfolding(crate::specs::ReplyLines::fault_data))]

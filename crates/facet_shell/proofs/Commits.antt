@@ -18,6 +18,10 @@ pub none_unless : (o : Option ℕ) → ((count : ℕ) → o ≡ Some count → �
 none_unless None not = refl
 none_unless (Some count) not = absurd (not count refl)
 
+-- what is committed, by the labels and segments that those stand for
+pub committed_by : (config : Config) (old new : Committed) (labels labels' : List (List (List ℕ))) (segments segments' : List Records) → new ≡ committed_after config old labels segments → labels ≡ labels' → segments ≡ segments' → new ≡ committed_after config old labels' segments'
+committed_by config old new labels labels' segments segments' is same_labels same_segments = is ∙ (λ i. committed_after config old (same_labels i) (same_segments i))
+
 -- segments that go on from others go on from those before them
 pub follow_on : (a b c : List Records) → FollowOn a b → FollowOn b c → FollowOn a c
 follow_on a b c one two = (one.0 ++ two.0, two.1 ∙ ap (λ (ss : List Records). ss ++ two.0) one.1 ∙ append_assoc a one.0 two.0)

@@ -5,6 +5,9 @@ pub mod Searched
 pub mod Stored
 pub mod Keeping
 pub mod Growth
+pub mod Stores
+pub mod Alike
+pub mod Reopened
 pub mod Storied
 pub mod Commits
 pub mod Going

@@ -9,3 +9,4 @@ pub mod Statuses
 pub mod Searching
 pub mod Runs
 pub mod Serving
+pub mod Laws

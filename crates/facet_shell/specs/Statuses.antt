@@ -1,7 +1,7 @@
 -- The statuses of a run: their numbers, and the lines that tell of faults.
 use Rattle.std.specs.Prelude.{ℕ, List, [], ◌∷◌, ◌++◌, codes}
 use Rattle.facet_disk.specs.FileNames.{name_text}
-use Rattle.facet_replies.specs.StoreLines.{unopened_line, missing, damaged, malformed, uncovered, spent, other_config}
+use Rattle.facet_replies.specs.NamedFaults.{text_field, number_field, digest_field, named_fault_line}
 use Rattle.store_opening.specs.declared.fault.OpenFault.{OpenFault}
 use Rattle.store_opening.specs.declared.fault.OpenFault.TheVariants as faults
 use Rattle.facet_shell.specs.declared.status.Status.{Status}
@@ -47,10 +47,11 @@ fault_status faults.NoMemory = NoMemory
 -- the line that tells why a store was not opened
 abbrev pub open_line : OpenFault → List ℕ
 open_line faults.Disk = status_line DiskFault
-open_line (faults.Missing name) = unopened_line (missing (name_text name))
-open_line (faults.Damaged name kept digest) = unopened_line (damaged (name_text name) kept digest)
-open_line (faults.Malformed name at) = unopened_line (malformed (name_text name) at)
-open_line (faults.Uncovered needs has) = unopened_line (uncovered needs has)
-open_line (faults.NumbersSpent greatest) = unopened_line (spent greatest)
-open_line (faults.OtherConfig dim) = unopened_line (other_config dim)
+open_line (faults.Missing name) = named_fault_line (codes "missing") (text_field (codes "file") (name_text name) ∷ [])
+open_line (faults.Damaged name kept digest) =
+    named_fault_line (codes "damaged") (text_field (codes "file") (name_text name) ∷ digest_field (codes "kept") kept ∷ digest_field (codes "found") digest ∷ [])
+open_line (faults.Malformed name at) = named_fault_line (codes "malformed") (text_field (codes "file") (name_text name) ∷ number_field (codes "at") at ∷ [])
+open_line (faults.Uncovered needs has) = named_fault_line (codes "uncovered") (number_field (codes "needs") needs ∷ number_field (codes "has") has ∷ [])
+open_line (faults.NumbersSpent greatest) = named_fault_line (codes "numbers_spent") (number_field (codes "number") greatest ∷ [])
+open_line (faults.OtherConfig dim) = named_fault_line (codes "other_config") (text_field (codes "dim") dim ∷ [])
 open_line faults.NoMemory = status_line NoMemory

@@ -11,7 +11,7 @@ ghost use Rattle.facet_words.specs.Commands.{add as add_command};
 ghost use Rattle.facet_replies.specs.Replies.{broken, placed, refused, no_memory};
 ghost use Rattle.facet_replies.specs.ReplyViews.{refusal_view, reply_view};
 ghost use Rattle.seg_decoding.specs.Entries.{AreEntries, IsShort, docs_of};
-ghost use Rattle.facet_shell.specs.Entries.{IsPlaced};
+ghost use Rattle.facet_shell.specs.Entries.{IsKeptBehind, IsPlacedBehind, WhereResolved, adding_shelf};
 ghost use Rattle.facet_shell.specs.Growing.{leaf_of};
 
 use crate::labels::add_labels;
@@ -36,7 +36,7 @@ fn refusal_of(fault: DocFault) -> Refusal
 // Keeps an entry behind these and those that are stored.
 fn keep(stored: usize, entries: &mut Vec<Entry>, entry: Entry) -> Reply
     requires { stored + length entries.old.items ≤ 1000000 }
-    ensures kept { ((entries.new.items ≡ entries.old.items ++ entry ∷ []) × (reply_view result ≡ placed (stored + length entries.old.items))) ⊎ ((entries.new.items ≡ entries.old.items) × (reply_view result ≡ refused no_memory)) }
+    ensures kept { IsKeptBehind stored entries.old.items entry entries.new.items (reply_view result) }
 {
     let at = (stored + entries.len()) as u64;
     match entries.push(entry) {
@@ -67,16 +67,15 @@ fn entry_of(
     doc: Document,
     resolved: &[Resolved],
 ) -> Result<Entry, NoMemory>
+    requires facets { length doc.labels ≤ 256 }
     requires as_long { AreAsLong doc.labels resolved.now }
     requires short { All IsShort doc.labels }
+    requires known { (labels : List (List (List ℕ))) × IsLabelList labels × AreResolved labels doc.labels resolved.now }
     ensures doc { IfOk result (λ e. e.doc ≡ doc) }
-    ensures entry { IfOk result (λ e. (labels : List (List (List ℕ))) → IsLabelList labels → AreResolved labels doc.labels resolved.now → Accepts settings.now.config doc → AreEntries settings.now.config labels (e ∷ [])) }
+    ensures entry { IfOk result (λ e. WhereResolved settings.now.config doc resolved.now (λ labels. AreEntries settings.now.config labels (e ∷ []))) }
 {
-    // Their clauses say that the facets are few, and that the ordinals rise.
-    let _ = doc.facets();
     let leaves = leaves_of(alloc, resolved)?;
     let counted = settings.config.expand(alloc, &doc, resolved)?;
-    let _ = counted.ords();
     Ok(Entry {
         doc,
         leaves,
@@ -93,12 +92,15 @@ fn place(
     doc: Document,
     resolved: &[Resolved],
 ) -> Reply
+    requires facets { length doc.labels ≤ 256 }
     requires as_long { AreAsLong doc.labels resolved.now }
     requires short { All IsShort doc.labels }
+    requires known { (labels : List (List (List ℕ))) × IsLabelList labels × AreResolved labels doc.labels resolved.now }
     requires few { stored + length entries.old.items ≤ 1000000 }
-    ensures placed { (docs : List Doc) → length docs ≡ stored → IsPlaced settings.now.max_docs (docs ++ docs_of entries.old.items) doc (docs ++ docs_of entries.new.items) (length entries.old.items) (length entries.new.items) (reply_view result) }
+    ensures placed { IsPlacedBehind stored settings.now.max_docs entries.old.items doc entries.new.items (reply_view result) }
     ensures few { stored + length entries.new.items ≤ 1000000 }
-    ensures entries { (labels : List (List (List ℕ))) → IsLabelList labels → AreResolved labels doc.labels resolved.now → Accepts settings.now.config doc → AreEntries settings.now.config labels entries.old.items → AreEntries settings.now.config labels entries.new.items }
+    ensures entries { WhereResolved settings.now.config doc resolved.now (λ labels.
+        AreEntries settings.now.config labels entries.old.items → AreEntries settings.now.config labels entries.new.items) }
 {
     let count = stored + entries.len();
     if count >= settings.max_docs as usize {
@@ -122,11 +124,13 @@ pub fn add(
     entries: &mut Vec<Entry>,
     doc: Document,
 ) -> Reply
+    requires list { IsLabelList labels.old }
     requires few { stored + length entries.old.items ≤ 1000000 }
     requires entries { AreEntries settings.now.config labels.old entries.old.items }
     ensures right { (docs : List Doc) (taken taken_labels segments : ℕ) (store : Store) → length docs ≡ stored
-        → RightReply (settings_view settings.now) (record { labels = labels.old; docs = docs ++ docs_of entries.old.items; taken = taken; taken_labels = taken_labels; segments = segments; waiting = length entries.old.items; store = store })
-        (add_command doc) (reply_view result) (record { labels = labels.new; docs = docs ++ docs_of entries.new.items; taken = taken; taken_labels = taken_labels; segments = segments; waiting = length entries.new.items; store = store }) }
+        → RightReply (settings_view settings.now) (adding_shelf labels.old docs entries.old.items taken taken_labels segments store)
+        (add_command doc) (reply_view result) (adding_shelf labels.new docs entries.new.items taken taken_labels segments store) }
+    ensures list { IsLabelList labels.new }
     ensures goes_on { GoesOn labels.old labels.new }
     ensures entries { AreEntries settings.now.config labels.new entries.new.items }
     ensures few { stored + length entries.new.items ≤ 1000000 }
@@ -137,9 +141,7 @@ pub fn add(
     }
     // An opened list may be longer than the limit of these settings.
     let limit = settings.max_labels.max(labels.size());
-    let added = add_labels(alloc, labels, doc.facets(), limit);
-    let _ = labels.size();
-    match added {
+    match add_labels(alloc, labels, doc.facets(), limit) {
         Ok(resolved) => place(alloc, settings, stored, entries, doc, &resolved),
         Err(TaxoFault::LabelsFull { size }) => Reply::Refused(Refusal::LabelsFull { size }),
         Err(TaxoFault::NoMemory) => Reply::Refused(Refusal::NoMemory),

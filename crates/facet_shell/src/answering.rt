@@ -1,7 +1,7 @@
 ghost use Rattle.std.specs.Prelude.{◌≡◌, map};
 ghost use Rattle.facet_words.specs.CommandViews.{order_view};
-ghost use Rattle.facet_shell.specs.Answering.{Answered};
-ghost use Rattle.facet_shell.specs.Sessions.{GoesOnFrom, shelf_of, store_of};
+ghost use Rattle.facet_shell.specs.Answering.{AnsweredBy};
+ghost use Rattle.facet_shell.specs.Sessions.{GoesOnFrom};
 
 use crate::committing::step;
 use crate::session::Session;
@@ -20,7 +20,7 @@ pub fn answer_all<D: Disk>(
 ) -> Result<Vec<u8>, NoMemory>
     requires config { committer.old.config ≡ session.old.settings.config }
     requires goes_on { GoesOnFrom committer.old.state session.old }
-    ensures answered { Answered D.told D.may_leave D.moment D.left_since session.old.settings (map order_view orders.items) (shelf_of session.old (store_of committer.old.closed committer.old.state (D.faults committer.old.disk))) (shelf_of session.new (store_of committer.new.closed committer.new.state (D.faults committer.new.disk))) committer.old.config committer.old.state committer.new.state committer.old.disk committer.new.disk result }
+    ensures answered { AnsweredBy D.Disk (map order_view orders.items) session.old committer.old session.new committer.new result }
     ensures config { committer.new.config ≡ committer.old.config }
 {
     let mut out = Vec::new(alloc);

@@ -1,40 +1,35 @@
-ghost use Rattle.std.specs.Prelude.{◌≡◌, ◌≤◌, ℕ, List, Some, max};
-ghost use Rattle.facet_disk.specs.Images.{Told};
+ghost use Rattle.std.specs.Prelude.{◌≡◌, ◌≤◌, ℕ, List};
 ghost use Rattle.facet_model.specs.Stored.{Records};
 ghost use Rattle.seg_decoding.specs.Decoding.{docs_in};
 ghost use Rattle.commit_store.specs.Drafts.{last_number};
 ghost use Rattle.facet_replies.specs.Replies.{refused, numbers_spent};
-ghost use Rattle.facet_words.specs.Answers.{RightReply, Shelf, durable_by};
 ghost use Rattle.facet_words.specs.CommandViews.{command_view};
 ghost use Rattle.facet_words.specs.Commands.{commit as commit_command};
 ghost use Rattle.facet_replies.specs.ReplyViews.{reply_view};
-ghost use Rattle.facet_shell.specs.Sessions.{GoesOnFrom, shelf_of, store_of};
-ghost use Rattle.facet_shell.specs.Stories.{IsStory};
+ghost use Rattle.facet_shell.specs.Sessions.{GoesOnFrom, RightOver};
+ghost use Rattle.facet_shell.specs.Stories.{StoryGoesOn};
 
 use crate::session::Session;
 use commit_store::{CommitFault, Committer};
 use facet_disk::Disk;
 use facet_words::{Command, Refusal, Reply};
 use sideways::SearchAsk;
-use store_opening::laws::of_files;
-use taxo_list::Labelled;
 
 /// Makes all documents and labels durable, and answers it.
 pub fn commit<D: Disk>(session: &mut Session, committer: &mut Committer<D>) -> Reply
     requires config { committer.old.config ≡ session.old.settings.config }
     requires goes_on { GoesOnFrom committer.old.state session.old }
-    ensures right { RightReply session.old.settings (shelf_of session.old (store_of committer.old.closed committer.old.state (D.faults committer.old.disk))) commit_command (reply_view result) (shelf_of session.new (store_of committer.new.closed committer.new.state (D.faults committer.new.disk))) }
+    ensures right { RightOver D.Disk session.old committer.old commit_command (reply_view result) session.new committer.new }
 
     // Where numbers are spent, the number told is the last one that the commit of all documents would have taken.
-    ensures spent { (number : ℕ) → reply_view result ≡ refused (numbers_spent number) → (segments : List Records) × (docs_in session.new.labels segments ≡ session.new.docs)
+    ensures spent { (number : ℕ) → reply_view result ≡ refused (numbers_spent number) → (segments : List Records)
+        × (docs_in session.new.labels segments ≡ session.new.docs)
         × (number ≡ last_number committer.old.config committer.old.state session.new.labels segments) }
 
     ensures same { session.new.settings ≡ session.old.settings }
     ensures config { committer.new.config ≡ committer.old.config }
     ensures goes_on { GoesOnFrom committer.new.state session.new }
-    ensures story { (opened : Shelf) (start : D) (durable : ℕ)
-        → IsStory D.told D.may_leave D.moment D.left_since opened start (shelf_of session.old (store_of committer.old.closed committer.old.state (D.faults committer.old.disk))) durable committer.old.config committer.old.state committer.old.disk
-        → IsStory D.told D.may_leave D.moment D.left_since opened start (shelf_of session.new (store_of committer.new.closed committer.new.state (D.faults committer.new.disk))) (max durable (durable_by commit_command (reply_view result))) committer.new.config committer.new.state committer.new.disk }
+    ensures story { StoryGoesOn D.Disk session.old committer.old commit_command (reply_view result) session.new committer.new }
 {
     let Ok(()) = session.flush() else {
         return Reply::Refused(Refusal::NoMemory);
@@ -42,9 +37,6 @@ pub fn commit<D: Disk>(session: &mut Session, committer: &mut Committer<D>) -> R
     let Ok(view) = session.labels() else {
         return Reply::Refused(Refusal::NoMemory);
     };
-    // Their clauses say that these are a label list, and what files stand for.
-    let _ = view.size();
-    of_files();
     match committer.commit(&view, session.segments()) {
         Ok(()) => Reply::Number {
             n: session.documents(),
@@ -62,13 +54,11 @@ pub fn commit<D: Disk>(session: &mut Session, committer: &mut Committer<D>) -> R
 pub fn step<D: Disk>(session: &mut Session, committer: &mut Committer<D>, command: Command) -> Reply
     requires config { committer.old.config ≡ session.old.settings.config }
     requires goes_on { GoesOnFrom committer.old.state session.old }
-    ensures right { RightReply session.old.settings (shelf_of session.old (store_of committer.old.closed committer.old.state (D.faults committer.old.disk))) (command_view command) (reply_view result) (shelf_of session.new (store_of committer.new.closed committer.new.state (D.faults committer.new.disk))) }
+    ensures right { RightOver D.Disk session.old committer.old (command_view command) (reply_view result) session.new committer.new }
     ensures same { session.new.settings ≡ session.old.settings }
     ensures config { committer.new.config ≡ committer.old.config }
     ensures goes_on { GoesOnFrom committer.new.state session.new }
-    ensures story { (opened : Shelf) (start : D) (durable : ℕ)
-        → IsStory D.told D.may_leave D.moment D.left_since opened start (shelf_of session.old (store_of committer.old.closed committer.old.state (D.faults committer.old.disk))) durable committer.old.config committer.old.state committer.old.disk
-        → IsStory D.told D.may_leave D.moment D.left_since opened start (shelf_of session.new (store_of committer.new.closed committer.new.state (D.faults committer.new.disk))) (max durable (durable_by (command_view command) (reply_view result))) committer.new.config committer.new.state committer.new.disk }
+    ensures story { StoryGoesOn D.Disk session.old committer.old (command_view command) (reply_view result) session.new committer.new }
 {
     match command {
         Command::Add { doc } => session.add(doc),

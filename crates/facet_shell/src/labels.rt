@@ -1,5 +1,5 @@
 ghost use Rattle.std.specs.Prelude.{◌≡◌, ◌≢◌, ◌≤◌, Some, length, map, slice_get, All, IfOk, IfErr, OnOk, flat_map, fold};
-ghost use Rattle.facet_names.specs.Labels.{prefixes, with_label};
+ghost use Rattle.facet_names.specs.Labels.{IsLabelList, prefixes, with_label};
 ghost use Rattle.facet_model.specs.CountedPaths.{AreResolved};
 ghost use Rattle.taxo_list.specs.declared.fault.TaxoFault.TheVariants.{NoMemory as Memory};
 ghost use Rattle.seg_decoding.specs.Entries.{IsShort};
@@ -17,17 +17,17 @@ fn add_prefixes(
     path: &Path,
     limit: u32,
 ) -> Result<Resolved, TaxoFault>
+    requires list { IsLabelList labels.old }
     requires limit { limit ≤ 1000000 }
     requires room { length labels.old ≤ limit }
     ensures ok { OnOk result (labels.new ≡ fold with_label labels.old (prefixes path.now)) }
     ensures ordinals { IfOk result (λ r. map (slice_get labels.new) r ≡ map Some (prefixes path.now)) }
     ensures short { IsShort path.now }
+    ensures list { IsLabelList labels.new }
     ensures between { IsBetween labels.old labels.new (fold with_label labels.old (prefixes path.now)) }
     ensures few { length labels.new ≤ limit }
     ensures full { IfErr result (λ e. e ≢ Memory → IsFull e limit labels.new (fold with_label labels.old (prefixes path.now))) }
 {
-    // Its clause says that the list begins with the root.
-    let _ = labels.size();
     let mut ords = Vec::with_capacity(alloc, path.len())?;
     for n in 0..path.len() {
         let prefix = path.front(alloc, n + 1)?;
@@ -48,11 +48,13 @@ pub fn add_labels(
     paths: &[Path],
     limit: u32,
 ) -> Result<Vec<Resolved>, TaxoFault>
+    requires list { IsLabelList labels.old }
     requires limit { limit ≤ 1000000 }
     requires room { length labels.old ≤ limit }
     ensures ok { OnOk result (labels.new ≡ fold with_label labels.old (flat_map prefixes paths.now)) }
     ensures ordinals { IfOk result (λ v. AreResolved labels.new paths.now v.items) }
     ensures short { OnOk result (All IsShort paths.now) }
+    ensures list { IsLabelList labels.new }
     ensures between { IsBetween labels.old labels.new (fold with_label labels.old (flat_map prefixes paths.now)) }
     ensures few { length labels.new ≤ limit }
     ensures full { IfErr result (λ e. e ≢ Memory → IsFull e limit labels.new (fold with_label labels.old (flat_map prefixes paths.now))) }

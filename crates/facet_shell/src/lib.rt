@@ -6,6 +6,7 @@ mod answering;
 mod committing;
 mod flushing;
 mod labels;
+mod laws;
 mod program;
 mod searching;
 mod serving;
@@ -14,5 +15,6 @@ mod showing;
 mod status;
 mod telling;
 
+pub use laws::{equal_stores_reply_alike, runs_go_on};
 pub use program::{place, run};
 pub use status::{Ended, Status};

@@ -30,8 +30,8 @@ pub fn place(alloc: Global, words: &[String]) -> Result<Option<String>, NoMemory
 
 /// Reads a script from the source to its end, opens the store of the disk, carries out the orders, and writes their replies to the sink.
 ///
-/// `rt` gives the memory, and the words are those behind the program's name. It keeps the script, the documents and all replies in memory, and writes no reply before
-/// all orders are answered. Commits go to the disk as they come, so what they acknowledged is kept however the run ends; `Ended` hands the disk back.
+/// `rt` gives the memory, and the words are those behind the program's name. It keeps the script, the documents and all replies in memory, and writes no reply
+/// before all orders are answered. Commits go to the disk as they come, so what they acknowledged is kept however the run ends; `Ended` hands the disk back.
 pub fn run<R: AllocGlobal, S: Source, K: Sink, D: Disk>(
     rt: &R,
     words: &[String],
@@ -40,29 +40,31 @@ pub fn run<R: AllocGlobal, S: Source, K: Sink, D: Disk>(
     disk: D,
 ) -> Ended<D>
     // What was read, carried out and written at each end. The store's files are as they were where nothing was carried out.
-    ensures done { result.status ≡ Status.Done → Finishes D.told D.may_leave D.moment D.left_since D.faults (S.left source.old) (S.left source.new) (K.written sink.old) (K.written sink.new) disk result.disk }
-    ensures write_fault { result.status ≡ Status.WriteFault → FinishesPartly D.told D.may_leave D.moment D.left_since D.faults (S.left source.old) (S.left source.new) (K.written sink.old) (K.written sink.new) disk result.disk }
-    ensures no_memory { result.status ≡ Status.NoMemory → StopsShort D.told D.may_leave D.moment D.left_since D.faults (S.left source.old) (S.left source.new) disk result.disk ⊎ IsQuiet D.told D.may_leave D.moment D.left_since D.faults disk result.disk }
-    ensures quiet { (result.status ≡ Status.Done) ⊎ (result.status ≡ Status.WriteFault) ⊎ (result.status ≡ Status.NoMemory) ⊎ IsQuiet D.told D.may_leave D.moment D.left_since D.faults disk result.disk }
-    ensures bad_script { result.status ≡ Status.BadScript → TellsOfScript (S.left source.old) (S.left source.new) (K.faults sink.old) (K.faults sink.new) (K.written sink.old) (K.written sink.new) }
-    ensures not_opened { (result.status ≡ Status.BadStore) ⊎ (result.status ≡ Status.OtherConfig) → TellsOfStore D.told (S.left source.old) (S.left source.new) (K.faults sink.old) (K.faults sink.new) (K.written sink.old) (K.written sink.new) disk result.status }
-    ensures too_long { result.status ≡ Status.TooLong → ReadsTooMuch (S.left source.old) (S.left source.new) }
+    ensures done { result.status ≡ Status.Done → Finishes D.Disk S.Source source.old source.new K.Sink sink.old sink.new disk result.disk }
+    ensures write_fault { result.status ≡ Status.WriteFault → FinishesPartly D.Disk S.Source source.old source.new K.Sink sink.old sink.new disk result.disk }
+    ensures no_memory { result.status ≡ Status.NoMemory → StopsShort D.Disk S.Source source.old source.new disk result.disk ⊎ IsQuiet D.Disk disk result.disk }
+    ensures quiet { (result.status ≡ Status.Done) ⊎ (result.status ≡ Status.WriteFault) ⊎ (result.status ≡ Status.NoMemory) ⊎ IsQuiet D.Disk disk result.disk }
+    ensures bad_script { result.status ≡ Status.BadScript → TellsOfScript S.Source source.old source.new K.Sink sink.old sink.new }
+    ensures not_opened { (result.status ≡ Status.BadStore) ⊎ (result.status ≡ Status.OtherConfig)
+        → TellsOfStore D.Disk S.Source source.old source.new K.Sink sink.old sink.new disk result.status }
+    ensures too_long { result.status ≡ Status.TooLong → ReadsTooMuch S.Source source.old source.new }
     ensures unread { result.status ≡ Status.BadWords → source.new ≡ source.old }
-    ensures at_most { ReadsSome (S.left source.old) (S.left source.new) }
-    ensures told { (result.status ≡ Status.Done) ⊎ (result.status ≡ Status.WriteFault) ⊎ (result.status ≡ Status.BadScript) ⊎ (result.status ≡ Status.BadStore) ⊎ (result.status ≡ Status.OtherConfig)
-        ⊎ WritesLine (K.faults sink.old) (K.faults sink.new) (K.written sink.old) (K.written sink.new) (status_line result.status) }
+    ensures at_most { ReadsSome S.Source source.old source.new }
+    ensures told { (result.status ≡ Status.Done) ⊎ (result.status ≡ Status.WriteFault) ⊎ (result.status ≡ Status.BadScript) ⊎ (result.status ≡ Status.BadStore)
+        ⊎ (result.status ≡ Status.OtherConfig) ⊎ WritesLine K.Sink sink.old sink.new (status_line result.status) }
 
     // When each end comes.
     ensures bad_words { (result.status ≡ Status.BadWords) ↔ (length words.now ≢ 1) }
     ensures read_failed { result.status ≡ Status.ReadFault → Rose (S.faults source.old) (S.faults source.new) }
     ensures write_failed { result.status ≡ Status.WriteFault → Rose (K.faults sink.old) (K.faults sink.new) }
-    ensures disk_failed { result.status ≡ Status.DiskFault → ReadsScript (S.left source.old) (S.left source.new) × Rose (D.faults disk) (D.faults result.disk) }
+    ensures disk_failed { result.status ≡ Status.DiskFault → ReadsScript S.Source source.old source.new × Rose (D.faults disk) (D.faults result.disk) }
     ensures device_failed { result.status ≡ Status.DiskFault → (s : Told) → D.told disk ≡ Some s → Rose (D.failures disk) (D.failures result.disk) }
 
     // Counts of faults stay where nothing failed. That of the disk may rise in a commit, whose reply tells it.
     ensures source_still { result.status ≢ Status.ReadFault → S.faults source.new ≡ S.faults source.old }
     ensures sink_still { result.status ≡ Status.Done → K.faults sink.new ≡ K.faults sink.old }
-    ensures disk_still { (result.status ≡ Status.Done) ⊎ (result.status ≡ Status.WriteFault) ⊎ (result.status ≡ Status.NoMemory) ⊎ (result.status ≡ Status.DiskFault) ⊎ (D.faults result.disk ≡ D.faults disk) }
+    ensures disk_still { (result.status ≡ Status.Done) ⊎ (result.status ≡ Status.WriteFault) ⊎ (result.status ≡ Status.NoMemory)
+        ⊎ (result.status ≡ Status.DiskFault) ⊎ (D.faults result.disk ≡ D.faults disk) }
 
     ensures complete { (input : List ℕ) (s : Told) → S.left source.old ≡ Some input → D.told disk ≡ Some s → length words.now ≡ 1
         → ¬ Rose (S.faults source.old) (S.faults source.new) → ¬ Rose (K.faults sink.old) (K.faults sink.new) → ¬ Rose (D.faults disk) (D.faults result.disk)

@@ -5,12 +5,12 @@ ghost use Rattle.facet_model.specs.Documents.{Doc};
 ghost use Rattle.facet_model.specs.ResultViews.{answer_view};
 ghost use Rattle.facet_model.specs.Results.{IsAnswer};
 ghost use Rattle.facet_model.specs.Stored.{Decodes};
-ghost use Rattle.facet_words.specs.Answers.{IsFound, first_refused};
+ghost use Rattle.facet_words.specs.Answers.{IsFound};
 ghost use Rattle.facet_replies.specs.ReplyViews.{hit_view, refusal_view, reply_view};
 ghost use Rattle.sideways.specs.Questions.{HasDocs, docs_of};
 ghost use Rattle.sideways.specs.Searches.{question};
 ghost use Rattle.seg_decoding.specs.Decoding.{docs_in, records_in, record_at};
-ghost use Rattle.facet_shell.specs.Searching.{refusal_as, search_view};
+ghost use Rattle.facet_shell.specs.Searching.{IsFoundIn, refusal_as, search_view};
 ghost use Rattle.sideways.specs.declared.ask.AskRefused.TheVariants.{NoMemory as Memory};
 
 use crate::showing::find;
@@ -42,7 +42,8 @@ fn answers(
     asks: usize,
 ) -> Result<Vec<FacetAnswer>, NoMemory>
     requires { asks ≡ length answer.now.ask.asks.items }
-    ensures { IfOk result (λ v. (docs : List Doc) → HasDocs (question answer.now) docs → AllZip (IsAnswer answer.now.config docs (docs_of (question answer.now) docs)) (question answer.now).asks (map answer_view v.items)) }
+    ensures { IfOk result (λ v. (docs : List Doc) → HasDocs (question answer.now) docs
+        → AllZip (IsAnswer answer.now.config docs (docs_of (question answer.now) docs)) (question answer.now).asks (map answer_view v.items)) }
 {
     let mut found = Vec::with_capacity(alloc, asks)?;
     for at in 0..asks {
@@ -58,8 +59,6 @@ fn hit_line(alloc: Global, segments: &[Arc<Segment>], at: u32) -> Result<HitLine
 {
     match find(segments, at as usize) {
         Some((segment, doc)) => {
-            // Its clause says that an id is a word.
-            let _ = segment.docs();
             let id = Word::new(alloc, segment.id(doc))?.unwrap();
             Ok(HitLine { at, id })
         }
@@ -118,7 +117,7 @@ pub fn search(
 ) -> Result<Reply, NoMemory>
     requires decodes { Decodes view.now config.now (map arc_value segments.now) (docs_in view.now (map arc_value segments.now)) }
     requires few { length (docs_in view.now (map arc_value segments.now)) ≤ 1000000 }
-    ensures { IfOk result (λ r. IsFound config.now n (docs_in view.now (map arc_value segments.now)) (search_view ask.now) (first_refused config.now (search_view ask.now).asks) (reply_view r)) }
+    ensures { IfOk result (λ r. IsFoundIn view.now config.now n (map arc_value segments.now) (search_view ask.now) (reply_view r)) }
 {
     match DrillPlan::new(alloc, view, config, segments, ask) {
         Ok(plan) => {

@@ -1,13 +1,15 @@
 ghost use Rattle.std.specs.Prelude.{◌≡◌, ◌≤◌, [], IfOk, OnOk, OnErr, length, map};
 ghost use Rattle.std.specs.Arc.{arc_value};
+ghost use Rattle.std.specs.List.{AllByRecursion};
+ghost use Rattle.facet_names.specs.Labels.{IsLabelList};
 ghost use Rattle.facet_model.specs.Stored.{Decodes};
-ghost use Rattle.facet_words.specs.Answers.{RightReply, Store};
+ghost use Rattle.commit_store.specs.Committed.{IsOwn};
 ghost use Rattle.facet_words.specs.CommandViews.{settings_view};
 ghost use Rattle.facet_words.specs.Commands.{add as add_command, refresh as refresh_command, search as search_command, document as document_command, stats as stats_command};
 ghost use Rattle.facet_replies.specs.ReplyViews.{reply_view};
 ghost use Rattle.facet_shell.specs.Searching.{search_view};
 ghost use Rattle.seg_decoding.specs.Decoding.{docs_in};
-ghost use Rattle.facet_shell.specs.Sessions.{FollowOn, IsFlushed, shelf_of};
+ghost use Rattle.facet_shell.specs.Sessions.{FollowOn, IsFlushed, RightOverAny, opened_state};
 
 use crate::adding::add;
 use crate::flushing::flush;
@@ -41,17 +43,15 @@ pub struct Session {
 }
 
 impl Model for Session {
-    ghost use Rattle.std.specs.Prelude.{◌++◌, length, map};
+    ghost use Rattle.std.specs.Prelude.{length, map};
     ghost use Rattle.std.specs.Arc.{arc_value};
     ghost use Rattle.facet_words.specs.CommandViews.{settings_view};
-    ghost use Rattle.seg_decoding.specs.Decoding.{docs_in};
-    ghost use Rattle.seg_decoding.specs.Entries.{docs_of};
     ghost use Rattle.facet_shell.specs.Kept.{IsKept};
-    ghost use Rattle.facet_shell.specs.Sessions.{State};
+    ghost use Rattle.facet_shell.specs.Sessions.{State, state_of};
 
     ghost Value = { State };
 
-    ghost view = { λ s. record { settings = settings_view s.settings; labels = s.labels; docs = docs_in s.labels (map arc_value s.segments.items) ++ docs_of s.buffer.items; taken = s.taken; taken_labels = length s.view; segments = map arc_value s.segments.items; waiting = length s.buffer.items } };
+    ghost view = { λ s. state_of (settings_view s.settings) s.labels (map arc_value s.segments.items) s.buffer.items s.taken (length s.view) };
 
     ghost invariant = { λ s. IsKept s.settings.config s.labels s.view (map arc_value s.segments.items) s.published s.buffer.items s.taken s.stored };
 }
@@ -64,12 +64,13 @@ impl Session {
         labels: Taxonomy,
         segments: Vec<Arc<Segment>>,
     ) -> Result<Session, NoMemory>
+        requires list { IsLabelList labels }
         requires decodes { Decodes labels settings.config (map arc_value segments.items) (docs_in labels (map arc_value segments.items)) }
+        requires some { docs_in labels (map arc_value segments.items) ≡ [] → map arc_value segments.items ≡ [] }
+        requires own { AllByRecursion IsOwn (map arc_value segments.items) }
         requires few { length (docs_in labels (map arc_value segments.items)) ≤ 1000000 }
-        ensures { IfOk result (λ s. s ≡ record { settings = settings_view settings; labels = labels; docs = docs_in labels (map arc_value segments.items); taken = length (docs_in labels (map arc_value segments.items)); taken_labels = length labels; segments = map arc_value segments.items; waiting = 0 }) }
+        ensures { IfOk result (λ s. s ≡ opened_state (settings_view settings) labels (map arc_value segments.items)) }
     {
-        // Its clause says that these are a label list.
-        let _ = labels.size();
         let view = labels.view()?;
         let stored = count(&segments);
         let published = segments.len();
@@ -88,40 +89,31 @@ impl Session {
 
     /// Adds a document, and answers it.
     pub fn add(&mut self, doc: Document) -> Reply
-        ensures right { (store : Store) → RightReply self.old.settings (shelf_of self.old store) (add_command doc) (reply_view result) (shelf_of self.new store) }
+        ensures right { RightOverAny self.old (add_command doc) (reply_view result) self.new }
         ensures same { self.new.settings ≡ self.old.settings }
         ensures segments { self.new.segments ≡ self.old.segments }
     {
-        // Their clauses say that these are label lists.
-        let _ = self.view.size();
-        let _ = self.labels.size();
-        let reply = add(
+        add(
             self.alloc,
             &self.settings,
             &mut self.labels,
             self.stored,
             &mut self.buffer,
             doc,
-        );
-        let _ = self.labels.size();
-        reply
+        )
     }
 
     /// Lets searches see all documents, and answers it.
     pub fn refresh(&mut self) -> Reply
-        ensures right { (store : Store) → RightReply self.old.settings (shelf_of self.old store) refresh_command (reply_view result) (shelf_of self.new store) }
+        ensures right { RightOverAny self.old refresh_command (reply_view result) self.new }
         ensures same { self.new.settings ≡ self.old.settings }
         ensures segments { FollowOn self.old.segments self.new.segments }
     {
-        // Their clauses say that these are label lists.
-        let _ = self.view.size();
-        let _ = self.labels.size();
         let Ok(view) = self.labels.view() else {
             return Reply::Refused(Refusal::NoMemory);
         };
-        let added = self.buffer.len();
         match flush(self.alloc, &mut self.segments, &mut self.buffer) {
-            Ok(()) => {
+            Ok(added) => {
                 self.stored += added;
                 self.view = view;
                 self.published = self.segments.len();
@@ -136,7 +128,7 @@ impl Session {
 
     /// The reply to a search.
     pub fn search(&self, ask: &SearchAsk) -> Reply
-        ensures right { (store : Store) → RightReply self.now.settings (shelf_of self.now store) (search_command (search_view ask.now)) (reply_view result) (shelf_of self.now store) }
+        ensures right { RightOverAny self.now (search_command (search_view ask.now)) (reply_view result) self.now }
     {
         let segments = front(&self.segments, self.published);
         match search(
@@ -154,11 +146,8 @@ impl Session {
 
     /// The reply that shows a document.
     pub fn document(&self, at: u32) -> Reply
-        ensures right { (store : Store) → RightReply self.now.settings (shelf_of self.now store) (document_command at) (reply_view result) (shelf_of self.now store) }
+        ensures right { RightOverAny self.now (document_command at) (reply_view result) self.now }
     {
-        // Their clauses say that these are label lists.
-        let _ = self.view.size();
-        let _ = self.labels.size();
         let segments = front(&self.segments, self.published);
         match show(self.alloc, &self.view, segments, self.taken as u64, at) {
             Ok(reply) => reply,
@@ -168,7 +157,7 @@ impl Session {
 
     /// The reply that tells what the last refresh took.
     pub fn stats(&self) -> Reply
-        ensures right { (store : Store) → RightReply self.now.settings (shelf_of self.now store) stats_command (reply_view result) (shelf_of self.now store) }
+        ensures right { RightOverAny self.now stats_command (reply_view result) self.now }
     {
         Reply::Stats {
             n: self.taken as u64,
@@ -189,17 +178,15 @@ impl Session {
         ensures flushed { OnOk result (IsFlushed self.old self.new) }
         ensures same { OnErr result (self.new ≡ self.old) }
     {
-        // Its clause says that these are a label list.
-        let _ = self.labels.size();
-        let added = self.buffer.len();
-        flush(self.alloc, &mut self.segments, &mut self.buffer)?;
+        let added = flush(self.alloc, &mut self.segments, &mut self.buffer)?;
         self.stored += added;
         Ok(())
     }
 
     /// The labels as they stand.
     pub fn labels(&self) -> Result<TaxoView, NoMemory>
-        ensures { IfOk result (λ view. view ≡ self.now.labels) }
+        ensures value { IfOk result (λ view. view ≡ self.now.labels) }
+        ensures list { IfOk result (λ view. IsLabelList view) }
     {
         self.labels.view()
     }
@@ -211,11 +198,8 @@ impl Session {
         ensures decodes { Decodes self.now.labels self.now.settings.config (map arc_value result.now) (docs_in self.now.labels (map arc_value result.now)) }
         ensures few { length (docs_in self.now.labels (map arc_value result.now)) ≤ 1000000 }
         ensures some { docs_in self.now.labels (map arc_value result.now) ≡ [] → map arc_value result.now ≡ [] }
+        ensures own { AllByRecursion IsOwn (map arc_value result.now) }
     {
-        // Its clause says that a segment has a document.
-        if let Some(first) = self.segments.first() {
-            let _ = first.docs();
-        }
         &self.segments
     }
 }

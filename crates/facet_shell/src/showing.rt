@@ -1,8 +1,8 @@
-ghost use Rattle.std.specs.Prelude.{◌≡◌, ◌<◌, ◌≤◌, ◌⊎◌, [], ℕ, List, Some, None, All, IfOk, MatchOption, length, map, slice_get, take};
+ghost use Rattle.std.specs.Prelude.{◌≡◌, ◌<◌, ◌≤◌, ◌⊎◌, ℕ, List, Some, None, All, IfOk, MatchOption, length, map, slice_get, take};
 ghost use Rattle.std.specs.Arc.{arc_value};
 ghost use Rattle.facet_replies.specs.ReplyViews.{reply_view};
 ghost use Rattle.seg_grammar.specs.Lookups.{record_of};
-ghost use Rattle.seg_decoding.specs.Decoding.{docs_in, records_in};
+ghost use Rattle.seg_decoding.specs.Decoding.{records_in};
 ghost use Rattle.facet_shell.specs.Searching.{IsShownFrom};
 
 use facet_names::NoMemory;
@@ -11,11 +11,12 @@ use seg_decoding::{document_of, ordinals_of};
 use seg_file::Segment;
 use std::alloc::Global;
 use std::sync::Arc;
-use taxo_list::{TaxoView, Taxonomy};
+use taxo_list::TaxoView;
 
 /// The segment that has the document at a place, with the document's place in it. It goes from segment to segment, and takes no memory.
 pub fn find(segments: &[Arc<Segment>], at: usize) -> Option<(&Segment, u32)>
-    ensures { MatchOption result (slice_get (records_in (map arc_value segments.now)) at ≡ None) (λ p. (p.1 < length p.0.now.records) × (slice_get (records_in (map arc_value segments.now)) at ≡ Some (record_of p.0.now p.1))) }
+    ensures { MatchOption result (slice_get (records_in (map arc_value segments.now)) at ≡ None) (λ p. (p.1 < length p.0.now.records)
+        × (slice_get (records_in (map arc_value segments.now)) at ≡ Some (record_of p.0.now p.1))) }
 {
     let mut at = at;
     for segment in segments {
@@ -35,17 +36,6 @@ pub fn front(segments: &[Arc<Segment>], n: usize) -> &[Arc<Segment>]
 {
     let (first, _) = segments.split_at(n);
     first
-}
-
-/// Where there are segments, there are documents.
-pub fn have_documents(labels: &Taxonomy, segments: &[Arc<Segment>])
-    ensures { docs_in labels.now (map arc_value segments.now) ≡ [] → map arc_value segments.now ≡ [] }
-{
-    let _ = labels;
-    // Its clause says that a segment has a document.
-    if let Some(first) = segments.first() {
-        let _ = first.docs();
-    }
 }
 
 /// How many documents these segments have.

@@ -1,8 +1,7 @@
-ghost use Rattle.std.specs.Prelude.{◌≡◌, ◌≢◌, ◌⊎◌, IfOk};
+ghost use Rattle.std.specs.Prelude.{◌≡◌, ◌⊎◌, IfOk, map};
 ghost use Rattle.facet_replies.specs.ReplyLines.{fault_line};
-ghost use Rattle.facet_disk.specs.FileNames.{name_text};
-ghost use Rattle.facet_replies.specs.StoreLines.{damaged, unopened_line};
-ghost use Rattle.facet_replies.specs.StoreViews.{store_fault_view};
+ghost use Rattle.facet_replies.specs.NamedFaults.{detail_field, named_fault_line};
+ghost use Rattle.store_opening.specs.declared.fault.OpenFault.TheVariants as faults;
 ghost use Rattle.facet_shell.specs.Runs.{WritesLine};
 ghost use Rattle.facet_shell.specs.Statuses.{fault_status, open_line, status_line};
 
@@ -10,14 +9,14 @@ use crate::status::{Ended, Status};
 use facet_disk::{Disk, FileName};
 use facet_io::{Sink, write_all};
 use facet_names::NoMemory;
-use facet_words::{ScriptFault, StoreFault, write_fault, write_store_fault};
+use facet_words::{Detail, ScriptFault, write_fault, write_named_fault};
 use std::alloc::Global;
 use store_opening::OpenFault;
 
 /// Tells of a fault; the status stays where its line cannot be written.
 pub fn tell<K: Sink, D: Disk>(sink: &mut K, status: Status, disk: D) -> Ended<D>
     ensures status { result.status ≡ status }
-    ensures line { WritesLine (K.faults sink.old) (K.faults sink.new) (K.written sink.old) (K.written sink.new) (status_line status) }
+    ensures line { WritesLine K.Sink sink.old sink.new (status_line status) }
     ensures disk { result.disk ≡ disk }
 {
     let _ = write_all(sink, status.line());
@@ -31,8 +30,9 @@ pub fn tell_of_script<K: Sink, D: Disk>(
     fault: ScriptFault,
     disk: D,
 ) -> Ended<D>
-    ensures told { result.status ≡ Status.BadScript → WritesLine (K.faults sink.old) (K.faults sink.new) (K.written sink.old) (K.written sink.new) (fault_line fault) }
-    ensures memory { (result.status ≡ Status.BadScript) ⊎ ((result.status ≡ Status.NoMemory) × WritesLine (K.faults sink.old) (K.faults sink.new) (K.written sink.old) (K.written sink.new) (status_line Status.NoMemory)) }
+    ensures told { result.status ≡ Status.BadScript → WritesLine K.Sink sink.old sink.new (fault_line fault) }
+    ensures memory { (result.status ≡ Status.BadScript)
+        ⊎ ((result.status ≡ Status.NoMemory) × WritesLine K.Sink sink.old sink.new (status_line Status.NoMemory)) }
     ensures disk { result.disk ≡ disk }
 {
     let mut line = Vec::new(alloc);
@@ -49,11 +49,11 @@ pub fn tell_of_script<K: Sink, D: Disk>(
 }
 
 // The line of a fault of a store's files.
-fn store_line(alloc: Global, fault: StoreFault) -> Result<Vec<u8>, NoMemory>
-    ensures { IfOk result (λ line. line.items ≡ unopened_line (store_fault_view fault.entry)) }
+fn store_line(alloc: Global, fault: &str, details: &[(&str, Detail)]) -> Result<Vec<u8>, NoMemory>
+    ensures { IfOk result (λ line. line.items ≡ named_fault_line fault.now (map detail_field details.now)) }
 {
     let mut line = Vec::new(alloc);
-    write_store_fault(alloc, &mut line, fault)?;
+    write_named_fault(alloc, &mut line, fault, details)?;
     Ok(line)
 }
 
@@ -64,11 +64,18 @@ fn damaged_line(
     kept: [u8; 32],
     found: [u8; 32],
 ) -> Result<Vec<u8>, NoMemory>
-    ensures { IfOk result (λ line. line.items ≡ unopened_line (damaged (name_text name) kept found)) }
+    ensures { IfOk result (λ line. line.items ≡ open_line (faults.Damaged name kept found)) }
 {
-    let text = format!(in alloc; "{name}")?;
-    let file = text.as_str();
-    store_line(alloc, StoreFault::Damaged { file, kept, found })
+    let file = format!(in alloc; "{name}")?;
+    store_line(
+        alloc,
+        "damaged",
+        &[
+            ("file", Detail::Text(&file)),
+            ("kept", Detail::Digest(kept)),
+            ("found", Detail::Digest(found)),
+        ],
+    )
 }
 
 // The line that tells why a store was not opened.
@@ -80,22 +87,30 @@ fn open_line(alloc: Global, fault: &OpenFault) -> Result<Vec<u8>, NoMemory>
         OpenFault::NoMemory => Ok(Vec::from_slice(alloc, Status::NoMemory.line())?),
         OpenFault::Missing { name } => {
             let file = format!(in alloc; "{name}")?;
-            store_line(alloc, StoreFault::Missing { file: &file })
+            store_line(alloc, "missing", &[("file", Detail::Text(&file))])
         }
-        OpenFault::Damaged { name, kept, found } => { damaged_line(alloc, *name, *kept, *found) }
+        OpenFault::Damaged { name, kept, found } => damaged_line(alloc, *name, *kept, *found),
         OpenFault::Malformed { name, at } => {
-            let (file, at) = (format!(in alloc; "{name}")?, *at);
-            store_line(alloc, StoreFault::Malformed { file: &file, at })
+            let file = format!(in alloc; "{name}")?;
+            let details = [("file", Detail::Text(&file)), ("at", Detail::Number(*at))];
+            store_line(alloc, "malformed", &details)
         }
         OpenFault::Uncovered { needs, has } => {
-            let (needs, has) = (*needs, *has);
-            store_line(alloc, StoreFault::Uncovered { needs, has })
+            let details = [
+                ("needs", Detail::Number(*needs)),
+                ("has", Detail::Number(*has)),
+            ];
+            store_line(alloc, "uncovered", &details)
         }
         OpenFault::NumbersSpent { number } => {
-            store_line(alloc, StoreFault::NumbersSpent { number: *number })
+            store_line(
+                alloc,
+                "numbers_spent",
+                &[("number", Detail::Number(*number))],
+            )
         }
         OpenFault::OtherConfig { dim } => {
-            store_line(alloc, StoreFault::OtherConfig { dim: dim.text() })
+            store_line(alloc, "other_config", &[("dim", Detail::Text(dim.text()))])
         }
     }
 }
@@ -107,8 +122,8 @@ pub fn tell_of_store<K: Sink, D: Disk>(
     fault: OpenFault,
     disk: D,
 ) -> Ended<D>
-    ensures told { ((result.status ≡ fault_status fault) × WritesLine (K.faults sink.old) (K.faults sink.new) (K.written sink.old) (K.written sink.new) (open_line fault))
-        ⊎ ((result.status ≡ Status.NoMemory) × WritesLine (K.faults sink.old) (K.faults sink.new) (K.written sink.old) (K.written sink.new) (status_line Status.NoMemory)) }
+    ensures told { ((result.status ≡ fault_status fault) × WritesLine K.Sink sink.old sink.new (open_line fault))
+        ⊎ ((result.status ≡ Status.NoMemory) × WritesLine K.Sink sink.old sink.new (status_line Status.NoMemory)) }
     ensures disk { result.disk ≡ disk }
 {
     match open_line(alloc, &fault) {

@@ -3,7 +3,7 @@ ghost use Rattle.serde_json.specs.View.{view};
 ghost use Rattle.facet_model.specs.AskViews.{ask_view};
 ghost use Rattle.facet_words.specs.Orders.{top_ask, value_ask, dims_ask, ask_of};
 
-use crate::shape::{Shaped, keys_among, read_at, whole_at};
+use crate::shape::{Shaped, index_in, keys_among, read_at};
 use facet_model::Ask;
 use facet_names::{NoMemory, Path};
 use serde_json::Value;
@@ -16,11 +16,11 @@ fn top_in(alloc: Global, value: &Value) -> Result<Option<Ask>, NoMemory>
     let Some(path) = read_at::<Path>(alloc, value, "top")? else {
         return Ok(None);
     };
-    let Some(n) = whole_at(value, "n", 0, 4_294_967_295) else {
+    let Some(n) = value.get("n").and_then(index_in) else {
         return Ok(None);
     };
     if keys_among(value, &["top", "n"]) {
-        Ok(Some(Ask::Top { path, n: n as u32 }))
+        Ok(Some(Ask::Top { path, n }))
     } else {
         Ok(None)
     }
@@ -44,9 +44,9 @@ fn specific_in(alloc: Global, value: &Value) -> Result<Option<Ask>, NoMemory>
 fn all_dims_in(value: &Value) -> Option<Ask>
     ensures { option_map ask_view result ≡ dims_ask (view value.now) }
 {
-    let n = whole_at(value, "all", 0, 4_294_967_295)?;
+    let n = value.get("all").and_then(index_in)?;
     if keys_among(value, &["all"]) {
-        Some(Ask::AllDims { n: n as u32 })
+        Some(Ask::AllDims { n })
     } else {
         None
     }

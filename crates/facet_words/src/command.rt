@@ -35,7 +35,7 @@ pub enum Command {
 #[derive(Debug, Drop)]
 pub struct Order {
     pub session: u32,
-    pub line: u32,
+    pub line: u64,
     pub command: Command,
 }
 

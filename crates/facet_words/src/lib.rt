@@ -14,7 +14,7 @@ mod shape;
 pub use command::{Command, Order, Script, Settings};
 pub use facet_model::FacetAnswer;
 pub use facet_replies::{
-    HitLine, Refusal, Reply, ScriptFault, StoreFault, write_fault, write_reply, write_store_fault,
+    Detail, HitLine, Refusal, Reply, ScriptFault, write_fault, write_named_fault, write_reply,
 };
 pub use laws::levels_are_counted;
 pub use script::read_script;

@@ -11,10 +11,8 @@ ghost use Rattle.facet_replies.specs.declared.fault.ScriptFault.TheVariants.{NoM
 
 use crate::command::{Command, Order};
 use crate::lines::line_value;
-use crate::shape::{
-    Shaped, flag_at, keys_among, list_or, name_at, number_at, text_at, text_or, whole_at, whole_or,
-};
-use facet_model::{Ask, Document, Drill, Query};
+use crate::shape::{Shaped, flag_at, index_in, keys_among, list_or, text_in, whole_or};
+use facet_model::{Ask, DocShape, Document, Drill, Query};
 use facet_names::{NoMemory, Path};
 use facet_replies::ScriptFault;
 use serde_json::Value;
@@ -33,8 +31,11 @@ fn new_document(
 {
     match Document::new(alloc, id, text, facets) {
         Ok(doc) => Ok(doc),
-        // Its shape was tested, so that nothing else can be wanting.
-        Err(_) => Err(NoMemory),
+        Err(DocShape::NoMemory) => Err(NoMemory),
+        // Its shape was tested.
+        Err(
+            DocShape::BadId { .. } | DocShape::TextTooLong { .. } | DocShape::TooManyFacets { .. },
+        ) => unreachable!(),
     }
 }
 
@@ -42,10 +43,13 @@ fn new_document(
 fn add_in(alloc: Global, value: &Value) -> Result<Option<Command>, NoMemory>
     ensures { IfOk result (λ o. option_map command_view o ≡ add_of (view value.now)) }
 {
-    let Some(id) = text_at(value, "id", 1, 256) else {
+    let Some(id) = value.get("id").and_then(|found| text_in(found, 1, 256)) else {
         return Ok(None);
     };
-    let Some(text) = text_or(value, "text", 65_536) else {
+    let Some(text) = value
+        .get("text")
+        .map_or(Some(""), |found| text_in(found, 0, 65_536))
+    else {
         return Ok(None);
     };
     let Some(facets) = list_or::<Path>(alloc, value, "facets", 256)? else {
@@ -119,9 +123,9 @@ fn search_in(alloc: Global, value: &Value) -> Result<Option<Command>, NoMemory>
 fn document_in(value: &Value) -> Option<Command>
     ensures { option_map command_view result ≡ document_of (view value.now) }
 {
-    let at = whole_at(value, "at", 0, 4_294_967_295)?;
+    let at = value.get("at").and_then(index_in)?;
     if keys_among(value, &["cmd", "s", "at"]) {
-        Some(Command::Document { at: at as u32 })
+        Some(Command::Document { at })
     } else {
         None
     }
@@ -147,10 +151,10 @@ fn command_in(alloc: Global, name: &str, value: &Value) -> Result<Option<Command
 fn numbered_command_in(alloc: Global, value: &Value) -> Result<Option<(u64, Command)>, NoMemory>
     ensures { IfOk result (λ o. option_map (λ c. (c.0, command_view c.1)) o ≡ command_of (view value.now)) }
 {
-    let Some(session) = number_at(value, "s") else {
+    let Some(session) = value.get("s").and_then(Value::as_u64) else {
         return Ok(None);
     };
-    let Some(name) = name_at(value, "cmd") else {
+    let Some(name) = value.get("cmd").and_then(Value::as_str) else {
         return Ok(None);
     };
     let Some(command) = command_in(alloc, name, value)? else {
@@ -160,12 +164,12 @@ fn numbered_command_in(alloc: Global, value: &Value) -> Result<Option<(u64, Comm
 }
 
 #[tactic(auto, unfolding(crate::specs::Scripts::order_of))]
-fn order_in(alloc: Global, line: u32, value: &Value) -> Result<Order, ScriptFault>
+fn order_in(alloc: Global, line: u64, value: &Value) -> Result<Order, ScriptFault>
     ensures ok { IfOk result (λ o. order_of line (view value.now) ≡ Ok (order_view o)) }
     ensures err { IfErr result (λ e. e ≢ Memory → order_of line (view value.now) ≡ Err e) }
 {
     let Some((session, command)) = numbered_command_in(alloc, value)? else {
-        return Err(ScriptFault::BadShape { line: line as u64 });
+        return Err(ScriptFault::BadShape { line });
     };
     if session == 1 {
         Ok(Order {
@@ -174,18 +178,18 @@ fn order_in(alloc: Global, line: u32, value: &Value) -> Result<Order, ScriptFaul
             command,
         })
     } else {
-        Err(ScriptFault::BadSession { line: line as u64 })
+        Err(ScriptFault::BadSession { line })
     }
 }
 
 /// The order of a line's bytes, or why they are none.
 #[tactic(auto, unfolding(crate::specs::Scripts::order_at))]
-pub fn read_order(alloc: Global, line: u32, bytes: &[u8]) -> Result<Order, ScriptFault>
+pub fn read_order(alloc: Global, line: u64, bytes: &[u8]) -> Result<Order, ScriptFault>
     ensures ok { IfOk result (λ o. order_at line bytes.now ≡ Ok (order_view o)) }
     ensures err { IfErr result (λ e. e ≢ Memory → order_at line bytes.now ≡ Err e) }
 {
     match line_value(alloc, bytes)? {
         Some(value) => order_in(alloc, line, &value),
-        None => Err(ScriptFault::NotJson { line: line as u64 }),
+        None => Err(ScriptFault::NotJson { line }),
     }
 }

@@ -5,7 +5,7 @@ ghost use Rattle.facet_model.specs.QueryViews.{query_view};
 ghost use Rattle.facet_words.specs.Queries.{all_query, term_query, lists_of, bool_query, query_within, query_of};
 ghost use Rattle.facet_words.specs.Shapes.{all_some, key_or, list_of};
 
-use crate::shape::{Shaped, keys_among, name_at, truth_at};
+use crate::shape::{Shaped, keys_among};
 use facet_model::{Query, Word};
 use facet_names::NoMemory;
 use serde_json::Value;
@@ -15,7 +15,7 @@ use std::alloc::Global;
 fn all_in(value: &Value) -> Option<Query>
     ensures { option_map query_view result ≡ all_query (view value.now) }
 {
-    let every = truth_at(value, "all")?;
+    let every = value.get("all").and_then(Value::as_bool)?;
     if every && keys_among(value, &["all"]) {
         Some(Query::All)
     } else {
@@ -27,7 +27,7 @@ fn all_in(value: &Value) -> Option<Query>
 fn term_in(alloc: Global, value: &Value) -> Result<Option<Query>, NoMemory>
     ensures { IfOk result (λ o. option_map query_view o ≡ term_query (view value.now)) }
 {
-    let Some(text) = name_at(value, "term") else {
+    let Some(text) = value.get("term").and_then(Value::as_str) else {
         return Ok(None);
     };
     let Some(word) = Word::new(alloc, text)? else {

@@ -1,4 +1,4 @@
-ghost use Rattle.std.specs.Prelude.{◌≡◌, ◌≢◌, ◌≤◌, Ok, Err, IfOk, IfErr, map, length};
+ghost use Rattle.std.specs.Prelude.{◌≡◌, ◌≢◌, ◌≤◌, Ok, Err, IfOk, IfErr, map};
 ghost use Rattle.facet_words.specs.CommandViews.{order_view, script_view};
 ghost use Rattle.facet_words.specs.Lines.{lines_of};
 ghost use Rattle.facet_words.specs.Scripts.{orders_from, script};
@@ -13,7 +13,6 @@ use std::alloc::Global;
 
 // The orders of the lines behind the first one.
 fn read_orders(alloc: Global, bytes: &[u8]) -> Result<Vec<Order>, ScriptFault>
-    requires { length bytes.now ≤ 67108864 }
     ensures ok { IfOk result (λ v. orders_from 2 (lines_of bytes.now) ≡ Ok (map order_view v.items)) }
     ensures err { IfErr result (λ e. e ≢ Memory → orders_from 2 (lines_of bytes.now) ≡ Err e) }
 {
@@ -35,7 +34,6 @@ fn read_orders(alloc: Global, bytes: &[u8]) -> Result<Vec<Order>, ScriptFault>
 /// They are read line by line, and no line behind a faulty one is looked at. It keeps memory for the orders alone.
 #[tactic(auto, unfolding(crate::specs::Scripts::script))]
 pub fn read_script(alloc: Global, bytes: &[u8]) -> Result<Script, ScriptFault>
-    requires { length bytes.now ≤ 67108864 }
     ensures ok { IfOk result (λ s. script bytes.now ≡ Ok (script_view s)) }
     ensures err { IfErr result (λ e. e ≢ Memory → script bytes.now ≡ Err e) }
 {

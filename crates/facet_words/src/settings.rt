@@ -1,14 +1,14 @@
-ghost use Rattle.std.specs.Prelude.{◌≡◌, ◌≢◌, [], Ok, Err, IfOk, IfErr, option_map, map, string_bytes, codes};
+ghost use Rattle.std.specs.Prelude.{◌≡◌, ◌≢◌, [], Ok, Err, IfOk, IfErr, IsTrue, length, option_map, map, string_bytes, codes};
 ghost use Rattle.serde_json.specs.View.{view};
 ghost use Rattle.facet_words.specs.CommandViews.{settings_view};
 ghost use Rattle.facet_words.specs.Orders.{dimension_of, config_from, settings_of};
 ghost use Rattle.facet_words.specs.Scripts.{config_of, config_at};
-ghost use Rattle.facet_words.specs.Shapes.{key_or, list_of};
+ghost use Rattle.facet_words.specs.Shapes.{is_within, key_or, list_of};
 ghost use Rattle.facet_replies.specs.declared.fault.ScriptFault.TheVariants.{NoMemory as Memory};
 
 use crate::command::Settings;
 use crate::lines::line_value;
-use crate::shape::{Shaped, flag_at, keys_among, list_of_in, name_at, text_at, whole_or};
+use crate::shape::{Shaped, flag_at, keys_among, list_of_in, text_in, whole_or};
 use facet_config::{DeclareFault, FacetsConfig};
 use facet_model::DimFlags;
 use facet_names::NoMemory;
@@ -21,6 +21,7 @@ use std::alloc::Global;
 struct Dimension {
     name: String,
     flags: DimFlags,
+    ghost named: { IsTrue (is_within 1 1024 (length (string_bytes name))) },
 }
 
 impl Shaped for Dimension {
@@ -43,7 +44,7 @@ impl Shaped for Dimension {
 fn dimension_in(alloc: Global, value: &Value) -> Result<Option<Dimension>, NoMemory>
     ensures { IfOk result (λ o. option_map (λ d. (string_bytes d.name, d.flags)) o ≡ dimension_of (view value.now)) }
 {
-    let Some(name) = text_at(value, "dim", 1, 1024) else {
+    let Some(name) = value.get("dim").and_then(|found| text_in(found, 1, 1024)) else {
         return Ok(None);
     };
     let Some(hierarchical) = flag_at(value, "hierarchical") else {
@@ -72,7 +73,8 @@ fn dimension_in(alloc: Global, value: &Value) -> Result<Option<Dimension>, NoMem
 }
 
 fn dimensions_in(alloc: Global, value: &Value) -> Result<Option<Vec<Dimension>>, NoMemory>
-    ensures { IfOk result (λ o. option_map (λ v. map (λ d. (string_bytes d.name, d.flags)) v.items) o ≡ key_or (codes "dims") [] (list_of dimension_of) (view value.now)) }
+    ensures { IfOk result (λ o. option_map (λ v. map (λ d. (string_bytes d.name, d.flags)) v.items) o
+        ≡ key_or (codes "dims") [] (list_of dimension_of) (view value.now)) }
 {
     match value.get("dims") {
         Some(list) => list_of_in(alloc, list),
@@ -89,8 +91,8 @@ fn declared(alloc: Global, dims: &[Dimension]) -> Result<Option<FacetsConfig>, N
         match config.declare(dim.name.as_str(), dim.flags) {
             Ok(()) => {}
             Err(DeclareFault::Twice) => return Ok(None),
-            // The name's length was tested, so that nothing else can be wanting.
-            Err(DeclareFault::BadName { .. }) => return Err(NoMemory),
+            // The name's length was tested.
+            Err(DeclareFault::BadName { .. }) => unreachable!(),
             Err(DeclareFault::NoMemory) => return Err(NoMemory),
         }
     }
@@ -140,7 +142,7 @@ fn config_in(alloc: Global, value: &Value) -> Result<Settings, ScriptFault>
     ensures ok { IfOk result (λ s. config_of (view value.now) ≡ Ok (settings_view s)) }
     ensures err { IfErr result (λ e. e ≢ Memory → config_of (view value.now) ≡ Err e) }
 {
-    match name_at(value, "cmd") {
+    match value.get("cmd").and_then(Value::as_str) {
         Some("config") => match settings_in(alloc, value)? {
             Some(settings) => Ok(settings),
             None => Err(ScriptFault::BadShape { line: 1 }),

@@ -12,13 +12,6 @@ use facet_names::{NoMemory, Path, PathFault};
 use serde_json::{Map, Value};
 use std::alloc::Global;
 
-/// The whole number under a key.
-pub fn number_at(value: &Value, name: &str) -> Option<u64>
-    ensures { result ≡ key name.now whole (view value.now) }
-{
-    value.get(name).and_then(Value::as_u64)
-}
-
 // A whole number in these limits.
 fn whole_in(value: &Value, low: u64, high: u64) -> Option<u64>
     ensures { result ≡ whole_within low high (view value.now) }
@@ -27,12 +20,12 @@ fn whole_in(value: &Value, low: u64, high: u64) -> Option<u64>
     if low <= n && n <= high { Some(n) } else { None }
 }
 
-/// The whole number in these limits under a key.
-pub fn whole_at(value: &Value, name: &str, low: u64, high: u64) -> Option<u64>
-    ensures { result ≡ key name.now (whole_within low high) (view value.now) }
+/// A whole number of 32 bits.
+pub fn index_in(value: &Value) -> Option<u32>
+    ensures { result ≡ whole_within 0 4294967295 (view value.now) }
 {
-    match value.get(name) {
-        Some(found) => whole_in(found, low, high),
+    match whole_in(value, 0, 4_294_967_295) {
+        Some(n) => Some(n as u32),
         None => None,
     }
 }
@@ -45,10 +38,9 @@ pub fn whole_or(value: &Value, name: &str, default: u64, low: u64, high: u64) ->
     ensures some { IfSome result (λ n. low ≤ n) }
     ensures few { IfSome result (λ n. n ≤ high) }
 {
-    match value.get(name) {
-        Some(found) => whole_in(found, low, high),
-        None => Some(default),
-    }
+    value
+        .get(name)
+        .map_or(Some(default), |found| whole_in(found, low, high))
 }
 
 /// A text of so many bytes.
@@ -63,49 +55,11 @@ pub fn text_in<'a>(value: &'a Value, low: usize, high: usize) -> Option<&'a str>
     }
 }
 
-/// The text of so many bytes under a key.
-pub fn text_at<'a>(value: &'a Value, name: &str, low: usize, high: usize) -> Option<&'a str>
-    ensures { option_map (λ s. s.now) result ≡ key name.now (text_within low high) (view value.now) }
-{
-    match value.get(name) {
-        Some(found) => text_in(found, low, high),
-        None => None,
-    }
-}
-
-/// The text under a key, of any length.
-pub fn name_at<'a>(value: &'a Value, name: &str) -> Option<&'a str>
-    ensures { option_map (λ s. s.now) result ≡ key name.now as_str (view value.now) }
-{
-    value.get(name).and_then(Value::as_str)
-}
-
-/// The text of at most so many bytes under a key, empty where the key is not there.
-pub fn text_or<'a>(value: &'a Value, name: &str, high: usize) -> Option<&'a str>
-    ensures text { option_map (λ s. s.now) result ≡ key_or name.now [] (text_within 0 high) (view value.now) }
-    ensures short { IfSome result (λ s. length s.now ≤ high) }
-{
-    match value.get(name) {
-        Some(found) => text_in(found, 0, high),
-        None => Some(""),
-    }
-}
-
-/// The truth value under a key.
-pub fn truth_at(value: &Value, name: &str) -> Option<bool>
-    ensures { result ≡ key name.now as_bool (view value.now) }
-{
-    value.get(name).and_then(Value::as_bool)
-}
-
 /// The truth value under a key, false where the key is not there.
 pub fn flag_at(value: &Value, name: &str) -> Option<bool>
     ensures { result ≡ key_or name.now false as_bool (view value.now) }
 {
-    match value.get(name) {
-        Some(found) => found.as_bool(),
-        None => Some(false),
-    }
+    value.get(name).map_or(Some(false), Value::as_bool)
 }
 
 fn is_listed(text: &str, names: &[&str]) -> bool

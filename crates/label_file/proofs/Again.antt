@@ -1,7 +1,7 @@
 -- What is written is read.
 use Rattle.std.proofs.Common.{◌≡◌, ℕ, suc, ◌+◌, ◌-◌, ◌<◌, ◌≤◌, ◌^◌, false, List, [], ◌∷◌, ◌++◌, length, take, drop, get_or, slice_get, Some, Ok, refl, sym, ap, ◌∙◌, append_assoc, arith, length-append, length-take-le}
 use Rattle.std.specs.List.{flat_map, AllByRecursion}
-use Rattle.std.proofs.lemmas.Bool.{ne_eqb, eq-eqb}
+use Rattle.std.proofs.lemmas.Bool.{ne_eqb, eq-eqb, lt-ltb}
 use Rattle.std.proofs.lemmas.List.{append-nil, take_at, take-append-drop, get_or_append_left, length-drop}
 use Rattle.std.proofs.Math.Seq.{get_or-append_seam}
 use Rattle.std.proofs.lemmas.Option.{slice_get-get_or, get_or_from_slice_get}
@@ -16,7 +16,7 @@ use Rattle.facet_codec.specs.Laws.{ReadsBack, IsBelow, IsText}
 use Rattle.facet_codec.proofs.Taking.{told_read_back}
 use Rattle.facet_codec.proofs.EachKind.{u32_read_back, text_read_back}
 use Rattle.label_file.specs.LabelBytes.{IsStorable, parent_ordinal, label_bytes, labels_bytes}
-use Rattle.label_file.specs.LabelReading.{codec, path_below, behind, head_at, label_at, labels_at, stored_labels}
+use Rattle.label_file.specs.LabelReading.{codec, path_below, behind, head_at, parent_at, label_at, labels_at, stored_labels}
 use Rattle.label_file.proofs.Below.{below_again}
 
 abbrev from : ℕ → List ℕ → Place
@@ -64,6 +64,11 @@ next_label all (root ∷ others) back path list are some =
       fresh_there = (λ i. stands (sym first i) (sym here i)) ∙ fresh all list (suc j) [] lt;
     }
 
+-- the number of a parent that stands before
+parent_again : (known at parent : ℕ) (rest : List ℕ) → parent < known → parent < 2 ^ 32 → parent_at known (from at (be32 parent ++ rest)) ≡ Ok (parent, from (at + length (be32 parent)) rest)
+unfolding parent_at
+parent_again known at parent rest before low = rw (number_again at parent rest low, lt-ltb parent known before) refl
+
 label_again : (all front back : List (List (List ℕ))) (path : List (List ℕ)) (at : ℕ) (rest : List ℕ) → IsLabelList all → length all ≤ 1000000 → all ≡ front ++ path ∷ back → 0 < length front → IsStorable path → label_at front (from at (label_bytes all path ++ rest)) ≡ Ok (path, from (at + length (label_bytes all path)) rest)
 unfolding label_at label_bytes
 label_again all front back path at rest list few are some fits =
@@ -71,7 +76,7 @@ label_again all front back path at rest list few are some fits =
     let low : next.parent < 2 ^ 32 = omega (arith, next.before, ap length are, length-append front (path ∷ back), few) in
     let part : IsText 4294967295 (last_part path) = record { length = omega (arith, fits.last.length); utf8 = fits.last.utf8 } in
     let found : path_below front next.parent (last_part path) ≡ Some path = below_again front next.parent path (path_has_part path fits.fits) (record { under = next.under; last = refl; fits = fits.fits; fresh = next.fresh_there }) in
-    let number = number_again at next.parent (text (last_part path) ++ rest) low in
+    let number = parent_again (length front) at next.parent (text (last_part path) ++ rest) next.before low in
     let last = text_again (at + length (be32 next.parent)) (last_part path) rest part in
     let far : at + length (be32 next.parent) + length (text (last_part path)) ≡ at + length (be32 next.parent ++ text (last_part path)) = omega (arith, length-append (be32 next.parent) (text (last_part path))) in
     rw (next.ordinal, append_assoc (be32 next.parent) (text (last_part path)) rest, number, last, found) (ap (λ n. Ok (path, from n rest)) far)

@@ -1,5 +1,5 @@
 -- Labels that are read one after the other.
-use Rattle.std.proofs.Common.{◌≡◌, ℕ, zero, suc, ◌+◌, ◌-◌, ◌<◌, ◌≤◌, List, [], ◌∷◌, ◌++◌, length, slice_get, Option, Some, None, Result, Ok, refl, sym, ap, subst, ◌∙◌, append_assoc, arith, length-append}
+use Rattle.std.proofs.Common.{◌≡◌, ℕ, zero, suc, ◌+◌, ◌-◌, ◌<◌, ◌≤◌, List, [], ◌∷◌, ◌++◌, length, slice_get, Option, Some, None, cond, nat_lt, Result, Ok, Err, refl, sym, ap, subst, ◌∙◌, append_assoc, arith, length-append}
 use Rattle.std.specs.List.{flat_map}
 use Rattle.std.proofs.lemmas.List.{append-nil, get_or_append_left}
 use Rattle.std.proofs.lemmas.Option.{slice_get-get_or, slice_get_within, get_or_from_slice_get}
@@ -10,12 +10,12 @@ use Rattle.facet_codec.specs.Faults.{fault_at}
 use Rattle.facet_codec.specs.Spelling.{be32, text}
 use Rattle.facet_codec.specs.Reading.{◌>>=◌, u32_at, text_at}
 use Rattle.facet_codec.specs.Laws.{Takes}
-use Rattle.facet_codec.proofs.Taking.{Takes-none, Takes-then, done_is, bind_ok, told_ok}
+use Rattle.facet_codec.proofs.Taking.{Takes-none, Takes-then, done_is, bind_ok, guard_yes, told_ok}
 use Rattle.facet_codec.proofs.EachKind.{u32_spelled, text_spelled}
 use Rattle.label_file.specs.declared.fault.LabelsFault.{LabelsFault}
 use Rattle.label_file.specs.declared.fault.LabelsFault.TheVariants.{Malformed, NoMemory}
 use Rattle.label_file.specs.LabelBytes.{label_bytes}
-use Rattle.label_file.specs.LabelReading.{Fails, codec, or_fault, path_below, label_at, labels_at}
+use Rattle.label_file.specs.LabelReading.{Fails, codec, or_fault, path_below, parent_at, label_at, labels_at}
 use Rattle.label_file.proofs.Below.{IsBelow, below_is, label_stands}
 
 -- ---- a loop that reads label after label; i of n were read
@@ -51,6 +51,14 @@ labels_push (suc i) known start labels p path q before e =
 
 -- ---- what was read
 
+-- the ordinal of a parent that was read
+pub parent_read : (known : ℕ) (p : Place) (parent : ℕ × Place) → parent_at known p ≡ Ok parent → u32_at p ≡ Ok parent
+unfolding parent_at
+parent_read known p parent e =
+    let a = bind_ok (codec (u32_at p)) (λ parent. cond (nat_lt parent.0 known) (Ok parent) (Err p.at)) parent e in
+    let g = guard_yes (nat_lt a.0.0 known) p.at a.0 parent a.2 in
+    told_ok fault_at (u32_at p) a.0 a.1 ∙ ap (λ (x : ℕ × Place). Ok x) g.1
+
 -- a label that was read: its parent's ordinal, its last component, and where it ends
 record IsLabelRead (labels : List (List (List ℕ))) (p : Place) (path : List (List ℕ)) (q : Place) : Type 0 where
   parent : ℕ
@@ -69,7 +77,7 @@ or_fault_ok at p q None x e = absurd cc
 label_read : (labels : List (List (List ℕ))) (p : Place) (path : List (List ℕ)) (q : Place) → label_at labels p ≡ Ok (path, q) → IsLabelRead labels p path q
 unfolding label_at
 label_read labels p path q e =
-    let a = bind_ok (codec (u32_at p)) (λ parent. codec (text_at 4294967295 parent.1) >>= λ part. or_fault p.at part.1 (path_below labels parent.0 part.0)) (path, q) e in
+    let a = bind_ok (parent_at (length labels) p) (λ parent. codec (text_at 4294967295 parent.1) >>= λ part. or_fault p.at part.1 (path_below labels parent.0 part.0)) (path, q) e in
     let b = bind_ok (codec (text_at 4294967295 a.0.1)) (λ part. or_fault p.at part.1 (path_below labels a.0.0 part.0)) (path, q) a.2 in
     let o = or_fault_ok p.at b.0.1 q (path_below labels a.0.0 b.0.0) path b.2 in
     record {
@@ -77,7 +85,7 @@ label_read labels p path q e =
       part = b.0.0;
       below = below_is labels a.0.0 b.0.0 path o.0;
       number = a.0.1;
-      number_is = told_ok fault_at (u32_at p) a.0 a.1;
+      number_is = parent_read (length labels) p a.0 a.1;
       part_is = told_ok fault_at (text_at 4294967295 a.0.1) b.0 b.1 ∙ ap (λ r. Ok (b.0.0, r)) o.1;
     }
 

@@ -1,5 +1,5 @@
 -- A whole segment that was read.
-use Rattle.std.proofs.Common.{◌≡◌, ℕ, ◌-◌, eqb, cond, List, [], ◌++◌, length, take, drop, Result, Ok, Err, refl, ap, subst, ◌∙◌, append_assoc, arith, length-append}
+use Rattle.std.proofs.Common.{◌≡◌, ℕ, zero, suc, ◌<◌, ◌-◌, false, eqb, cond, List, [], ◌++◌, length, take, drop, Result, Ok, Err, refl, ap, subst, ◌∙◌, append_assoc, arith, length-append}
 use Rattle.std.specs.List.{flat_map}
 use Rattle.std.proofs.lemmas.Bool.{eqb-true}
 use Rattle.std.proofs.lemmas.List.{append-nil, take_at, drop_at, nil_from_length}
@@ -12,7 +12,7 @@ use Rattle.facet_codec.proofs.Taking.{Takes-then, done_is, bind_ok, guard_ok, gu
 use Rattle.facet_codec.proofs.EachKind.{u32_spelled}
 use Rattle.label_file.specs.LabelBytes.{label_bytes, labels_bytes}
 use Rattle.label_file.specs.LabelReading.{codec, behind, head_at, labels_at, stored_labels}
-use Rattle.label_file.specs.LabelLaws.{GoesOnToList, HasSoManyMore, HasOneSpelling}
+use Rattle.label_file.specs.LabelLaws.{GoesOnToList, HasSoManyMore, HasSome, HasOneSpelling}
 use Rattle.label_file.proofs.Read.{labels_read, labels_list, labels_taken}
 
 behind_taken : (wanted : ℕ) (p q : Place) → IsBytes p.rest → behind wanted p ≡ Ok q → Takes p (be32 wanted) q
@@ -72,6 +72,26 @@ has_so_many_more known all first count bytes e =
     let w = whole known all first count bytes e in
     let read = labels_read count known all w.start w.end w.labels in
     omega (arith, ap length read.are, length-append known read.others, read.count)
+
+-- ---- a segment has a label
+
+positive : (count : ℕ) → eqb count 0 ≡ false → 0 < count
+positive zero e = absurd (cc e)
+positive (suc n) e = omega arith
+
+head_some : (first count : ℕ) (p q : Place) → head_at first count p ≡ Ok q → 0 < count
+unfolding head_at
+head_some first count p q e =
+    let magic = bind_ok (behind 0x46544158 p) _ q e in
+    let version = bind_ok (behind 1 magic.0) _ q magic.2 in
+    let number = bind_ok (behind first version.0) _ q version.2 in
+    let many = bind_ok (behind count number.0) _ q number.2 in
+    positive count (guard_ok (eqb count 0) number.0.at (Ok many.0) q many.2).0
+
+pub has_some : HasSome
+has_some known all first count bytes e =
+    let w = whole known all first count bytes e in
+    head_some first count (record { at = 0; rest = bytes }) w.start w.head
 
 regrouped : (a b c d e : List ℕ) → (a ++ (b ++ (c ++ d))) ++ e ≡ a ++ (b ++ (c ++ (d ++ e)))
 regrouped a b c d e = simp append_assoc

@@ -1,5 +1,5 @@
 -- What is true of each segment that is read.
-use Rattle.std.specs.Prelude.{◌≡◌, ℕ, ◌+◌, List, length, Ok}
+use Rattle.std.specs.Prelude.{◌≡◌, ◌<◌, ℕ, ◌+◌, List, length, Ok}
 use Rattle.facet_names.specs.Labels.{IsLabelList, GoesOn}
 use Rattle.facet_codec.specs.Places.{IsBytes}
 use Rattle.label_file.specs.LabelBytes.{labels_bytes}
@@ -12,6 +12,10 @@ GoesOnToList = (known labels : List (List (List ℕ))) (first count : ℕ) (byte
 -- it has as many labels more as the segment says
 abbrev pub HasSoManyMore : Type 0
 HasSoManyMore = (known labels : List (List (List ℕ))) (first count : ℕ) (bytes : List ℕ) → stored_labels known first count bytes ≡ Ok labels → length labels ≡ length known + count
+
+-- it has at least one
+abbrev pub HasSome : Type 0
+HasSome = (known labels : List (List (List ℕ))) (first count : ℕ) (bytes : List ℕ) → stored_labels known first count bytes ≡ Ok labels → 0 < count
 
 -- the bytes are the one spelling of its labels behind the known ones
 abbrev pub HasOneSpelling : Type 0

@@ -1,5 +1,5 @@
 -- Reading the labels of a taxonomy segment from left to right. A fault is told by its place.
-use Rattle.std.specs.Prelude.{◌≡◌, ◌≤◌, ◌⊎◌, ℕ, zero, suc, ◌||◌, List, [], ◌∷◌, ◌++◌, length, Option, Some, None, is_some, slice_get, option_and_then, Result, Ok, Err, ◌==◌, if◌then◌else◌}
+use Rattle.std.specs.Prelude.{◌≡◌, ◌≤◌, ◌⊎◌, ℕ, zero, suc, ◌||◌, List, [], ◌∷◌, ◌++◌, length, Option, Some, None, is_some, slice_get, option_and_then, Result, Ok, Err, ◌==◌, nat_lt, if◌then◌else◌}
 use Rattle.std.specs.Option.{option_map}
 use Rattle.facet_names.specs.Faults.{path_fault}
 use Rattle.facet_names.specs.Labels.{stands}
@@ -48,10 +48,16 @@ or_fault at p None = Err at
 
 -- ---- labels
 
+-- the ordinal of a parent, which has to be one of so many labels
+unfoldable pub parent_at : ℕ → Place → Result (ℕ × Place) ℕ
+parent_at known p = do
+  parent ← codec (u32_at p)
+  if nat_lt parent.0 known then Ok parent else Err p.at
+
 -- the path of the label that stands behind these
 unfoldable pub label_at : List (List (List ℕ)) → Place → Result (List (List ℕ) × Place) ℕ
 label_at labels p = do
-  parent ← codec (u32_at p)
+  parent ← parent_at (length labels) p
   part ← codec (text_at 4294967295 parent.1)
   or_fault p.at part.1 (path_below labels parent.0 part.0)
 

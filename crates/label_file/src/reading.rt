@@ -1,14 +1,14 @@
 ghost use Rattle.std.specs.Prelude.{◌≡◌, ◌≢◌, ◌≤◌, ◌<◌, ◌+◌, ◌++◌, [], ◌∷◌, ℕ, List, Some, None, Ok, length, option_and_then, IfOk, IfErr, OnOk, OnErr};
 ghost use Rattle.facet_names.specs.declared.fault.PathFault.TheVariants.{NoMemory as Memory};
 ghost use Rattle.facet_names.specs.Faults.{path_fault};
-ghost use Rattle.facet_names.specs.Labels.{GoesOn};
-ghost use Rattle.label_file.specs.LabelReading.{Fails, behind, head_at, joined, path_below, label_at, labels_at, AreFirst, stored_labels, StandBefore};
+ghost use Rattle.facet_names.specs.Labels.{GoesOn, IsLabelList};
+ghost use Rattle.label_file.specs.LabelReading.{Fails, behind, head_at, joined, path_below, parent_at, label_at, labels_at, AreFirst, stored_labels, StandBefore};
 
 use crate::fault::LabelsFault;
 use facet_codec::Cursor;
 use facet_names::{NoMemory, Path, PathFault};
 use std::alloc::Global;
-use taxo_list::{Labelled, Taxonomy};
+use taxo_list::{Labelled, TaxoFault, Taxonomy};
 
 /// Passes four bytes, which have to be this number.
 #[tactic(auto, unfolding(crate::specs::LabelReading::behind))]
@@ -42,20 +42,20 @@ fn head(cursor: &mut Cursor<'_>, first: u32, count: u32) -> Result<(), LabelsFau
 
 /// The path of a component below the label at an ordinal, or why it is no path.
 fn joined(labels: &Taxonomy, alloc: Global, parent: u32, part: &str) -> Result<Path, PathFault>
-    requires { parent < length labels.now }
+    requires list { IsLabelList labels.now }
+    requires within { parent < length labels.now }
     ensures ok { IfOk result (λ p. joined labels.now parent part.now ≡ Some p) }
     ensures fits { IfOk result (λ p. path_fault p ≡ None) }
     ensures err { IfErr result (λ e. e ≢ Memory → option_and_then path_fault (joined labels.now parent part.now) ≡ Some e) }
     ensures memory { IfErr result (λ e. e ≡ Memory → option_and_then path_fault (joined labels.now parent part.now) ≡ None) }
 {
-    let _ = labels.size();
     if parent == 0 {
         return Path::of_dim(alloc, part);
     }
     labels.path_of(parent).child(alloc, part)
 }
 
-/// The path of a component below the label at an ordinal; None where there is no such label, and where it is no path or stands already.
+/// The path of a component below the label at an ordinal; None where it is no path or stands already.
 #[tactic(auto, unfolding(crate::specs::LabelReading::path_below))]
 fn path_below(
     labels: &Taxonomy,
@@ -63,12 +63,11 @@ fn path_below(
     parent: u32,
     part: &str,
 ) -> Result<Option<Path>, NoMemory>
+    requires list { IsLabelList labels.now }
+    requires within { parent < length labels.now }
     ensures ok { IfOk result (λ o. o ≡ path_below labels.now parent part.now) }
-    ensures memory { IfErr result (λ _. (parent < length labels.now) × (option_and_then path_fault (joined labels.now parent part.now) ≡ None)) }
+    ensures memory { IfErr result (λ _. option_and_then path_fault (joined labels.now parent part.now) ≡ None) }
 {
-    if parent >= labels.size() {
-        return Ok(None);
-    }
     let path = match joined(labels, alloc, parent, part) {
         Ok(path) => path,
         Err(PathFault::NoMemory) => return Err(NoMemory),
@@ -78,6 +77,21 @@ fn path_below(
         return Ok(None);
     }
     Ok(Some(path))
+}
+
+/// The ordinal of a parent, which has to be one of so many labels.
+#[tactic(auto, unfolding(crate::specs::LabelReading::parent_at))]
+fn parent_at(cursor: &mut Cursor<'_>, known: u32) -> Result<u32, LabelsFault>
+    ensures ok { IfOk result (λ parent. parent_at known cursor.old ≡ Ok (parent, cursor.new)) }
+    ensures before { IfOk result (λ parent. parent < known) }
+    ensures err { IfErr result (λ e. Fails e (parent_at known cursor.old)) }
+{
+    let at = cursor.at() as u64;
+    let parent = cursor.u32()?;
+    if parent >= known {
+        return Err(LabelsFault::Malformed { at });
+    }
+    Ok(parent)
 }
 
 /// Adds the label that is read.
@@ -90,16 +104,17 @@ fn label(labels: &mut Taxonomy, alloc: Global, cursor: &mut Cursor<'_>) -> Resul
     ensures goes_on { GoesOn labels.old labels.new }
 {
     let at = cursor.at() as u64;
-    let parent = cursor.u32()?;
+    let parent = parent_at(cursor, labels.size())?;
     let part = cursor.text(u32::MAX)?;
     let Some(path) = path_below(labels, alloc, parent, part)? else {
         return Err(LabelsFault::Malformed { at });
     };
-    // The list is not full, so that only memory can be wanting.
-    if labels.add(&path, 1_000_000).is_err() {
-        return Err(LabelsFault::NoMemory);
+    match labels.add(&path, 1_000_000) {
+        Ok(_) => Ok(()),
+        Err(TaxoFault::NoMemory) => Err(LabelsFault::NoMemory),
+        // The list is not full.
+        Err(TaxoFault::LabelsFull { .. }) => unreachable!(),
     }
-    Ok(())
 }
 
 /// Adds so many labels.
@@ -122,7 +137,8 @@ fn labels_after(
 }
 
 /// Puts the labels of a taxonomy segment behind these. The segment, which is all of the bytes, has to be one of `count` labels, the first of which has
-/// the ordinal `first`; `count` is at least 1. Each label's parent stands before it, and no label stands twice, also among the labels before.
+/// the ordinal `first`; `count` is at least 1. Each label's parent stands before it, which is seen before its text is read, and no label stands twice, also
+/// among the labels before.
 ///
 /// After a fault the first of the segment's labels may stand behind the others, and no others do. It reads the bytes once from left to right, and takes
 /// memory for each label when that was read, whatever the count says.

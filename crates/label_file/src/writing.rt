@@ -1,5 +1,6 @@
 ghost use Rattle.std.specs.Prelude.{◌≡◌, ◌≤◌, ◌<◌, ◌-◌, ◌++◌, Some, Ok, length, take, drop, slice_index_or, IfOk, OnOk, []};
 ghost use Rattle.std.specs.List.{flat_map, AllByRecursion};
+ghost use Rattle.facet_names.specs.Labels.{IsLabelList};
 ghost use Rattle.label_file.specs.LabelBytes.{IsStorable, label_bytes, labels_bytes};
 ghost use Rattle.label_file.specs.LabelReading.{stored_labels};
 
@@ -9,12 +10,13 @@ use taxo_list::{Labelled, TaxoView};
 
 /// Appends the label at an ordinal.
 fn put_label(out: &mut Vec<u8>, view: &TaxoView, ord: u32) -> Result<(), NoMemory>
+    requires list { IsLabelList view.now }
+    requires few { length view.now ≤ 1000000 }
     requires some { 0 < ord }
     requires within { ord < length view.now }
     ensures bytes { OnOk result (out.new.items ≡ out.old.items ++ label_bytes view.now (slice_index_or view.now ord [])) }
     ensures fits { OnOk result (IsStorable (slice_index_or view.now ord [])) }
 {
-    let _ = view.size();
     let path = view.path_of(ord);
     put_u32(out, view.arrays().parent(ord) as u32)?;
     put_text(out, path.part(path.len() - 1))?;

@@ -1,6 +1,4 @@
-use facet_replies::{
-    Refusal, Reply, ScriptFault, StoreFault, write_fault, write_reply, write_store_fault,
-};
+use facet_replies::{Refusal, Reply, ScriptFault, write_fault, write_reply};
 use std::alloc::Global;
 use std::test::Fail;
 
@@ -70,57 +68,6 @@ fn refusals() -> &'static [(Refusal, &'static str)] {
     &REFUSALS
 }
 
-static STORE_FAULTS: [(StoreFault<'static>, &str); 6] = [
-    (
-        StoreFault::Missing {
-            file: "index/segment-3",
-        },
-        r#"{"fault":"missing","file":"index/segment-3"}"#,
-    ),
-    (
-        StoreFault::Damaged {
-            file: "index/segment-3",
-            kept: [0xa0; 32],
-            found: [0x1f; 32],
-        },
-        r#"{"fault":"damaged","file":"index/segment-3","found":"1f1f1f1f1f1f1f1f1f1f1f1f1f1f1f1f1f1f1f1f1f1f1f1f1f1f1f1f1f1f1f1f","kept":"a0a0a0a0a0a0a0a0a0a0a0a0a0a0a0a0a0a0a0a0a0a0a0a0a0a0a0a0a0a0a0a0"}"#,
-    ),
-    (
-        StoreFault::Malformed {
-            file: "index/commit-4",
-            at: 20,
-        },
-        r#"{"at":20,"fault":"malformed","file":"index/commit-4"}"#,
-    ),
-    (
-        StoreFault::Uncovered { needs: 3, has: 1 },
-        r#"{"fault":"uncovered","has":1,"needs":3}"#,
-    ),
-    (
-        StoreFault::NumbersSpent {
-            number: 9_223_372_036_854_775_808,
-        },
-        r#"{"fault":"numbers_spent","number":9223372036854775808}"#,
-    ),
-    (
-        StoreFault::OtherConfig { dim: "Author" },
-        r#"{"dim":"Author","fault":"other_config"}"#,
-    ),
-];
-
-fn store_faults() -> &'static [(StoreFault<'static>, &'static str)] {
-    &STORE_FAULTS
-}
-
-// Whether this is the line of a fault of a store.
-fn is_told(alloc: Global, fault: StoreFault<'static>, expected: &str) -> Result<bool, Fail> {
-    let mut out = Vec::new(alloc);
-    write_store_fault(alloc, &mut out, fault)?;
-    let mut line = String::from_str(alloc, expected)?;
-    line.push('\n')?;
-    Ok(out.as_slice() == line.as_str().as_bytes())
-}
-
 // Whether these are the lines of faults of scripts.
 fn are_told(alloc: Global) -> Result<bool, Fail> {
     let mut out = Vec::new(alloc);
@@ -144,9 +91,6 @@ fn lines_of_refusals_and_faults(rt: HostRuntime) -> Result<(), Fail> {
     for (refusal, expected) in refusals() {
         let found = has_line(rt.alloc(), &Reply::Refused(*refusal), *expected)?;
         assert!(rt; found, "{expected}");
-    }
-    for (fault, expected) in store_faults() {
-        assert!(rt; is_told(rt.alloc(), *fault, *expected)?, "{expected}");
     }
     Ok(())
 }

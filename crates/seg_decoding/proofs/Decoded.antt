@@ -1,5 +1,5 @@
 -- Segments that decode, under a list of labels that goes on, and with one segment more.
-use Rattle.std.proofs.Common.{◌≡◌, ℕ, zero, suc, ◌+◌, ◌-◌, take, ◌<◌, length, arith, true, List, [], ◌∷◌, ◌++◌, map, get_or, slice_get, Some, refl, sym, ap, subst, ◌∙◌}
+use Rattle.std.proofs.Common.{◌≡◌, ℕ, zero, suc, ◌+◌, ◌-◌, take, ◌<◌, length, arith, List, [], ◌∷◌, ◌++◌, map, get_or, slice_get, Some, refl, sym, ap, subst, ◌∙◌}
 use Rattle.std.specs.Prelude.{flat_map}
 use Rattle.std.specs.List.{AllZip}
 use Rattle.std.proofs.lemmas.List.{append-nil, map-append, map_push, take_more, flat_map_more}
@@ -9,15 +9,13 @@ use Rattle.facet_names.specs.Labels.{GoesOn, IsLabelList}
 use Rattle.facet_names.proofs.LabelLists.{Labels}
 use Rattle.facet_model.specs.Documents.{Doc}
 use Rattle.facet_model.specs.Flags.{Config}
-use Rattle.facet_model.specs.Histories.{knows}
 use Rattle.facet_model.specs.Stored.{Stored, Records, AreLabelsAt, IsRecordOf, IsSegmentOf, Decodes}
-use Rattle.facet_model.proofs.Fronts.{knows_its_labels}
 use Rattle.facet_config.proofs.Staying.{counted_stay, known_stay}
 use Rattle.seg_terms.specs.Entries.{stored_of, segment_of}
 use Rattle.seg_terms.specs.declared.entry.Entry.{Entry}
 use Rattle.seg_decoding.specs.Decoding.{doc_in, records_in, docs_in, flushed}
 use Rattle.seg_decoding.specs.Entries.{AreEntries, docs_of}
-use Rattle.seg_decoding.proofs.Ordinals.{all_stay, all_zip_push, known_at}
+use Rattle.seg_decoding.proofs.Ordinals.{all_stay, all_zip_push}
 
 -- ---- lists side by side
 

@@ -14,7 +14,6 @@ use Rattle.facet_model.specs.CountedPaths.{places, counted_ordinals}
 use Rattle.facet_model.specs.Documents.{Doc}
 use Rattle.facet_model.specs.Flags.{Config}
 use Rattle.facet_model.specs.Stored.{Stored, Records, AreLabelsAt, IsRecordOf, IsSegmentOf}
-use Rattle.facet_model.proofs.Fronts.{knows_its_labels}
 use Rattle.facet_counts.specs.Laws.{MayBeCounted}
 use Rattle.facet_counts.specs.Lists.{IsListOf}
 use Rattle.query_eval.specs.Segments.{HasTermsOf}

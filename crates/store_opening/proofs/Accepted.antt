@@ -5,8 +5,8 @@ use Rattle.std.specs.List.{sum_by}
 use Rattle.std.proofs.lemmas.Bool.{ltb-false, eqb-true}
 use Rattle.std.proofs.lemmas.List.Sums.{sum_by-cons}
 use Rattle.facet_codec.specs.Places.{Place}
-use Rattle.facet_codec.specs.Reading.{u32_at, u64_at, vint_at}
-use Rattle.facet_codec.proofs.Taking.{done_is, bind_ok, guard_ok, guard_yes}
+use Rattle.facet_codec.specs.Reading.{◌>>=◌, u32_at, u64_at, vint_at}
+use Rattle.facet_codec.proofs.Taking.{done, done_is, bind_ok, guard_ok, guard_yes}
 use Rattle.commit_file.specs.declared.fault.FileFault.{FileFault}
 use Rattle.commit_file.specs.declared.taxonomy.LabelPart.{LabelPart}
 use Rattle.commit_file.specs.declared.index.DocumentPart.{DocumentPart}
@@ -54,17 +54,23 @@ last_is total behind start p n e last =
     by true false h k = absurd (cc k)
     by false y h k = absurd (cc h)
 
+part_kept : (total behind start number : ℕ) (digest : List ℕ) (p q rest : Place) (first count : ℕ × Place) (x : LabelPart × Place)
+    → (record { number = number; first = first.0; count = count.0; digest = digest }, rest) ≡ x → first_at start p ≡ Ok first → count_at total behind first.0 q ≡ Ok count
+    → (x.0.first ≡ start) × (behind ≡ 0 → end_of x.0 ≡ total)
+part_kept total behind start number digest p q rest first count x made begins ends = (
+  ap (λ (y : LabelPart × Place). y.0.first) (sym made) ∙ first_is start p first begins,
+  λ last. ap (λ (y : LabelPart × Place). end_of y.0) (sym made) ∙ last_is total behind first.0 q count ends last,
+)
+
 part_is : (total behind start : ℕ) (p : Place) (x : LabelPart × Place) → label_part_at total behind start p ≡ Ok x → (x.0.first ≡ start) × (behind ≡ 0 → end_of x.0 ≡ total)
 unfolding label_part_at
 part_is total behind start p x e =
     let a = bind_ok (told (u64_at p)) _ x e in
-    let b = bind_ok (first_at start a.0.1) _ x a.2 in
-    let d = bind_ok (count_at total behind b.0.0 b.0.1) _ x b.2 in
-    let f = bind_ok (digest_at d.0.1) _ x d.2 in
-    let made = done_is FileFault _ x f.2 in (
-      ap (λ (y : LabelPart × Place). y.0.first) (sym made) ∙ first_is start a.0.1 b.0 b.1,
-      λ last. ap (λ (y : LabelPart × Place). end_of y.0) (sym made) ∙ last_is total behind b.0.0 b.0.1 d.0 d.1 last,
-    )
+    let b = bind_ok (first_at start a.0.1)
+    (λ first. count_at total behind first.0 first.1 >>= λ count. digest_at count.1 >>= λ digest. done (record { number = a.0.0; first = first.0; count = count.0; digest = digest.0 }, digest.1)) x a.2 in
+    let d = bind_ok (count_at total behind b.0.0 b.0.1) (λ count. digest_at count.1 >>= λ digest. done (record { number = a.0.0; first = b.0.0; count = count.0; digest = digest.0 }, digest.1)) x b.2 in
+    let f = bind_ok (digest_at d.0.1) (λ digest. done (record { number = a.0.0; first = b.0.0; count = d.0.0; digest = digest.0 }, digest.1)) x d.2 in
+    part_kept total behind start a.0.0 f.0.0 a.0.1 b.0.1 f.0.1 b.0 d.0 x (done_is FileFault (record { number = a.0.0; first = b.0.0; count = d.0.0; digest = f.0.0 }, f.0.1) x f.2) b.1 d.1
 
 in_order : (total m start : ℕ) (p : Place) (x : List LabelPart × Place) → each_at (label_part_at total) (λ _ part. end_of part) (suc m) start p ≡ Ok x → AreInOrder total start x.0
 unfolding each_at
@@ -72,13 +78,13 @@ in_order total zero start p x e =
     let a = bind_ok (label_part_at total 0 start p) _ x e in
     let made = done_is FileFault (a.0.0 ∷ [], a.0.1) x a.2 in
     let is = part_is total 0 start p a.0 a.1 in
-    subst (λ (y : List LabelPart × Place). AreInOrder total start y.0) made (is.0, is.1 refl)
+    subst (λ (y : List LabelPart × Place). AreInOrder total start y.0) {x = (a.0.0 ∷ [], a.0.1)} {y = x} made (is.0, is.1 refl)
 in_order total (suc m) start p x e =
     let a = bind_ok (label_part_at total (suc m) start p) _ x e in
-    let b = bind_ok (each_at (label_part_at total) (λ _ part. end_of part) (suc m) (end_of a.0.0) a.0.1) _ x a.2 in
+    let b = bind_ok (each_at (label_part_at total) (λ _ part. end_of part) (suc m) (end_of a.0.0) a.0.1) (λ others. done (a.0.0 ∷ others.0, others.1)) x a.2 in
     let made = done_is FileFault (a.0.0 ∷ b.0.0, b.0.1) x b.2 in
     let is = part_is total (suc m) start p a.0 a.1 in
-    subst (λ (y : List LabelPart × Place). AreInOrder total start y.0) made (is.0, in_order total m (end_of a.0.0) a.0.1 b.0 b.1)
+    subst (λ (y : List LabelPart × Place). AreInOrder total start y.0) {x = (a.0.0 ∷ b.0.0, b.0.1)} {y = x} made (is.0, in_order total m (end_of a.0.0) a.0.1 b.0 b.1)
 
 ended_is : {A : Type 0} (x y : A) (p : Place) → ended x p ≡ Ok y → x ≡ y
 ended_is x y p e = (guard_yes _ _ x y e).1
@@ -88,12 +94,13 @@ unfolding taxonomy_commit taxonomy_at
 taxonomy_accepted number bytes c e =
     let body = bind_ok (unsealed bytes) _ c e in
     let start = bind_ok (head_at 0x4654434d number (record { at = 0; rest = body.0 })) _ c body.2 in
-    let labels = bind_ok (labels_at start.0) _ c start.2 in
-    let n = bind_ok (some_at labels.0.1) _ c labels.2 in
-    let parts = bind_ok (label_parts_at labels.0.0 n.0.0 n.0.1) _ c n.2 in
+    let labels = bind_ok (labels_at start.0)
+    (λ labels. some_at labels.1 >>= λ n. label_parts_at labels.0 n.0 n.1 >>= λ parts. ended (record { labels = labels.0; parts = parts.0 }) parts.1) c start.2 in
+    let n = bind_ok (some_at labels.0.1) (λ n. label_parts_at labels.0.0 n.0 n.1 >>= λ parts. ended (record { labels = labels.0.0; parts = parts.0 }) parts.1) c labels.2 in
+    let parts = bind_ok (label_parts_at labels.0.0 n.0.0 n.0.1) (λ parts. ended (record { labels = labels.0.0; parts = parts.0 }) parts.1) c n.2 in
     let made = ended_is (record { labels = labels.0.0; parts = parts.0.0 }) c parts.0.1 parts.2 in
     let ordered = by labels.0.0 n.0.0 (some_one labels.0.1 n.0 n.1) n.0.1 parts.0 parts.1 in
-    subst (λ (x : TaxonomyListing). (x.labels ≤ 1000000) × AreInOrder x.labels 1 x.parts) made (labels_few start.0 labels.0 labels.1, ordered)
+    subst (λ (x : TaxonomyListing). (x.labels ≤ 1000000) × AreInOrder x.labels 1 x.parts) {x = record { labels = labels.0.0; parts = parts.0.0 }} {y = c} made (labels_few start.0 labels.0 labels.1, ordered)
   where
     by : (total n : ℕ) → (n ≡ 0 → ⊥) → (p : Place) (x : List LabelPart × Place) → label_parts_at total n p ≡ Ok x → AreInOrder total 1 x.0
     by total zero some p x e = absurd (some refl)
@@ -114,10 +121,10 @@ part_few : (before : ℕ) (p : Place) (x : DocumentPart × Place) → document_p
 unfolding document_part_at
 part_few before p x e =
     let a = bind_ok (told (u64_at p)) _ x e in
-    let b = bind_ok (documents_at before a.0.1) _ x a.2 in
-    let d = bind_ok (digest_at b.0.1) _ x b.2 in
-    let made = done_is FileFault _ x d.2 in
-    subst (λ (y : DocumentPart × Place). before + y.0.documents ≤ 1000000) made (documents_few before a.0.1 b.0 b.1)
+    let b = bind_ok (documents_at before a.0.1) (λ documents. digest_at documents.1 >>= λ digest. done (record { number = a.0.0; documents = documents.0; digest = digest.0 }, digest.1)) x a.2 in
+    let d = bind_ok (digest_at b.0.1) (λ digest. done (record { number = a.0.0; documents = b.0.0; digest = digest.0 }, digest.1)) x b.2 in
+    let made = done_is FileFault (record { number = a.0.0; documents = b.0.0; digest = d.0.0 }, d.0.1) x d.2 in
+    subst (λ (y : DocumentPart × Place). before + y.0.documents ≤ 1000000) {x = (record { number = a.0.0; documents = b.0.0; digest = d.0.0 }, d.0.1)} {y = x} made (documents_few before a.0.1 b.0 b.1)
 
 one_part : (before documents behind : ℕ) → before + documents + behind ≤ 1000000 → before + (documents + behind) ≤ 1000000
 one_part before documents behind low = omega (arith, low)
@@ -129,22 +136,25 @@ parts_few zero before p x low e =
     subst (λ (y : List DocumentPart × Place). before + sum_by documents_of y.0 ≤ 1000000) made (omega (arith, low))
 parts_few (suc n) before p x low e =
     let a = bind_ok (document_part_at before p) _ x e in
-    let b = bind_ok (each_at (λ _. document_part_at) with_documents n (with_documents before a.0.0) a.0.1) _ x a.2 in
+    let b = bind_ok (each_at (λ _. document_part_at) with_documents n (with_documents before a.0.0) a.0.1) (λ others. done (a.0.0 ∷ others.0, others.1)) x a.2 in
     let made = done_is FileFault (a.0.0 ∷ b.0.0, b.0.1) x b.2 in
     let rest = parts_few n (before + a.0.0.documents) a.0.1 b.0 (part_few before p a.0 a.1) b.1 in
-    subst (λ (y : List DocumentPart × Place). before + sum_by documents_of y.0 ≤ 1000000) made
-    (subst (λ (m : ℕ). before + m ≤ 1000000) (sym (sum_by-cons documents_of a.0.0 b.0.0)) (one_part before a.0.0.documents (sum_by documents_of b.0.0) rest))
+    subst (λ (y : List DocumentPart × Place). before + sum_by documents_of y.0 ≤ 1000000) {x = (a.0.0 ∷ b.0.0, b.0.1)} {y = x} made
+    (subst (λ (m : ℕ). before + m ≤ 1000000) {x = documents_of a.0.0 + sum_by documents_of b.0.0} {y = sum_by documents_of (a.0.0 ∷ b.0.0)} (sym (sum_by-cons documents_of a.0.0 b.0.0)) (one_part before a.0.0.documents (sum_by documents_of b.0.0) rest))
 
 pub index_accepted : (number : ℕ) (bytes : List ℕ) (c : IndexListing) → index_commit number bytes ≡ Ok c → sum_by documents_of c.parts ≤ 1000000
 unfolding index_commit index_at
 index_accepted number bytes c e =
     let body = bind_ok (unsealed bytes) _ c e in
     let start = bind_ok (head_at 0x4649434d number (record { at = 0; rest = body.0 })) _ c body.2 in
-    let needs = bind_ok (told (u32_at start.0)) _ c start.2 in
-    let declared = bind_ok (told (vint_at needs.0.1)) _ c needs.2 in
-    let kept = bind_ok (declarations_at declared.0.0 declared.0.1) _ c declared.2 in
-    let n = bind_ok (some_at kept.0.1) _ c kept.2 in
-    let parts = bind_ok (document_parts_at n.0.0 n.0.1) _ c n.2 in
+    let needs = bind_ok (told (u32_at start.0)) (λ needs. told (vint_at needs.1) >>= λ declared. declarations_at declared.0 declared.1 >>= λ kept. some_at kept.1
+    >>= λ n. document_parts_at n.0 n.1 >>= λ parts. ended (record { needs = needs.0; kept = kept.0; parts = parts.0 }) parts.1) c start.2 in
+    let declared = bind_ok (told (vint_at needs.0.1)) (λ declared. declarations_at declared.0 declared.1 >>= λ kept. some_at kept.1
+    >>= λ n. document_parts_at n.0 n.1 >>= λ parts. ended (record { needs = needs.0.0; kept = kept.0; parts = parts.0 }) parts.1) c needs.2 in
+    let kept = bind_ok (declarations_at declared.0.0 declared.0.1) (λ kept. some_at kept.1
+    >>= λ n. document_parts_at n.0 n.1 >>= λ parts. ended (record { needs = needs.0.0; kept = kept.0; parts = parts.0 }) parts.1) c declared.2 in
+    let n = bind_ok (some_at kept.0.1) (λ n. document_parts_at n.0 n.1 >>= λ parts. ended (record { needs = needs.0.0; kept = kept.0.0; parts = parts.0 }) parts.1) c kept.2 in
+    let parts = bind_ok (document_parts_at n.0.0 n.0.1) (λ parts. ended (record { needs = needs.0.0; kept = kept.0.0; parts = parts.0 }) parts.1) c n.2 in
     let made = ended_is (record { needs = needs.0.0; kept = kept.0.0; parts = parts.0.0 }) c parts.0.1 parts.2 in
     let few = parts_few n.0.0 0 n.0.1 parts.0 (omega arith) parts.1 in
-    subst (λ (x : IndexListing). sum_by documents_of x.parts ≤ 1000000) made (omega (arith, few))
+    subst (λ (x : IndexListing). sum_by documents_of x.parts ≤ 1000000) {x = record { needs = needs.0.0; kept = kept.0.0; parts = parts.0.0 }} {y = c} made (omega (arith, few))

@@ -7,11 +7,12 @@ use Rattle.std.proofs.lemmas.Bool.{cases_lt}
 use Rattle.std.proofs.lemmas.Bool.Decides.{nat_tests}
 use Rattle.facet_codec.specs.Faults.{told_as}
 use Rattle.facet_codec.specs.Reading.{◌>>=◌}
-use Rattle.facet_codec.proofs.Taking.{bind_ok}
+use Rattle.facet_codec.proofs.Taking.{done, bind_ok}
 use Rattle.facet_disk.specs.declared.name.Dir.{Dir}
 use Rattle.facet_disk.specs.declared.name.Dir.TheVariants.{Taxonomy, Index}
 use Rattle.facet_disk.specs.declared.name.Kind.TheVariants.{Segment, Commit}
 use Rattle.facet_disk.specs.declared.name.FileName.{FileName}
+use Rattle.facet_disk.specs.declared.disk.Disk.{Ghosts}
 use Rattle.facet_disk.specs.Images.{Image, Told}
 use Rattle.facet_model.specs.Flags.{Config}
 use Rattle.facet_model.specs.Stored.{Records}
@@ -215,6 +216,14 @@ module _ (config : Config) (next : ℕ) (t i : Held) (c : Image) (f : Found) (st
       (ap (λ (o : Option (ℕ × List ℕ)). index_in config a.0 o (segments_in Index c)) stands.index_held.commit ∙ index_same (segments_in Index c) (held_segments i) config a.0 i.commit index ∙ b.1)
       ∙ b.2
 
+-- two directories hold what their commits tell
+held_told : (config : Config) (t i : Held) (labels : List (List (List ℕ))) (segments : List Records) (f : Found) → taxonomy_in t.commit (held_segments t) ≡ Ok labels
+    → index_in config labels i.commit (held_segments i) ≡ Ok segments → done {F = OpenFault} (record { labels = labels; segments = segments }) ≡ Ok f → files_of config t i ≡ Ok f
+unfolding files_of
+held_told config t i labels segments f first second is =
+    ap (λ (r : Result (List (List (List ℕ))) OpenFault). r >>= λ labels. index_in config labels i.commit (held_segments i) >>= λ segments. Ok (record { labels = labels; segments = segments })) first
+    ∙ ap (λ (r : Result (List Records) OpenFault). r >>= λ segments. Ok (record { labels = labels; segments = segments })) second ∙ is
+
 -- ---- the directories of an image
 
 module _ (config : Config) (c : Image) (f : Found) (e : files config c ≡ Ok f) where
@@ -224,7 +233,7 @@ module _ (config : Config) (c : Image) (f : Found) (e : files config c ≡ Ok f)
       index_in config labels (newest_file Index c) (segments_in Index c) >>= λ segments. Ok (record { labels = labels; segments = segments })) f e).1
 
   pub files_held : files_of config (held_in Taxonomy c) (held_in Index c) ≡ Ok f
-  unfolding files files_of
+  unfolding files
   files_held =
       let u = bind_ok (unspent (greatest_number c)) (λ below. taxonomy_in (newest_file Taxonomy c) (segments_in Taxonomy c) >>= λ labels.
       index_in config labels (newest_file Index c) (segments_in Index c) >>= λ segments. Ok (record { labels = labels; segments = segments })) f e in
@@ -236,9 +245,7 @@ module _ (config : Config) (c : Image) (f : Found) (e : files config c ≡ Ok f)
       (same_found (segments_in Taxonomy c) labels labels (taxonomy_there (segments_in Taxonomy c) (newest_file Taxonomy c) a.0 a.1) (among_all labels)) in
       let index = index_same (held_segments (held_in Index c)) (segments_in Index c) config a.0 (newest_file Index c)
       (same_found (segments_in Index c) documents documents (index_there (segments_in Index c) config a.0 (newest_file Index c) b.0 b.1) (among_all documents)) in
-      ap (λ (r : Result (List (List (List ℕ))) OpenFault). r >>= λ labels. index_in config labels (newest_file Index c) (held_segments (held_in Index c)) >>= λ segments. Ok (record { labels = labels; segments = segments })) (taxonomy ∙ a.1)
-      ∙ ap (λ (r : Result (List Records) OpenFault). r >>= λ segments. Ok (record { labels = a.0; segments = segments })) (index ∙ b.1)
-      ∙ b.2
+      held_told config (held_in Taxonomy c) (held_in Index c) a.0 b.0 f (taxonomy ∙ a.1) (index ∙ b.1) b.2
 
 -- ---- a settled disk
 
@@ -280,24 +287,24 @@ module _ (next : ℕ) (d : Image) (below : Below next d) where
         (there_low (segments_in dir d) next (λ n b is. below (file dir Segment n) (some_is (d (file dir Segment n)) b is)) (named dir (newest_file dir d)));
   }
 
-module _ {D : Type 0} (may_leave : D → Image → Type 0) (disk : D) (config : Config) (s : Told) (f : Found) (next : ℕ)
-    (settled : IsSettled may_leave config s disk) (e : files config s.files ≡ Ok f) (below : Below next s.files) where
-  holds : (dir : Dir) (c : Image) → may_leave disk c → Holds dir (held_in dir s.files) c
+module _ {D : Type 0} (disk : Ghosts D) (now : D) (wide : (c : Image) → disk.may_leave now c → Below (2 ^ 64) c) (config : Config) (s : Told) (f : Found) (next : ℕ)
+    (settled : IsSettled disk config s now) (e : files config s.files ≡ Ok f) (below : Below next s.files) where
+  holds : (dir : Dir) (c : Image) → disk.may_leave now c → Holds dir (held_in dir s.files) c
   holds dir c left = record {
     commit = settled.commits dir c left;
     segments = each_at (λ x. segments_in dir c x.0 ≡ Some x.1) (held_in dir s.files).segments
         (there_held (segments_in dir c) (segments_in dir s.files) (named dir (newest_file dir s.files)) (all_each (λ n. segments_in dir c n ≡ segments_in dir s.files n) (named dir (newest_file dir s.files)) (settled.segments dir c left)));
   }
 
-  pub settled_stands : (c : Image) → may_leave disk c → Stands next (held_in Taxonomy s.files) (held_in Index s.files) c
+  pub settled_stands : (c : Image) → disk.may_leave now c → Stands next (held_in Taxonomy s.files) (held_in Index s.files) c
   settled_stands c left = record {
     commits = λ n commit some.
         let same : n ≡ file n.dir Commit n.number = λ i. record { dir = n.dir; kind = commit i; number = n.number } in
         commit_low next s.files below n.dir c (newest_file n.dir s.files) (subst (IsNewest n.dir c) (settled.commits n.dir c left) (newest_there n.dir c)) (newest_there n.dir s.files)
-        n.number (settled.numbers c left n some) (subst (λ (m : FileName). c m ≢ None) same some);
+        n.number (wide c left n some) (subst (λ (m : FileName). c m ≢ None) same some);
     taxonomy_named = named_below next s.files below Taxonomy;
     index_named = named_below next s.files below Index;
-    small = unspent_small c (settled.numbers c left) (files_small config c f (settled.same c left ∙ e));
+    small = unspent_small c (wide c left) (files_small config c f (settled.same c left ∙ e));
     taxonomy_held = holds Taxonomy c left;
     index_held = holds Index c left;
   }
@@ -331,11 +338,10 @@ module _ (config : Config) (next : ℕ) (t i : Held) (f : Found) (e : files_of c
   named_same dir c stands = same_from (segments_in dir c) (held_segments (held dir))
       (found_there (segments_in dir c) (held dir).segments (all_each (λ s. segments_in dir c s.0 ≡ Some s.1) (held dir).segments (held_by dir c stands).segments)) (named dir (held dir).commit) (named_there dir)
 
-  pub stands_settled : {D : Type 0} (may_leave : D → Image → Type 0) (disk : D) (s : Told) → may_leave disk s.files → ((c : Image) → may_leave disk c → Stands next t i c) → IsSettled may_leave config s disk
-  stands_settled may_leave disk s own stands =
+  pub stands_settled : {D : Type 0} (disk : Ghosts D) (now : D) (s : Told) → disk.may_leave now s.files → ((c : Image) → disk.may_leave now c → Stands next t i c) → IsSettled disk config s now
+  stands_settled disk now s own stands =
       let reads : Stands next t i s.files = stands s.files own in
       record {
-        numbers = λ c left n some. let low : n.number < 2 ^ 63 = (stands c left).small n some in omega (arith, low);
         same = λ c left. files_stand config next t i c f (stands c left) e ∙ sym (files_stand config next t i s.files f reads e);
         commits = λ dir c left. (held_by dir c (stands c left)).commit ∙ sym (held_by dir s.files reads).commit;
         segments = λ dir c left. each_at (λ n. segments_in dir c n ≡ segments_in dir s.files n) (named dir (newest_file dir s.files))
@@ -346,20 +352,17 @@ module _ (config : Config) (next : ℕ) (t i : Held) (f : Found) (e : files_of c
 -- ---- a disk that a crash left, and one of which nothing was changed
 
 -- each image is as the disk reads
-pub alone_settled : {D : Type 0} (may_leave : D → Image → Type 0) (disk : D) (config : Config) (s : Told) → ((c : Image) → may_leave disk c → c ≡ s.files) → Below (2 ^ 64) s.files → IsSettled may_leave config s disk
-alone_settled may_leave disk config s alone below = record {
-  numbers = λ c left. subst (Below (2 ^ 64)) (sym (alone c left)) below;
+pub alone_settled : {D : Type 0} (disk : Ghosts D) (now : D) (config : Config) (s : Told) → ((c : Image) → disk.may_leave now c → c ≡ s.files) → IsSettled disk config s now
+alone_settled disk now config s alone = record {
   same = λ c left. ap (files config) (alone c left);
   commits = λ dir c left. ap (newest_file dir) (alone c left);
   segments = λ dir c left. λ i d lt. ap (λ (image : Image). segments_in dir image (get_or (named dir (newest_file dir s.files)) i d)) (alone c left);
 }
 
-pub quiet_settled : {D : Type 0} (told : D → Option Told) (may_leave : D → Image → Type 0) (moment : D → ℕ) (left_since : D → ℕ → Image → Type 0) (faults : D → ℕ) (old new : D) (config : Config) (s : Told) → IsQuiet told may_leave moment left_since faults old new
-    → IsSettled may_leave config s old → IsSettled may_leave config s new
-quiet_settled told may_leave moment left_since faults old new config s quiet settled =
-    let was : (c : Image) → may_leave new c → may_leave old c = λ c left. let before = quiet.passes.now c left in subst (may_leave old) (sym before.2) before.1 in
+pub quiet_settled : {D : Type 0} (disk : Ghosts D) (old new : D) (config : Config) (s : Told) → IsQuiet disk old new → IsSettled disk config s old → IsSettled disk config s new
+quiet_settled disk old new config s quiet settled =
+    let was : (c : Image) → disk.may_leave new c → disk.may_leave old c = λ c left. let before = quiet.passes.now c left in subst (disk.may_leave old) (sym before.2) before.1 in
     record {
-      numbers = λ c left. settled.numbers c (was c left);
       same = λ c left. settled.same c (was c left);
       commits = λ dir c left. settled.commits dir c (was c left);
       segments = λ dir c left. settled.segments dir c (was c left);

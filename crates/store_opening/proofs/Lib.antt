@@ -5,4 +5,5 @@ pub mod Greatest
 pub mod Held
 pub mod Loops
 pub mod Quiet
+pub mod Stopped
 pub mod Whole

@@ -1,6 +1,7 @@
 -- Files and the commits that they are held by.
-use Rattle.std.specs.Prelude.{◌≡◌, ◌^◌, ℕ, Option, Ok}
+use Rattle.std.specs.Prelude.{◌≡◌, ℕ, Ok}
 use Rattle.facet_disk.specs.declared.name.Dir.TheVariants.{Taxonomy, Index}
+use Rattle.facet_disk.specs.declared.disk.Disk.{Ghosts}
 use Rattle.facet_disk.specs.Images.{Image, Told}
 use Rattle.facet_model.specs.Flags.{Config}
 use Rattle.commit_calls.specs.Held.{Held, Below, Stands}
@@ -18,18 +19,19 @@ abbrev pub HoldsFiles : Type 0
 HoldsFiles = (config : Config) (c : Image) (f : Found) → files config c ≡ Ok f → files_of config (held_in Taxonomy c) (held_in Index c) ≡ Ok f
 
 -- each image of a settled disk stands for what the directories hold as they read, and a commit may take numbers above all that are listed
-abbrev pub SettledStands : {D : Type 0} → (D → Image → Type 0) → D → Type 0
-SettledStands may_leave disk = (config : Config) (s : Told) (f : Found) (next : ℕ) → IsSettled may_leave config s disk → files config s.files ≡ Ok f → Below next s.files
-    → IsAt may_leave next (held_in Taxonomy s.files) (held_in Index s.files) disk
+abbrev pub SettledStands : {D : Type 0} → Ghosts D → D → Type 0
+SettledStands disk now = (config : Config) (s : Told) (f : Found) (next : ℕ) → IsSettled disk config s now → files config s.files ≡ Ok f → Below next s.files
+    → IsAt disk.may_leave next (held_in Taxonomy s.files) (held_in Index s.files) now
 
 -- a disk is settled whose images all stand for what two directories hold, where that is a store
-abbrev pub StandsSettles : {D : Type 0} → (D → Image → Type 0) → D → Type 0
-StandsSettles may_leave disk = (config : Config) (s : Told) (f : Found) (next : ℕ) (taxonomy index : Held) → may_leave disk s.files → IsAt may_leave next taxonomy index disk → files_of config taxonomy index ≡ Ok f → IsSettled may_leave config s disk
+abbrev pub StandsSettles : {D : Type 0} → Ghosts D → D → Type 0
+StandsSettles disk now = (config : Config) (s : Told) (f : Found) (next : ℕ) (taxonomy index : Held) → disk.may_leave now s.files
+    → IsAt disk.may_leave next taxonomy index now → files_of config taxonomy index ≡ Ok f → IsSettled disk config s now
 
 -- so is a disk that has no other image than it reads, as an empty one, or one that a crash left
-abbrev pub OneImageSettles : {D : Type 0} → (D → Image → Type 0) → D → Type 0
-OneImageSettles may_leave disk = (config : Config) (s : Told) → ((c : Image) → may_leave disk c → c ≡ s.files) → Below (2 ^ 64) s.files → IsSettled may_leave config s disk
+abbrev pub OneImageSettles : {D : Type 0} → Ghosts D → D → Type 0
+OneImageSettles disk now = (config : Config) (s : Told) → ((c : Image) → disk.may_leave now c → c ≡ s.files) → IsSettled disk config s now
 
 -- and a settled disk stays so where nothing is changed
-abbrev pub QuietStays : {D : Type 0} → (D → Option Told) → (D → Image → Type 0) → (D → ℕ) → (D → ℕ → Image → Type 0) → (D → ℕ) → D → D → Type 0
-QuietStays told may_leave moment left_since faults old new = (config : Config) (s : Told) → IsQuiet told may_leave moment left_since faults old new → IsSettled may_leave config s old → IsSettled may_leave config s new
+abbrev pub QuietStays : {D : Type 0} → Ghosts D → D → D → Type 0
+QuietStays disk old new = (config : Config) (s : Told) → IsQuiet disk old new → IsSettled disk config s old → IsSettled disk config s new

@@ -6,3 +6,4 @@ pub mod Newest
 pub mod Quiet
 pub mod Reads
 pub mod Settled
+pub mod Stopped

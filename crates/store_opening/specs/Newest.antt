@@ -11,7 +11,7 @@ use Rattle.commit_file.specs.Reading.{taxonomy_commit, index_commit}
 use Rattle.commit_file.specs.declared.taxonomy.LabelPart.{LabelPart}
 use Rattle.commit_file.specs.declared.index.DocumentPart.{DocumentPart}
 use Rattle.seg_decoding.specs.Decoding.{doc_in}
-use Rattle.seg_grammar.specs.Spelling.{seg_bytes}
+use Rattle.seg_grammar.specs.Spelling.{IsSegment, seg_bytes}
 
 -- these are the names of all files, each once
 pub record AreListed (files : Image) (names : List FileName) : Type 0 where
@@ -34,8 +34,9 @@ abbrev pub IsNewestIndex : Option (ℕ × List ℕ) → Option ℕ → List Docu
 IsNewestIndex None number parts = (number ≡ None) × (parts ≡ [])
 IsNewestIndex (Some (n, bytes)) number parts = (number ≡ Some n) × ((needs : ℕ) × (kept : Config) × (index_commit n bytes ≡ Ok (documents_listed needs kept parts)))
 
--- a segment that a commit names: it has so many documents and this digest, and it is the segment of its documents
+-- a segment that a commit names: it has so many documents and this digest, and it is the segment of its bytes and of its documents
 pub record IsNamedAs (config : Config) (labels : List (List (List ℕ))) (part : DocumentPart) (segment : Records) : Type 0 where
   pub documents : length segment.records ≡ part.documents
   pub digest : sha256 (seg_bytes segment) ≡ part.digest
+  pub own : IsSegment (seg_bytes segment) segment
   pub decodes : IsSegmentOf labels config segment (map (doc_in labels) segment.records)

@@ -1,11 +1,12 @@
 -- A disk whose images all stand for what it reads.
-use Rattle.std.specs.Prelude.{◌≡◌, ◌^◌, ℕ, List, [], ◌∷◌, map, Option, Some, None, Result, Ok, Err}
+use Rattle.std.specs.Prelude.{◌≡◌, ℕ, List, [], ◌∷◌, map, Option, Some, None, Result, Ok, Err}
 use Rattle.std.specs.List.{All}
 use Rattle.facet_disk.specs.declared.name.Dir.{Dir}
 use Rattle.facet_disk.specs.declared.name.Dir.TheVariants.{Taxonomy, Index}
+use Rattle.facet_disk.specs.declared.disk.Disk.{Ghosts}
 use Rattle.facet_disk.specs.Images.{Image, Told}
 use Rattle.facet_model.specs.Flags.{Config}
-use Rattle.commit_calls.specs.Held.{Held, Below, newest_file}
+use Rattle.commit_calls.specs.Held.{Held, newest_file}
 use Rattle.commit_file.specs.declared.fault.FileFault.{FileFault}
 use Rattle.commit_file.specs.Commits.{TaxonomyListing, IndexListing}
 use Rattle.commit_file.specs.Reading.{taxonomy_commit, index_commit}
@@ -42,8 +43,7 @@ abbrev pub held_in : Dir → Image → Held
 held_in dir c = record { commit = newest_file dir c; segments = there (segments_in dir c) (named dir (newest_file dir c)) }
 
 -- each image stands for what the disk reads, and has the commit files with the greatest numbers and the segments that these name
-pub record IsSettled {D : Type 0} (may_leave : D → Image → Type 0) (config : Config) (s : Told) (disk : D) : Type 0 where
-  pub numbers : (c : Image) → may_leave disk c → Below (2 ^ 64) c
-  pub same : (c : Image) → may_leave disk c → files config c ≡ files config s.files
-  pub commits : (dir : Dir) (c : Image) → may_leave disk c → newest_file dir c ≡ newest_file dir s.files
-  pub segments : (dir : Dir) (c : Image) → may_leave disk c → All (λ n. segments_in dir c n ≡ segments_in dir s.files n) (named dir (newest_file dir s.files))
+pub record IsSettled {D : Type 0} (disk : Ghosts D) (config : Config) (s : Told) (now : D) : Type 0 where
+  pub same : (c : Image) → disk.may_leave now c → files config c ≡ files config s.files
+  pub commits : (dir : Dir) (c : Image) → disk.may_leave now c → newest_file dir c ≡ newest_file dir s.files
+  pub segments : (dir : Dir) (c : Image) → disk.may_leave now c → All (λ n. segments_in dir c n ≡ segments_in dir s.files n) (named dir (newest_file dir s.files))

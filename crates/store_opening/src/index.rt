@@ -13,7 +13,7 @@ ghost use Rattle.store_opening.specs.declared.fault.OpenFault.TheVariants.{Disk,
 ghost use Rattle.store_opening.specs.Faults.{IsSound};
 ghost use Rattle.store_opening.specs.Files.{segments_in, of_file, same_flags, agrees, segment_of, segments_of, index_in};
 ghost use Rattle.store_opening.specs.Newest.{AreListed, IsNewestIndex, IsNamedAs};
-ghost use Rattle.store_opening.specs.Quiet.{IsQuiet, IsStill};
+ghost use Rattle.store_opening.specs.Quiet.{IsRead, FailsOnly, OfListed, OfFiles};
 
 use crate::fault::{OpenFault, of_file, of_segment};
 use crate::reading::{CommitBytes, read_newest, read_segment};
@@ -48,15 +48,12 @@ fn read_document_part<D: Disk>(
     part: DocumentPart,
 ) -> Result<Segment, OpenFault>
     requires { needs ≤ length labels.now }
-    ensures ok { IfOk result (λ v. (s : Told) → D.told disk.old ≡ Some s → AreListed s.files listed.now → segment_of config.now labels.now needs (segments_in Dir.Index s.files) part ≡ Ok v) }
+    ensures ok { IfOk result (λ v. OfListed D.Disk listed.now disk.old (λ c. segment_of config.now labels.now needs (segments_in Dir.Index c) part ≡ Ok v)) }
     ensures named { IfOk result (λ v. IsNamedAs config.now labels.now part v) }
-    ensures err { IfErr result (λ e. e ≢ Memory → e ≢ Disk → (s : Told) → D.told disk.old ≡ Some s → AreListed s.files listed.now → segment_of config.now labels.now needs (segments_in Dir.Index s.files) part ≡ Err e) }
-    ensures disk { IsErrOf result Disk → Rose (D.faults disk.old) (D.faults disk.new) }
-    ensures failed { (s : Told) → D.told disk.old ≡ Some s → AreListed s.files listed.now → IsErrOf result Disk → Rose (D.failures disk.old) (D.failures disk.new) }
-    ensures sound { IfErr result IsSound }
-    ensures still { IsStill (D.faults disk.old) (D.faults disk.new) result }
-    ensures unfailed { IsStill (D.failures disk.old) (D.failures disk.new) result }
-    ensures quiet { IsQuiet D.told D.may_leave D.moment D.left_since D.faults disk.old disk.new }
+    ensures err { OfFiles result (λ e. OfListed D.Disk listed.now disk.old (λ c.
+        segment_of config.now labels.now needs (segments_in Dir.Index c) part ≡ Err e)) }
+    ensures read { IsRead D.Disk disk.old disk.new result }
+    ensures failed { FailsOnly D.Disk (λ c. AreListed c listed.now) disk.old disk.new result }
 {
     let name = FileName {
         dir: Dir::Index,
@@ -90,15 +87,13 @@ fn read_document_parts<D: Disk>(
     parts: &[DocumentPart],
 ) -> Result<Vec<Arc<Segment>>, OpenFault>
     requires { needs ≤ length labels.now }
-    ensures ok { IfOk result (λ v. (s : Told) → D.told disk.old ≡ Some s → AreListed s.files listed.now → segments_of config.now labels.now needs (segments_in Dir.Index s.files) parts.now ≡ Ok (map arc_value v.items)) }
+    ensures ok { IfOk result (λ v. OfListed D.Disk listed.now disk.old (λ c.
+        segments_of config.now labels.now needs (segments_in Dir.Index c) parts.now ≡ Ok (map arc_value v.items))) }
     ensures named { IfOk result (λ v. AllZip (IsNamedAs config.now labels.now) parts.now (map arc_value v.items)) }
-    ensures err { IfErr result (λ e. e ≢ Memory → e ≢ Disk → (s : Told) → D.told disk.old ≡ Some s → AreListed s.files listed.now → segments_of config.now labels.now needs (segments_in Dir.Index s.files) parts.now ≡ Err e) }
-    ensures disk { IsErrOf result Disk → Rose (D.faults disk.old) (D.faults disk.new) }
-    ensures failed { (s : Told) → D.told disk.old ≡ Some s → AreListed s.files listed.now → IsErrOf result Disk → Rose (D.failures disk.old) (D.failures disk.new) }
-    ensures sound { IfErr result IsSound }
-    ensures still { IsStill (D.faults disk.old) (D.faults disk.new) result }
-    ensures unfailed { IsStill (D.failures disk.old) (D.failures disk.new) result }
-    ensures quiet { IsQuiet D.told D.may_leave D.moment D.left_since D.faults disk.old disk.new }
+    ensures err { OfFiles result (λ e. OfListed D.Disk listed.now disk.old (λ c.
+        segments_of config.now labels.now needs (segments_in Dir.Index c) parts.now ≡ Err e)) }
+    ensures read { IsRead D.Disk disk.old disk.new result }
+    ensures failed { FailsOnly D.Disk (λ c. AreListed c listed.now) disk.old disk.new result }
 {
     let mut segments = Vec::new(alloc);
     for part in parts {
@@ -112,7 +107,8 @@ fn read_document_parts<D: Disk>(
 fn commit_of(alloc: Global, found: &CommitBytes) -> Result<IndexCommit, OpenFault>
     ensures ok { IfOk result (λ c. index_commit found.now.number found.now.bytes.items ≡ Ok (index_listing c)) }
     ensures few { IfOk result (λ c. sum_by documents_of c.parts.items ≤ 1000000) }
-    ensures err { IfErr result (λ e. e ≢ Memory → told_as (of_file (file Dir.Index Kind.Commit found.now.number)) (index_commit found.now.number found.now.bytes.items) ≡ Err e) }
+    ensures err { IfErr result (λ e. e ≢ Memory
+        → told_as (of_file (file Dir.Index Kind.Commit found.now.number)) (index_commit found.now.number found.now.bytes.items) ≡ Err e) }
     ensures sound { IfErr result IsSound }
 {
     let name = FileName {
@@ -136,11 +132,8 @@ fn check_flags(alloc: Global, config: &FacetsConfig, kept: &FacetsConfig) -> Res
     let Some(dim) = config.differs(kept) else {
         return Ok(());
     };
-    match Word::new(alloc, dim)? {
-        Some(dim) => Err(OpenFault::OtherConfig { dim }),
-        // A declared dimension has 1 to 1,024 bytes, so it is always a word.
-        None => Err(OpenFault::NoMemory),
-    }
+    let dim = Word::new(alloc, dim)?.unwrap();
+    Err(OpenFault::OtherConfig { dim })
 }
 
 // The documents were stored under these flags, and the labels that they need are there.
@@ -177,17 +170,15 @@ pub(crate) fn read_index<D: Disk>(
     labels: &Taxonomy,
     listed: &[FileName],
 ) -> Result<IndexRead, OpenFault>
-    ensures ok { IfOk result (λ r. (s : Told) → D.told disk.old ≡ Some s → AreListed s.files listed.now → index_in config.now labels.now (newest_file Dir.Index s.files) (segments_in Dir.Index s.files) ≡ Ok (map arc_value r.segments.items)) }
-    ensures newest { IfOk result (λ r. (s : Told) → D.told disk.old ≡ Some s → AreListed s.files listed.now → IsNewestIndex (newest_file Dir.Index s.files) r.number r.parts.items) }
+    ensures ok { IfOk result (λ r. OfListed D.Disk listed.now disk.old (λ c.
+        index_in config.now labels.now (newest_file Dir.Index c) (segments_in Dir.Index c) ≡ Ok (map arc_value r.segments.items))) }
+    ensures newest { IfOk result (λ r. OfListed D.Disk listed.now disk.old (λ c. IsNewestIndex (newest_file Dir.Index c) r.number r.parts.items)) }
     ensures named { IfOk result (λ r. AllZip (IsNamedAs config.now labels.now) r.parts.items (map arc_value r.segments.items)) }
     ensures few { IfOk result (λ r. sum_by documents_of r.parts.items ≤ 1000000) }
-    ensures err { IfErr result (λ e. e ≢ Memory → e ≢ Disk → (s : Told) → D.told disk.old ≡ Some s → AreListed s.files listed.now → index_in config.now labels.now (newest_file Dir.Index s.files) (segments_in Dir.Index s.files) ≡ Err e) }
-    ensures disk { IsErrOf result Disk → Rose (D.faults disk.old) (D.faults disk.new) }
-    ensures failed { (s : Told) → D.told disk.old ≡ Some s → AreListed s.files listed.now → IsErrOf result Disk → Rose (D.failures disk.old) (D.failures disk.new) }
-    ensures sound { IfErr result IsSound }
-    ensures still { IsStill (D.faults disk.old) (D.faults disk.new) result }
-    ensures unfailed { IsStill (D.failures disk.old) (D.failures disk.new) result }
-    ensures quiet { IsQuiet D.told D.may_leave D.moment D.left_since D.faults disk.old disk.new }
+    ensures err { OfFiles result (λ e. OfListed D.Disk listed.now disk.old (λ c.
+        index_in config.now labels.now (newest_file Dir.Index c) (segments_in Dir.Index c) ≡ Err e)) }
+    ensures read { IsRead D.Disk disk.old disk.new result }
+    ensures failed { FailsOnly D.Disk (λ c. AreListed c listed.now) disk.old disk.new result }
 {
     let Some(found) = read_newest(alloc, disk, listed, Dir::Index)? else {
         return Ok(IndexRead {

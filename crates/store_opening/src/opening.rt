@@ -5,15 +5,14 @@ ghost use Rattle.facet_disk.specs.declared.name.FileName.{FileName};
 ghost use Rattle.facet_disk.specs.Images.{Told};
 ghost use Rattle.facet_disk.specs.Calls.{Rose};
 ghost use Rattle.facet_model.specs.Stored.{Decodes};
-ghost use Rattle.commit_calls.specs.Held.{newest_file};
+ghost use Rattle.facet_names.specs.Labels.{IsLabelList};
 ghost use Rattle.commit_file.specs.Commits.{AreInOrder};
 ghost use Rattle.seg_decoding.specs.Decoding.{docs_in};
 ghost use Rattle.store_opening.specs.declared.fault.OpenFault.TheVariants.{Disk, NoMemory as Memory};
-ghost use Rattle.store_opening.specs.Faults.{IsSound};
 ghost use Rattle.store_opening.specs.Files.{files, greatest_number};
-ghost use Rattle.store_opening.specs.Newest.{AreListed, next_after, IsNewestTaxonomy, IsNewestIndex, IsNamedAs};
-ghost use Rattle.store_opening.specs.Quiet.{IsQuiet, IsStill};
-ghost use Rattle.store_opening.specs.Reads.{found};
+ghost use Rattle.store_opening.specs.Newest.{AreListed, next_after, IsNamedAs};
+ghost use Rattle.store_opening.specs.Quiet.{IsRead};
+ghost use Rattle.store_opening.specs.Reads.{found, IsTaxonomyOf, IsIndexOf};
 
 use crate::fault::OpenFault;
 use crate::index::read_index;
@@ -22,7 +21,7 @@ use crate::numbers::next_number;
 use crate::reading::list_all;
 use crate::taxonomy::read_taxonomy;
 use facet_config::FacetsConfig;
-use facet_disk::{Dir, Disk, FileName};
+use facet_disk::{Disk, FileName};
 use seg_file::Segment;
 use std::alloc::Global;
 use std::sync::Arc;
@@ -52,12 +51,8 @@ pub fn read_store<D: Disk>(
     // It is what the files stand for, or the first fault, unless memory ran out or a call of the disk failed.
     ensures ok { IfOk result (λ r. (s : Told) → D.told disk.old ≡ Some s → files config.now s.files ≡ Ok (found r)) }
     ensures err { IfErr result (λ e. e ≢ Memory → e ≢ Disk → (s : Told) → D.told disk.old ≡ Some s → files config.now s.files ≡ Err e) }
-    ensures disk { IsErrOf result Disk → Rose (D.faults disk.old) (D.faults disk.new) }
+    ensures read { IsRead D.Disk disk.old disk.new result }
     ensures failed { (s : Told) → D.told disk.old ≡ Some s → IsErrOf result Disk → Rose (D.failures disk.old) (D.failures disk.new) }
-    ensures sound { IfErr result IsSound }
-    ensures still { IsStill (D.faults disk.old) (D.faults disk.new) result }
-    ensures unfailed { IsStill (D.failures disk.old) (D.failures disk.new) result }
-    ensures quiet { IsQuiet D.told D.may_leave D.moment D.left_since D.faults disk.old disk.new }
 
     // Whatever the disk tells, the segments are those of their documents, which are at most 1,000,000.
     ensures decodes { IfOk result (λ r. Decodes r.labels config.now (found r).segments (docs_in r.labels (found r).segments)) }
@@ -70,12 +65,14 @@ pub fn read_store<D: Disk>(
     ensures some { IfOk result (λ r. 1 ≤ r.newest.next) }
     ensures room { IfOk result (λ r. r.newest.next ≤ 2 ^ 63) }
 
-    // The segments of labels follow one another, whatever the disk tells.
+    // Whatever the disk tells, the labels are a label list, and their segments, each of at least one, follow one another.
+    ensures list { IfOk result (λ r. IsLabelList r.labels) }
+    ensures many { IfOk result (λ r. length r.newest.label_parts.items < length r.labels) }
     ensures order { IfOk result (λ r. AreInOrder (length r.labels) 1 r.newest.label_parts.items) }
 
     // The numbers and the parts are those of the newest commits, and each part of the index is that of its segment.
-    ensures taxonomy { IfOk result (λ r. (s : Told) → D.told disk.old ≡ Some s → IsNewestTaxonomy (newest_file Dir.Taxonomy s.files) r.newest.taxonomy r.newest.label_parts.items r.labels) }
-    ensures index { IfOk result (λ r. (s : Told) → D.told disk.old ≡ Some s → IsNewestIndex (newest_file Dir.Index s.files) r.newest.index r.newest.document_parts.items) }
+    ensures taxonomy { IfOk result (λ r. (s : Told) → D.told disk.old ≡ Some s → IsTaxonomyOf s.files r.newest r.labels) }
+    ensures index { IfOk result (λ r. (s : Told) → D.told disk.old ≡ Some s → IsIndexOf s.files r.newest) }
     ensures named { IfOk result (λ r. AllZip (IsNamedAs config.now r.labels) r.newest.document_parts.items (found r).segments) }
 {
     let listed = list_all(alloc, disk)?;

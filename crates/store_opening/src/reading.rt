@@ -9,7 +9,7 @@ ghost use Rattle.store_opening.specs.Faults.{IsSound};
 ghost use Rattle.store_opening.specs.Files.{segment_bytes};
 ghost use Rattle.store_opening.specs.Newest.{AreListed};
 ghost use Rattle.store_opening.specs.Commits.{commit_bytes};
-ghost use Rattle.store_opening.specs.Quiet.{IsQuiet, IsStill};
+ghost use Rattle.store_opening.specs.Quiet.{IsRead, FailsOnly, OfListed, OfFiles};
 
 use crate::fault::{OpenFault, of_file};
 use crate::numbers::newest_of;
@@ -28,12 +28,8 @@ pub(crate) struct CommitBytes {
 fn list_dir<D: Disk>(alloc: Global, disk: &mut D, dir: Dir) -> Result<Vec<FileName>, OpenFault>
     ensures ok { IfOk result (λ v. (s : Told) → D.told disk.old ≡ Some s → Lists dir s.files v.items) }
     ensures err { IfErr result (λ e. (e ≡ Memory) ⊎ (e ≡ Disk)) }
-    ensures disk { IsErrOf result Disk → Rose (D.faults disk.old) (D.faults disk.new) }
+    ensures read { IsRead D.Disk disk.old disk.new result }
     ensures failed { IsErrOf result Disk → Rose (D.failures disk.old) (D.failures disk.new) }
-    ensures sound { IfErr result IsSound }
-    ensures still { IsStill (D.faults disk.old) (D.faults disk.new) result }
-    ensures unfailed { IsStill (D.failures disk.old) (D.failures disk.new) result }
-    ensures quiet { IsQuiet D.told D.may_leave D.moment D.left_since D.faults disk.old disk.new }
 {
     let names = disk.list(alloc, dir)?;
     Ok(names.into_vec())
@@ -43,12 +39,8 @@ fn list_dir<D: Disk>(alloc: Global, disk: &mut D, dir: Dir) -> Result<Vec<FileNa
 pub(crate) fn list_all<D: Disk>(alloc: Global, disk: &mut D) -> Result<Vec<FileName>, OpenFault>
     ensures ok { IfOk result (λ v. (s : Told) → D.told disk.old ≡ Some s → AreListed s.files v.items) }
     ensures err { IfErr result (λ e. (e ≡ Memory) ⊎ (e ≡ Disk)) }
-    ensures disk { IsErrOf result Disk → Rose (D.faults disk.old) (D.faults disk.new) }
+    ensures read { IsRead D.Disk disk.old disk.new result }
     ensures failed { IsErrOf result Disk → Rose (D.failures disk.old) (D.failures disk.new) }
-    ensures sound { IfErr result IsSound }
-    ensures still { IsStill (D.faults disk.old) (D.faults disk.new) result }
-    ensures unfailed { IsStill (D.failures disk.old) (D.failures disk.new) result }
-    ensures quiet { IsQuiet D.told D.may_leave D.moment D.left_since D.faults disk.old disk.new }
 {
     let mut names = list_dir(alloc, disk, Dir::Taxonomy)?;
     let others = list_dir(alloc, disk, Dir::Index)?;
@@ -60,12 +52,8 @@ pub(crate) fn list_all<D: Disk>(alloc: Global, disk: &mut D) -> Result<Vec<FileN
 fn read_file<D: Disk>(alloc: Global, disk: &mut D, name: FileName) -> Result<Vec<u8>, OpenFault>
     ensures ok { IfOk result (λ v. (s : Told) → D.told disk.old ≡ Some s → s.files name ≡ Some v.items) }
     ensures err { IfErr result (λ e. (e ≡ Memory) ⊎ (e ≡ Disk)) }
-    ensures disk { IsErrOf result Disk → Rose (D.faults disk.old) (D.faults disk.new) }
-    ensures failed { (s : Told) → D.told disk.old ≡ Some s → s.files name ≢ None → IsErrOf result Disk → Rose (D.failures disk.old) (D.failures disk.new) }
-    ensures sound { IfErr result IsSound }
-    ensures still { IsStill (D.faults disk.old) (D.faults disk.new) result }
-    ensures unfailed { IsStill (D.failures disk.old) (D.failures disk.new) result }
-    ensures quiet { IsQuiet D.told D.may_leave D.moment D.left_since D.faults disk.old disk.new }
+    ensures read { IsRead D.Disk disk.old disk.new result }
+    ensures failed { FailsOnly D.Disk (λ c. c name ≢ None) disk.old disk.new result }
 {
     let bytes = disk.read(alloc, name)?;
     Ok(bytes)
@@ -78,14 +66,10 @@ pub(crate) fn read_newest<D: Disk>(
     listed: &[FileName],
     dir: Dir,
 ) -> Result<Option<CommitBytes>, OpenFault>
-    ensures ok { IfOk result (λ o. (s : Told) → D.told disk.old ≡ Some s → AreListed s.files listed.now → newest_file dir s.files ≡ option_map commit_bytes o) }
+    ensures ok { IfOk result (λ o. OfListed D.Disk listed.now disk.old (λ c. newest_file dir c ≡ option_map commit_bytes o)) }
     ensures err { IfErr result (λ e. (e ≡ Memory) ⊎ (e ≡ Disk)) }
-    ensures disk { IsErrOf result Disk → Rose (D.faults disk.old) (D.faults disk.new) }
-    ensures failed { (s : Told) → D.told disk.old ≡ Some s → AreListed s.files listed.now → IsErrOf result Disk → Rose (D.failures disk.old) (D.failures disk.new) }
-    ensures sound { IfErr result IsSound }
-    ensures still { IsStill (D.faults disk.old) (D.faults disk.new) result }
-    ensures unfailed { IsStill (D.failures disk.old) (D.failures disk.new) result }
-    ensures quiet { IsQuiet D.told D.may_leave D.moment D.left_since D.faults disk.old disk.new }
+    ensures read { IsRead D.Disk disk.old disk.new result }
+    ensures failed { FailsOnly D.Disk (λ c. AreListed c listed.now) disk.old disk.new result }
 {
     let Some(number) = newest_of(listed, dir) else {
         return Ok(None);
@@ -108,15 +92,11 @@ pub(crate) fn read_segment<D: Disk>(
     name: FileName,
     digest: [u8; 32],
 ) -> Result<Vec<u8>, OpenFault>
-    ensures ok { IfOk result (λ v. (s : Told) → D.told disk.old ≡ Some s → AreListed s.files listed.now → segment_bytes name digest (s.files name) ≡ Ok v.items) }
+    ensures ok { IfOk result (λ v. OfListed D.Disk listed.now disk.old (λ c. segment_bytes name digest (c name) ≡ Ok v.items)) }
     ensures digest { IfOk result (λ v. sha256 v.items ≡ digest) }
-    ensures err { IfErr result (λ e. e ≢ Memory → e ≢ Disk → (s : Told) → D.told disk.old ≡ Some s → AreListed s.files listed.now → segment_bytes name digest (s.files name) ≡ Err e) }
-    ensures disk { IsErrOf result Disk → Rose (D.faults disk.old) (D.faults disk.new) }
-    ensures failed { (s : Told) → D.told disk.old ≡ Some s → AreListed s.files listed.now → IsErrOf result Disk → Rose (D.failures disk.old) (D.failures disk.new) }
-    ensures sound { IfErr result IsSound }
-    ensures still { IsStill (D.faults disk.old) (D.faults disk.new) result }
-    ensures unfailed { IsStill (D.failures disk.old) (D.failures disk.new) result }
-    ensures quiet { IsQuiet D.told D.may_leave D.moment D.left_since D.faults disk.old disk.new }
+    ensures err { OfFiles result (λ e. OfListed D.Disk listed.now disk.old (λ c. segment_bytes name digest (c name) ≡ Err e)) }
+    ensures read { IsRead D.Disk disk.old disk.new result }
+    ensures failed { FailsOnly D.Disk (λ c. AreListed c listed.now) disk.old disk.new result }
 {
     if !listed.contains(&name) {
         return Err(OpenFault::Missing { name });

@@ -1,8 +1,8 @@
 //! The taxonomy of a disk.
-ghost use Rattle.std.specs.Prelude.{◌≡◌, ◌≢◌, ◌+◌, ◌≤◌, [], ◌∷◌, ℕ, List, Option, Some, Ok, Err, length, IfOk, IfErr, OnOk, IsErrOf};
+ghost use Rattle.std.specs.Prelude.{◌≡◌, ◌≢◌, ◌+◌, ◌≤◌, ◌<◌, [], ◌∷◌, ℕ, List, Option, Some, Ok, Err, length, IfOk, IfErr, OnOk, IsErrOf};
 ghost use Rattle.facet_codec.specs.Faults.{told_as};
-ghost use Rattle.facet_disk.specs.Images.{Told};
 ghost use Rattle.facet_disk.specs.Calls.{Rose};
+ghost use Rattle.facet_names.specs.Labels.{IsLabelList};
 ghost use Rattle.commit_calls.specs.Held.{file, newest_file};
 ghost use Rattle.commit_file.specs.Commits.{AreInOrder, taxonomy_listing};
 ghost use Rattle.commit_file.specs.Reading.{taxonomy_commit};
@@ -10,7 +10,7 @@ ghost use Rattle.store_opening.specs.declared.fault.OpenFault.TheVariants.{Disk,
 ghost use Rattle.store_opening.specs.Faults.{IsSound};
 ghost use Rattle.store_opening.specs.Files.{segments_in, of_file, labels_behind, labels_of, taxonomy_in};
 ghost use Rattle.store_opening.specs.Newest.{AreListed, IsNewestTaxonomy};
-ghost use Rattle.store_opening.specs.Quiet.{IsQuiet, IsStill};
+ghost use Rattle.store_opening.specs.Quiet.{IsRead, FailsOnly, OfListed, OfFiles};
 
 use crate::fault::{OpenFault, of_file, of_labels};
 use crate::reading::{CommitBytes, read_newest, read_segment};
@@ -39,15 +39,14 @@ fn read_label_part<D: Disk>(
 ) -> Result<(), OpenFault>
     requires first { length labels.old ≡ part.first }
     requires few { part.first + part.count ≤ 1000000 }
-    ensures ok { OnOk result ((s : Told) → D.told disk.old ≡ Some s → AreListed s.files listed.now → labels_behind (segments_in Dir.Taxonomy s.files) labels.old part ≡ Ok labels.new) }
+    requires list { IsLabelList labels.old }
+    ensures ok { OnOk result (OfListed D.Disk listed.now disk.old (λ c. labels_behind (segments_in Dir.Taxonomy c) labels.old part ≡ Ok labels.new)) }
     ensures count { OnOk result (length labels.new ≡ length labels.old + part.count) }
-    ensures err { IfErr result (λ e. e ≢ Memory → e ≢ Disk → (s : Told) → D.told disk.old ≡ Some s → AreListed s.files listed.now → labels_behind (segments_in Dir.Taxonomy s.files) labels.old part ≡ Err e) }
-    ensures disk { IsErrOf result Disk → Rose (D.faults disk.old) (D.faults disk.new) }
-    ensures failed { (s : Told) → D.told disk.old ≡ Some s → AreListed s.files listed.now → IsErrOf result Disk → Rose (D.failures disk.old) (D.failures disk.new) }
-    ensures sound { IfErr result IsSound }
-    ensures still { IsStill (D.faults disk.old) (D.faults disk.new) result }
-    ensures unfailed { IsStill (D.failures disk.old) (D.failures disk.new) result }
-    ensures quiet { IsQuiet D.told D.may_leave D.moment D.left_since D.faults disk.old disk.new }
+    ensures some { OnOk result (0 < part.count) }
+    ensures list { OnOk result (IsLabelList labels.new) }
+    ensures err { OfFiles result (λ e. OfListed D.Disk listed.now disk.old (λ c. labels_behind (segments_in Dir.Taxonomy c) labels.old part ≡ Err e)) }
+    ensures read { IsRead D.Disk disk.old disk.new result }
+    ensures failed { FailsOnly D.Disk (λ c. AreListed c listed.now) disk.old disk.new result }
 {
     let name = FileName {
         dir: Dir::Taxonomy,
@@ -71,15 +70,13 @@ fn read_label_parts<D: Disk>(
 ) -> Result<Taxonomy, OpenFault>
     requires order { AreInOrder total 1 parts.now }
     requires few { total ≤ 1000000 }
-    ensures ok { IfOk result (λ labels. (s : Told) → D.told disk.old ≡ Some s → AreListed s.files listed.now → labels_of (segments_in Dir.Taxonomy s.files) ([] ∷ []) parts.now ≡ Ok labels) }
+    ensures ok { IfOk result (λ labels. OfListed D.Disk listed.now disk.old (λ c. labels_of (segments_in Dir.Taxonomy c) ([] ∷ []) parts.now ≡ Ok labels)) }
     ensures count { IfOk result (λ labels. length labels ≡ total) }
-    ensures err { IfErr result (λ e. e ≢ Memory → e ≢ Disk → (s : Told) → D.told disk.old ≡ Some s → AreListed s.files listed.now → labels_of (segments_in Dir.Taxonomy s.files) ([] ∷ []) parts.now ≡ Err e) }
-    ensures disk { IsErrOf result Disk → Rose (D.faults disk.old) (D.faults disk.new) }
-    ensures failed { (s : Told) → D.told disk.old ≡ Some s → AreListed s.files listed.now → IsErrOf result Disk → Rose (D.failures disk.old) (D.failures disk.new) }
-    ensures sound { IfErr result IsSound }
-    ensures still { IsStill (D.faults disk.old) (D.faults disk.new) result }
-    ensures unfailed { IsStill (D.failures disk.old) (D.failures disk.new) result }
-    ensures quiet { IsQuiet D.told D.may_leave D.moment D.left_since D.faults disk.old disk.new }
+    ensures list { IfOk result (λ labels. IsLabelList labels) }
+    ensures many { IfOk result (λ labels. length parts.now < length labels) }
+    ensures err { OfFiles result (λ e. OfListed D.Disk listed.now disk.old (λ c. labels_of (segments_in Dir.Taxonomy c) ([] ∷ []) parts.now ≡ Err e)) }
+    ensures read { IsRead D.Disk disk.old disk.new result }
+    ensures failed { FailsOnly D.Disk (λ c. AreListed c listed.now) disk.old disk.new result }
 {
     let mut labels = Taxonomy::new(alloc)?;
     for part in parts {
@@ -93,7 +90,8 @@ fn commit_of(alloc: Global, found: &CommitBytes) -> Result<TaxonomyCommit, OpenF
     ensures ok { IfOk result (λ c. taxonomy_commit found.now.number found.now.bytes.items ≡ Ok (taxonomy_listing c)) }
     ensures order { IfOk result (λ c. AreInOrder c.labels 1 c.parts.items) }
     ensures few { IfOk result (λ c. c.labels ≤ 1000000) }
-    ensures err { IfErr result (λ e. e ≢ Memory → told_as (of_file (file Dir.Taxonomy Kind.Commit found.now.number)) (taxonomy_commit found.now.number found.now.bytes.items) ≡ Err e) }
+    ensures err { IfErr result (λ e. e ≢ Memory
+        → told_as (of_file (file Dir.Taxonomy Kind.Commit found.now.number)) (taxonomy_commit found.now.number found.now.bytes.items) ≡ Err e) }
     ensures sound { IfErr result IsSound }
 {
     let name = FileName {
@@ -113,16 +111,17 @@ pub(crate) fn read_taxonomy<D: Disk>(
     disk: &mut D,
     listed: &[FileName],
 ) -> Result<TaxonomyRead, OpenFault>
-    ensures ok { IfOk result (λ r. (s : Told) → D.told disk.old ≡ Some s → AreListed s.files listed.now → taxonomy_in (newest_file Dir.Taxonomy s.files) (segments_in Dir.Taxonomy s.files) ≡ Ok r.labels) }
-    ensures newest { IfOk result (λ r. (s : Told) → D.told disk.old ≡ Some s → AreListed s.files listed.now → IsNewestTaxonomy (newest_file Dir.Taxonomy s.files) r.number r.parts.items r.labels) }
-    ensures err { IfErr result (λ e. e ≢ Memory → e ≢ Disk → (s : Told) → D.told disk.old ≡ Some s → AreListed s.files listed.now → taxonomy_in (newest_file Dir.Taxonomy s.files) (segments_in Dir.Taxonomy s.files) ≡ Err e) }
+    ensures ok { IfOk result (λ r. OfListed D.Disk listed.now disk.old (λ c.
+        taxonomy_in (newest_file Dir.Taxonomy c) (segments_in Dir.Taxonomy c) ≡ Ok r.labels)) }
+    ensures newest { IfOk result (λ r. OfListed D.Disk listed.now disk.old (λ c.
+        IsNewestTaxonomy (newest_file Dir.Taxonomy c) r.number r.parts.items r.labels)) }
+    ensures err { OfFiles result (λ e. OfListed D.Disk listed.now disk.old (λ c.
+        taxonomy_in (newest_file Dir.Taxonomy c) (segments_in Dir.Taxonomy c) ≡ Err e)) }
     ensures order { IfOk result (λ r. AreInOrder (length r.labels) 1 r.parts.items) }
-    ensures disk { IsErrOf result Disk → Rose (D.faults disk.old) (D.faults disk.new) }
-    ensures failed { (s : Told) → D.told disk.old ≡ Some s → AreListed s.files listed.now → IsErrOf result Disk → Rose (D.failures disk.old) (D.failures disk.new) }
-    ensures sound { IfErr result IsSound }
-    ensures still { IsStill (D.faults disk.old) (D.faults disk.new) result }
-    ensures unfailed { IsStill (D.failures disk.old) (D.failures disk.new) result }
-    ensures quiet { IsQuiet D.told D.may_leave D.moment D.left_since D.faults disk.old disk.new }
+    ensures list { IfOk result (λ r. IsLabelList r.labels) }
+    ensures many { IfOk result (λ r. length r.parts.items < length r.labels) }
+    ensures read { IsRead D.Disk disk.old disk.new result }
+    ensures failed { FailsOnly D.Disk (λ c. AreListed c listed.now) disk.old disk.new result }
 {
     let Some(found) = read_newest(alloc, disk, listed, Dir::Taxonomy)? else {
         return Ok(TaxonomyRead {

@@ -34,6 +34,39 @@ const FOLDER_CALLS: &[Call] = &[
     (Step::List(Dir::Index), Ok(0)),
 ];
 
+// What a disk answers while another has its folder.
+const REFUSED: &[Call] = &[
+    (Step::List(Dir::Index), FAILED),
+    (Step::Read(OUTER), FAILED),
+    (Step::Put(SEGMENT, b"two"), FAILED),
+    (Step::Sync(OUTER), FAILED),
+    (Step::Rename(OUTER, SEGMENT), FAILED),
+    (Step::SyncNames(Dir::Index), FAILED),
+    (Step::Remove(OUTER), FAILED),
+];
+
+// And once the other is gone.
+const TAKEN: &[Call] = &[
+    (Step::List(Dir::Index), Ok(1)),
+    (Step::Read(OUTER), Ok(3)),
+    (Step::Put(SEGMENT, b"two"), Ok(0)),
+    (Step::Sync(SEGMENT), Ok(0)),
+    (Step::Rename(SEGMENT, PENDING), Ok(0)),
+    (Step::SyncNames(Dir::Taxonomy), Ok(0)),
+    (Step::Remove(OUTER), Ok(0)),
+];
+
+// Makes these calls of a disk while another has its folder, which has put a file there.
+fn make_held<D: Disk, E: Disk>(
+    alloc: Global,
+    mut first: D,
+    second: &mut E,
+    calls: &[Call],
+) -> Result<usize, Fail> {
+    first.put(OUTER, b"one")?;
+    Ok(make_all(alloc, second, calls))
+}
+
 #[test]
 fn a_folder(rt: HostRuntime) -> Result<(), Fail> {
     let alloc = rt.alloc();
@@ -43,6 +76,12 @@ fn a_folder(rt: HostRuntime) -> Result<(), Fail> {
         FOLDER_CALLS.len()
     );
     assert_eq!(rt; disk.fault_count(), 8);
+
+    let first = StdDisk::new(alloc, &rt, "shared")?;
+    let mut second = StdDisk::new(alloc, &rt, "shared")?;
+    assert_eq!(rt; make_held(alloc, first, &mut second, REFUSED)?, 7);
+    assert_eq!(rt; second.fault_count(), 7);
+    assert_eq!(rt; make_all(alloc, &mut second, TAKEN), 7);
     Ok(())
 }
 

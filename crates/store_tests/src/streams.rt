@@ -1,8 +1,8 @@
-ghost use Rattle.std.specs.Prelude.{◌≤◌, ◌<◌, ◌^◌};
+ghost use Rattle.std.specs.Prelude.{◌≤◌, ◌<◌, ◌^◌, IfOk, length};
 
 use facet_io::{
-    Failed, MemorySink, MemorySource, ReadFault, Sink, Source, StdSink, StdSource, read_to_end,
-    write_all,
+    Failed, MemorySink, MemorySource, ReadFault, Sink, Source, StdSink, StdSource, read_retrying,
+    read_to_end, write_all, write_retrying,
 };
 use std::alloc::Global;
 use std::io;
@@ -46,6 +46,69 @@ impl Write for Small {
     fn flush(&mut self) -> io::Result<()> {
         Ok(())
     }
+}
+
+// Gives or takes these bytes, at most five a call, and is interrupted twice before each such call.
+#[derive(Drop)]
+struct Interrupted {
+    bytes: &'static [u8],
+    left: u64,
+}
+
+impl Interrupted {
+    fn new() -> Interrupted {
+        Interrupted {
+            bytes: TEXT,
+            left: 2,
+        }
+    }
+
+    fn next(&mut self, room: usize) -> io::Result<&'static [u8]>
+        ensures { IfOk result (λ piece. length piece.now ≤ room) }
+    {
+        if self.left > 0 {
+            self.left -= 1;
+            return Err(io::ErrorKind::Interrupted.into());
+        }
+        self.left = 2;
+        let count = room.min(self.bytes.len()).min(5);
+        let (front, back) = self.bytes.split_at(count);
+        self.bytes = back;
+        Ok(front)
+    }
+}
+
+impl Read for Interrupted {
+    fn read(&mut self, into: &mut [u8]) -> io::Result<usize> {
+        let piece = self.next(into.len())?;
+        into[..piece.len()].copy_from_slice(piece);
+        Ok(piece.len())
+    }
+}
+
+impl Write for Interrupted {
+    fn write(&mut self, piece: &[u8]) -> io::Result<usize> {
+        let wanted = self.next(piece.len())?;
+        if !piece.starts_with(wanted) {
+            return Err(io::ErrorKind::Other.into());
+        }
+        Ok(wanted.len())
+    }
+
+    fn flush(&mut self) -> io::Result<()> {
+        Ok(())
+    }
+}
+
+// Whether one read gives what the reader gave after its interruptions.
+fn reads_on() -> bool {
+    let mut block = [0u8; 5];
+    matches!(read_retrying(&mut Interrupted::new(), &mut block), Ok(5)) && block == *b"facet"
+}
+
+// Whether one write gives what the writer took after its interruptions.
+fn writes_on() -> bool {
+    matches!(write_retrying(&mut Interrupted::new(), TEXT), Ok(5))
 }
 
 fn source(alloc: Global, piece: usize, failing: &[u64]) -> Result<MemorySource, Fail>
@@ -104,6 +167,9 @@ fn sources(rt: HostRuntime) -> Result<(), Fail> {
     assert!(rt; answers(alloc, &mut outside, 17, Ok(17)));
     let mut broken = StdSource::new(Broken { bytes: TEXT });
     assert!(rt; answers(alloc, &mut broken, 17, Err(ReadFault::Failed)));
+    let mut interrupted = StdSource::new(Interrupted::new());
+    assert!(rt; answers(alloc, &mut interrupted, 17, Ok(17)));
+    assert!(rt; reads_on());
     Ok(())
 }
 
@@ -121,5 +187,8 @@ fn sinks(rt: HostRuntime) -> Result<(), Fail> {
     let mut small = StdSink::new(Small { room: 5 });
     assert!(rt; small.write(TEXT) == Ok(2));
     assert!(rt; write_all(&mut small, TEXT) == Err(Failed));
+    let mut interrupted = StdSink::new(Interrupted::new());
+    assert!(rt; write_all(&mut interrupted, TEXT) == Ok(()));
+    assert!(rt; writes_on());
     Ok(())
 }

@@ -1,5 +1,5 @@
 ghost use Rattle.std.specs.Prelude.{◌≡◌, ◌≢◌, ◌≤◌, [], ◌∷◌, Some, Err, false, length, is_some, IsTrue, IsOk, IfOk, IfErr, OnOk, OnErr};
-ghost use Rattle.facet_names.specs.Labels.{GoesOn, above, place, stands, with_label};
+ghost use Rattle.facet_names.specs.Labels.{GoesOn, IsLabelList, above, place, stands, with_label};
 
 use crate::fault::TaxoFault;
 use crate::labelled::Labelled;
@@ -85,6 +85,7 @@ impl Taxonomy {
         ensures added { OnOk result (self.new ≡ with_label self.old path.now) }
         ensures ordinal { IfOk result (λ ord. place self.new path.now ≡ Some ord) }
         ensures stands { OnOk result (IsTrue (stands self.new path.now)) }
+        ensures list { IsLabelList self.new }
         ensures goes_on { GoesOn self.old self.new }
         ensures there { IsTrue (stands self.old path.now) → IsOk result }
         ensures full { stands self.old path.now ≡ false → limit ≤ length self.old → result ≡ Err (LabelsFull (length self.old)) }

@@ -1,10 +1,11 @@
 use Rattle.std.proofs.Common.{rules, ◌≡◌, ◌<◌, ◌+◌, ◌++◌, ◌∷◌, [], false, length, map, take, get_or, ap, ◌∙◌}
 use Rattle.std.proofs.lemmas.List.{take_more, map-append}
+use Rattle.facet_config.specs.Declarations.{IsDimension}
 use Rattle.commit_file.specs.declared.kept.Declaration.{Declaration}
 use Rattle.commit_file.specs.Commits.{declaration}
 use Rattle.commit_file.specs.Limits.{IsDeclaration}
 use Rattle.commit_file.specs.Spelling.{declaration_bytes}
-use Rattle.commit_file.proofs.Puts.{bytes_push, fit_push}
+use Rattle.commit_file.proofs.Puts.{bytes_push, fit_push, mapped_at}
 use Rattle.commit_file.proofs.writing.put_declarations.Goals as goal
 
 pub loop-one-preserved : goal.loop-one-preserved
@@ -19,3 +20,8 @@ loop-one-preserved c =
       bytes = bytes_push declaration_bytes c.args.out.now.items c.loop-one.out.items c.put_declaration.new.out.items (map declaration (take i kept)) (declaration one) c.loop-one.invariant.bytes c.in_ok-put_declaration.ensures.bytes;
       fit = fit_push IsDeclaration (map declaration (take i kept)) (declaration one) c.loop-one.invariant.fit c.in_ok-put_declaration.ensures.fits;
     })
+
+pub put_declaration-requires : goal.put_declaration-requires
+put_declaration-requires c =
+    let blank : Declaration = record { dim = record { ref_ptr = (0, 0); now = [] }; flags = record { hierarchical = false; multi_valued = false; require_dim_count = false } } in
+    mapped_at (λ d. IsDimension d.0) declaration c.args.kept.now c.loop-one.one-index blank c.requires (search rules)

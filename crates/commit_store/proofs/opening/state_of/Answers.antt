@@ -11,4 +11,4 @@ stored_segments-requires c =
 
 pub invariant_of-result : goal.invariant_of-result
 invariant_of-result c = rw (c.size.ensures.size, c.in_ok-stored.ensures, c.deref.ensures.value)
-    (read_committed c.args.config.now c.args.labels.now c.args.newest (map arc_value c.args.segments.now) c.requires.some c.requires.room c.requires.order c.requires.named c.look_at.ensures)
+    (read_committed c.args.config.now c.args.labels.now c.args.newest (map arc_value c.args.segments.now) c.requires.some c.requires.room c.requires.order c.requires.many c.requires.named)

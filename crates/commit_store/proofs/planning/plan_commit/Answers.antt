@@ -2,6 +2,10 @@ use Rattle.std.proofs.Common.{rules, arith, ◌≡◌, ◌∙◌, ◌-◌, map, 
 use Rattle.std.specs.Arc.{arc_value}
 use Rattle.std.specs.Option.{option_or}
 use Rattle.commit_file.specs.Commits.{kept_of}
+use Rattle.commit_file.proofs.Ordering.{kept_flags}
+use Rattle.seg_decoding.proofs.Again.{opens_later}
+use Rattle.seg_decoding.proofs.Longer.{opened_longer}
+use Rattle.seg_grammar.proofs.Again.{segment_again}
 use Rattle.commit_store.specs.Committed.{Committed, IsCommitted}
 use Rattle.commit_store.specs.Drafts.{Drafted, nothing_drafted, labels_drafted, labels_first, index_drafted, drafted, labels_number_from, label_parts_from, index_number_from, kept_from, committed_by}
 use Rattle.commit_store.specs.Plannings.{IsReadAgain}
@@ -47,16 +51,17 @@ returns-clause-leads c = λ t i labels segs known on below_t below_i one.
     let config = c.args.config.now in let old = c.args.state.now in let view = c.args.view.now in let ss = map arc_value c.args.segments.now in
     let read : IsReadAgain config old view ss = search rules in
     let committed : IsCommitted old = rw (← c.state.view_is) c.state.invariant in
-    let alike = no_different config (kept_of config) (λ dim. sym (c.of_laws.ensures.kept config dim)) in
-    all_led config old view ss c.in_ok-planned.planned.plan c.in_ok-planned.planned.after (returns-clause-plan c) read c.of_laws.ensures.again (λ s. c.of_laws.ensures.later config view view s) alike (λ known. c.of_laws.ensures.longer config known view)
-    c.size.ensures.list committed c.look_at.ensures c.requires.decodes.0 c.requires.decodes.1 t i labels segs known on below_t below_i one
+    let alike = no_different config (kept_of config) (λ dim. sym (kept_flags dim config)) in
+    all_led config old view ss c.in_ok-planned.planned.plan c.in_ok-planned.planned.after (returns-clause-plan c) read segment_again (opens_later config view view) alike
+    (λ known needs documents bytes list_known list on low. opened_longer config known view list_known list on needs low documents bytes)
+    c.size.ensures.list committed c.requires.own c.requires.decodes.0 c.requires.decodes.1 t i labels segs known on below_t below_i one
 
 pub returns-clause-takes : goal.returns-clause-takes
 returns-clause-takes c =
     let config = c.args.config.now in let old = c.args.state.now in let view = c.args.view.now in let ss = map arc_value c.args.segments.now in
     let numbers = all_numbers config old view ss in
     let same : c.in_ok-planned.planned.after.next ≡ (drafted config old view ss).next = ap (λ (s : Committed). s.next) (returns-clause-plan c).after in
-    let few = few_segments ss c.look_at.ensures in
+    let few = few_segments ss c.requires.own in
     (omega (arith, numbers.0, same), omega (arith, numbers.1, same, few, c.requires.few))
 
 pub returns-then-to-gt-LIMIT-clause-bound : goal.returns-then-to-gt-LIMIT-clause-bound
@@ -67,4 +72,4 @@ returns-then-to-gt-LIMIT-clause-bound c = λ number e.
     let all : c.in_ok-index.index.draft ≡ drafted config old view ss = c.in_ok-index.ensures.draft ∙ (λ i. index_drafted config (c.size.ensures.size i) old ss (first i)) in
     let next : c.next-to.result ≡ (drafted config old view ss).next = c.next-to.ensures ∙ ap (λ (d : Drafted). d.next) all in
     let last : c.next-to.result - 1 ≡ number = cc e in
-    omega (arith, last, next, (all_numbers config old view ss).1, few_segments ss c.look_at.ensures, c.requires.few)
+    omega (arith, last, next, (all_numbers config old view ss).1, few_segments ss c.requires.own, c.requires.few)

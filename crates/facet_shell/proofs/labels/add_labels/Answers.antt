@@ -35,6 +35,7 @@ loop-path-preserved c =
     c.in-Ok.ensures.ok ∙ ap (λ l. fold with_label l (prefixes c.path-item.result)) c.loop-path.invariant.grown ∙ one_path_more c.args.labels.now c.args.paths.now c.loop-path.path-index c.path-item.result c.loop-path-test.true (sym c.path-item.is) in
     record {
       grown = grown;
+      list = c.add_prefixes.ensures.list;
       resolved = one_path_resolved c.loop-path.labels c.add_prefixes.new.labels c.in-Ok.ensures.between.0 c.args.paths.now c.loop-path.resolved.items c.push.new.self.items c.loop-path.path-index c.path-item.result c.in-Ok.ordinals c.loop-path-test.true (sym c.path-item.is) c.loop-path.invariant.resolved c.in-Ok.ensures.ordinals c.in_ok-push.ensures.items;
       few = c.in-Ok.ensures.few;
       short = All-more IsShort c.args.paths.now c.loop-path.path-index c.path-item.result c.loop-path-test.true c.loop-path.invariant.short (subst IsShort c.path-item.is c.add_prefixes.ensures.short);

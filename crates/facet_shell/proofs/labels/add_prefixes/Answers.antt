@@ -12,7 +12,7 @@ use Rattle.seg_decoding.proofs.Prefixes.{stays, prefix_at, as_many_prefixes}
 use Rattle.facet_shell.proofs.labels.add_prefixes.Goals as goal
 
 pub loop-n-init : goal.loop-n-init
-loop-n-init c = record { grown = refl; few = c.requires.room; ordinals = ap (map (slice_get c.args.labels.now)) c.in_ok-ords.ensures.items; parent = root_stands c.args.labels.now c.size.ensures.list }
+loop-n-init c = record { grown = refl; list = c.requires.list; few = c.requires.room; ordinals = ap (map (slice_get c.args.labels.now)) c.in_ok-ords.ensures.items; parent = root_stands c.args.labels.now c.requires.list }
 
 pub add-requires : goal.add-requires
 add-requires c =
@@ -55,6 +55,7 @@ loop-n-preserved c =
     let grown = added ∙ ap (λ l. with_label l (take (n + 1) path)) c.loop-n.invariant.grown ∙ sym (one_more c.args.labels.now (prefixes path) n (take (n + 1) path) (omega (arith, lt, as_many_prefixes path)) (prefix_at path n lt)) in
     record {
       grown = grown;
+      list = c.add.ensures.list;
       few = subst (λ (l : List (List (List ℕ))). length l ≤ c.args.limit) (sym c.in-Ok.ensures.added) (room_for c.loop-n.labels c.in_ok-prefix.prefix c.args.limit c.loop-n.invariant.few (λ missing full. absurd (search (rules, c.in-Ok.is, c.in-Ok.ensures.full missing full))));
       ordinals = one_ordinal_more c.add.new.self c.loop-n.ords.items c.push.new.self.items (prefixes path) n c.in-Ok.ord (take (n + 1) path) (omega (arith, lt, as_many_prefixes path)) (prefix_at path n lt) (all_stay c.loop-n.labels c.add.new.self c.in-Ok.ensures.goes_on c.loop-n.ords.items (take n (prefixes path)) c.loop-n.invariant.ordinals)
           (label_at c.add.new.self c.in-Ok.ord (take (n + 1) path) (ap (place c.add.new.self) (sym front) ∙ c.in-Ok.ensures.ordinal)) c.in_ok-push.ensures.items;

@@ -1,35 +1,34 @@
-use Rattle.std.proofs.Common.{ℕ, List, length, sym, ap, subst, arith}
-use Rattle.std.specs.Io.KnownBytes.{Consumes}
+use Rattle.std.proofs.Common.{arith}
 use Rattle.facet_words.specs.CommandViews.{script_view}
-use Rattle.facet_shell.proofs.Ending.{done, write_fault, not_opened, disk_failed, disk_still, sink_still}
+use Rattle.facet_shell.proofs.Ending.{read_whole, done, write_fault, not_opened, disk_failed, disk_still, sink_still}
 use Rattle.facet_shell.proofs.program.run.Goals as goal
 
 pub returns-clause-done : goal.returns-clause-done
-returns-clause-done g c = done g.D.Disk.told g.D.Disk.may_leave g.D.Disk.moment g.D.Disk.left_since g.D.Disk.faults (script_view c.in-Ok-read_script.script) c.deref.result.now (g.S.Source.left c.args.source.now) (g.S.Source.left c.read_to_end.new.source) c.args.disk c.run_script.result.disk _ _ _ _ _
-    (record { read = subst (λ (bytes : List ℕ). Consumes (g.S.Source.left c.args.source.now) (g.S.Source.left c.read_to_end.new.source) bytes) (sym c.deref.ensures.value) c.in-Ok.ensures.whole.0; end = c.in-Ok.ensures.whole.1; fits = omega (arith, c.in-Ok.ensures.within, ap length c.deref.ensures.value) })
+returns-clause-done g c = done g.D.Disk (script_view c.in-Ok-read_script.script) c.deref.result.now g.S.Source c.args.source.now c.read_to_end.new.source c.args.disk c.run_script.result.disk g.K.Sink c.args.sink.now c.run_script.new.sink c.run_script.result.status
+    (read_whole g.S.Source c.args.source.now c.read_to_end.new.source _ c.deref.result.now c.deref.ensures.value c.in-Ok.ensures.whole.0 c.in-Ok.ensures.whole.1 (omega (arith, c.in-Ok.ensures.within)))
     c.in-Ok-read_script.ensures.ok c.run_script.ensures.served
 
 pub returns-clause-write_fault : goal.returns-clause-write_fault
-returns-clause-write_fault g c = write_fault g.D.Disk.told g.D.Disk.may_leave g.D.Disk.moment g.D.Disk.left_since g.D.Disk.faults (script_view c.in-Ok-read_script.script) c.deref.result.now (g.S.Source.left c.args.source.now) (g.S.Source.left c.read_to_end.new.source) c.args.disk c.run_script.result.disk _ _ _ _ _
-    (record { read = subst (λ (bytes : List ℕ). Consumes (g.S.Source.left c.args.source.now) (g.S.Source.left c.read_to_end.new.source) bytes) (sym c.deref.ensures.value) c.in-Ok.ensures.whole.0; end = c.in-Ok.ensures.whole.1; fits = omega (arith, c.in-Ok.ensures.within, ap length c.deref.ensures.value) })
+returns-clause-write_fault g c = write_fault g.D.Disk (script_view c.in-Ok-read_script.script) c.deref.result.now g.S.Source c.args.source.now c.read_to_end.new.source c.args.disk c.run_script.result.disk g.K.Sink c.args.sink.now c.run_script.new.sink c.run_script.result.status
+    (read_whole g.S.Source c.args.source.now c.read_to_end.new.source _ c.deref.result.now c.deref.ensures.value c.in-Ok.ensures.whole.0 c.in-Ok.ensures.whole.1 (omega (arith, c.in-Ok.ensures.within)))
     c.in-Ok-read_script.ensures.ok c.run_script.ensures.served
 
 pub returns-clause-not_opened : goal.returns-clause-not_opened
-returns-clause-not_opened g c = not_opened g.D.Disk.told g.D.Disk.may_leave g.D.Disk.moment g.D.Disk.left_since g.D.Disk.faults (script_view c.in-Ok-read_script.script) c.deref.result.now (g.S.Source.left c.args.source.now) (g.S.Source.left c.read_to_end.new.source) c.args.disk c.run_script.result.disk _ _ _ _ _
-    (record { read = subst (λ (bytes : List ℕ). Consumes (g.S.Source.left c.args.source.now) (g.S.Source.left c.read_to_end.new.source) bytes) (sym c.deref.ensures.value) c.in-Ok.ensures.whole.0; end = c.in-Ok.ensures.whole.1; fits = omega (arith, c.in-Ok.ensures.within, ap length c.deref.ensures.value) })
+returns-clause-not_opened g c = not_opened g.D.Disk (script_view c.in-Ok-read_script.script) c.deref.result.now g.S.Source c.args.source.now c.read_to_end.new.source c.args.disk c.run_script.result.disk g.K.Sink c.args.sink.now c.run_script.new.sink c.run_script.result.status
+    (read_whole g.S.Source c.args.source.now c.read_to_end.new.source _ c.deref.result.now c.deref.ensures.value c.in-Ok.ensures.whole.0 c.in-Ok.ensures.whole.1 (omega (arith, c.in-Ok.ensures.within)))
     c.in-Ok-read_script.ensures.ok c.run_script.ensures.served
 
 pub returns-clause-disk_failed : goal.returns-clause-disk_failed
-returns-clause-disk_failed g c = disk_failed g.D.Disk.told g.D.Disk.may_leave g.D.Disk.moment g.D.Disk.left_since g.D.Disk.faults (script_view c.in-Ok-read_script.script) c.deref.result.now (g.S.Source.left c.args.source.now) (g.S.Source.left c.read_to_end.new.source) c.args.disk c.run_script.result.disk _ _ _ _ _
-    (record { read = subst (λ (bytes : List ℕ). Consumes (g.S.Source.left c.args.source.now) (g.S.Source.left c.read_to_end.new.source) bytes) (sym c.deref.ensures.value) c.in-Ok.ensures.whole.0; end = c.in-Ok.ensures.whole.1; fits = omega (arith, c.in-Ok.ensures.within, ap length c.deref.ensures.value) })
+returns-clause-disk_failed g c = disk_failed g.D.Disk (script_view c.in-Ok-read_script.script) c.deref.result.now g.S.Source c.args.source.now c.read_to_end.new.source c.args.disk c.run_script.result.disk g.K.Sink c.args.sink.now c.run_script.new.sink c.run_script.result.status
+    (read_whole g.S.Source c.args.source.now c.read_to_end.new.source _ c.deref.result.now c.deref.ensures.value c.in-Ok.ensures.whole.0 c.in-Ok.ensures.whole.1 (omega (arith, c.in-Ok.ensures.within)))
     c.in-Ok-read_script.ensures.ok c.run_script.ensures.served
 
 pub returns-clause-disk_still : goal.returns-clause-disk_still
-returns-clause-disk_still g c = disk_still g.D.Disk.told g.D.Disk.may_leave g.D.Disk.moment g.D.Disk.left_since g.D.Disk.faults (script_view c.in-Ok-read_script.script) c.deref.result.now (g.S.Source.left c.args.source.now) (g.S.Source.left c.read_to_end.new.source) c.args.disk c.run_script.result.disk _ _ _ _ _
-    (record { read = subst (λ (bytes : List ℕ). Consumes (g.S.Source.left c.args.source.now) (g.S.Source.left c.read_to_end.new.source) bytes) (sym c.deref.ensures.value) c.in-Ok.ensures.whole.0; end = c.in-Ok.ensures.whole.1; fits = omega (arith, c.in-Ok.ensures.within, ap length c.deref.ensures.value) })
+returns-clause-disk_still g c = disk_still g.D.Disk (script_view c.in-Ok-read_script.script) c.deref.result.now g.S.Source c.args.source.now c.read_to_end.new.source c.args.disk c.run_script.result.disk g.K.Sink c.args.sink.now c.run_script.new.sink c.run_script.result.status
+    (read_whole g.S.Source c.args.source.now c.read_to_end.new.source _ c.deref.result.now c.deref.ensures.value c.in-Ok.ensures.whole.0 c.in-Ok.ensures.whole.1 (omega (arith, c.in-Ok.ensures.within)))
     c.in-Ok-read_script.ensures.ok c.run_script.ensures.served
 
 pub returns-clause-sink_still : goal.returns-clause-sink_still
-returns-clause-sink_still g c = sink_still g.D.Disk.told g.D.Disk.may_leave g.D.Disk.moment g.D.Disk.left_since g.D.Disk.faults (script_view c.in-Ok-read_script.script) c.deref.result.now (g.S.Source.left c.args.source.now) (g.S.Source.left c.read_to_end.new.source) c.args.disk c.run_script.result.disk _ _ _ _ _
-    (record { read = subst (λ (bytes : List ℕ). Consumes (g.S.Source.left c.args.source.now) (g.S.Source.left c.read_to_end.new.source) bytes) (sym c.deref.ensures.value) c.in-Ok.ensures.whole.0; end = c.in-Ok.ensures.whole.1; fits = omega (arith, c.in-Ok.ensures.within, ap length c.deref.ensures.value) })
+returns-clause-sink_still g c = sink_still g.D.Disk (script_view c.in-Ok-read_script.script) c.deref.result.now g.S.Source c.args.source.now c.read_to_end.new.source c.args.disk c.run_script.result.disk g.K.Sink c.args.sink.now c.run_script.new.sink c.run_script.result.status
+    (read_whole g.S.Source c.args.source.now c.read_to_end.new.source _ c.deref.result.now c.deref.ensures.value c.in-Ok.ensures.whole.0 c.in-Ok.ensures.whole.1 (omega (arith, c.in-Ok.ensures.within)))
     c.in-Ok-read_script.ensures.ok c.run_script.ensures.served

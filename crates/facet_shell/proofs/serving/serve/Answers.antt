@@ -17,7 +17,7 @@ answer_all-requires-clause-goes_on g c κs within = subst (λ (s : State). GoesO
 
 pub returns-in_default-clause-served : goal.returns-in_default-clause-served
 returns-in_default-clause-served g c =
-    served_none g.D.Disk.told g.D.Disk.may_leave g.D.Disk.moment g.D.Disk.left_since g.D.Disk.faults (script_view c.args.script) _ c.args.script.settings.config c.args.opened.committer.state c.args.opened.committer.disk c.tell.result.disk _ _ _ _ c.tell.result.status (g.met.D.Disk g.world.𝓛 g.world.𝓜 g.world.𝓡 ((λ s x. x), (λ x. x), (λ x. x), λ x. x)).own
+    served_none g.D.Disk (script_view c.args.script) _ c.args.script.settings.config c.args.opened.committer.state c.args.opened.committer.disk c.tell.result.disk g.K.Sink c.args.sink.now c.tell.new.sink c.tell.result.status
     (c.tell.ensures.disk ∙ c.into_disk.ensures) refl (inr (inr (c.tell.ensures.status, c.tell.ensures.line)))
 
 pub returns-in-Ok-answer_all-clause-served : goal.returns-in-Ok-answer_all-clause-served
@@ -33,13 +33,13 @@ returns-in-Ok-answer_all-clause-served g c =
     let last : Shelf = shelf_of c.answer_all.new.session (store_of c.answer_all.new.committer.closed c.answer_all.new.committer.state (g.D.Disk.faults c.answer_all.new.committer.disk)) in
     let right : RightReplies (script_view c.args.script).settings opened (take a.many (script_view c.args.script).orders) a.replies last =
     subst (λ (s : Settings). RightReplies s opened (take a.many (script_view c.args.script).orders) a.replies last) settings (subst (λ (shelf : Shelf). RightReplies c.in-Ok.session.settings shelf (take a.many (script_view c.args.script).orders) a.replies last) is a.right) in
-    served_some g.D.Disk.told g.D.Disk.may_leave g.D.Disk.moment g.D.Disk.left_since g.D.Disk.faults (script_view c.args.script) opened c.args.script.settings.config c.args.opened.committer.state c.args.opened.committer.disk _ _ _ _ _ _ (g.met.D.Disk g.world.𝓛 g.world.𝓜 g.world.𝓡 ((λ s x. x), (λ x. x), (λ x. x), λ x. x)).own
+    served_some g.D.Disk (script_view c.args.script) opened c.args.script.settings.config c.args.opened.committer.state c.args.opened.committer.disk _ g.K.Sink c.args.sink.now c.write-status.new.sink c.write-status.result
     a.many a.replies last c.answer_all.new.committer.state c.answer_all.new.committer.disk right refl c.into_disk-in-Ok-answer_all.ensures
-    (λ start first. subst (λ (config : Config). IsStory g.D.Disk.told g.D.Disk.may_leave g.D.Disk.moment g.D.Disk.left_since opened start last (durable (take a.many (script_view c.args.script).orders) a.replies) config c.answer_all.new.committer.state c.answer_all.new.committer.disk) c.requires.config
-    (subst (λ (shelf : Shelf). IsStory g.D.Disk.told g.D.Disk.may_leave g.D.Disk.moment g.D.Disk.left_since shelf start last (durable (take a.many (script_view c.args.script).orders) a.replies) c.args.opened.committer.config c.answer_all.new.committer.state c.answer_all.new.committer.disk) is (a.story start
-    (subst (λ (shelf : Shelf). IsStory g.D.Disk.told g.D.Disk.may_leave g.D.Disk.moment g.D.Disk.left_since shelf start shelf 0 c.args.opened.committer.config c.args.opened.committer.state c.args.opened.committer.disk) (sym is)
-    (subst (λ (config : Config). IsStory g.D.Disk.told g.D.Disk.may_leave g.D.Disk.moment g.D.Disk.left_since opened start opened 0 config c.args.opened.committer.state c.args.opened.committer.disk) (sym c.requires.config) first)))))
-    (writes_all (script_view c.args.script).orders a.many a.replies c.in-Ok-answer_all.lines.items _ _ _ _ _ a.lines.0 a.lines.1 (subst (λ (l : List ℕ). IsWritten l (g.K.Sink.faults c.args.sink.now) (g.K.Sink.faults c.write-status.new.sink) (g.K.Sink.written c.args.sink.now) (g.K.Sink.written c.write-status.new.sink) c.write-status.result) c.deref.ensures.value c.write-status.ensures.written))
+    (λ start first. subst (λ (config : Config). IsStory g.D.Disk opened start last (durable (take a.many (script_view c.args.script).orders) a.replies) config c.answer_all.new.committer.state c.answer_all.new.committer.disk) c.requires.config
+    (subst (λ (shelf : Shelf). IsStory g.D.Disk shelf start last (durable (take a.many (script_view c.args.script).orders) a.replies) c.args.opened.committer.config c.answer_all.new.committer.state c.answer_all.new.committer.disk) is (a.story start
+    (subst (λ (shelf : Shelf). IsStory g.D.Disk shelf start shelf 0 c.args.opened.committer.config c.args.opened.committer.state c.args.opened.committer.disk) (sym is)
+    (subst (λ (config : Config). IsStory g.D.Disk opened start opened 0 config c.args.opened.committer.state c.args.opened.committer.disk) (sym c.requires.config) first)))))
+    (writes_all (script_view c.args.script).orders a.many a.replies c.in-Ok-answer_all.lines.items g.K.Sink c.args.sink.now c.write-status.new.sink c.write-status.result a.lines.0 a.lines.1 (subst (λ (l : List ℕ). IsWritten l g.K.Sink c.args.sink.now c.write-status.new.sink c.write-status.result) c.deref.ensures.value c.write-status.ensures.written))
 
 pub returns-clause-served : goal.returns-clause-served
 returns-clause-served g c =
@@ -54,10 +54,10 @@ returns-clause-served g c =
     let last : Shelf = shelf_of c.answer_all.new.session (store_of c.answer_all.new.committer.closed c.answer_all.new.committer.state (g.D.Disk.faults c.answer_all.new.committer.disk)) in
     let right : RightReplies (script_view c.args.script).settings opened (take a.many (script_view c.args.script).orders) a.replies last =
     subst (λ (s : Settings). RightReplies s opened (take a.many (script_view c.args.script).orders) a.replies last) settings (subst (λ (shelf : Shelf). RightReplies c.in-Ok.session.settings shelf (take a.many (script_view c.args.script).orders) a.replies last) is a.right) in
-    served_some g.D.Disk.told g.D.Disk.may_leave g.D.Disk.moment g.D.Disk.left_since g.D.Disk.faults (script_view c.args.script) opened c.args.script.settings.config c.args.opened.committer.state c.args.opened.committer.disk _ _ _ _ _ _ (g.met.D.Disk g.world.𝓛 g.world.𝓜 g.world.𝓡 ((λ s x. x), (λ x. x), (λ x. x), λ x. x)).own
+    served_some g.D.Disk (script_view c.args.script) opened c.args.script.settings.config c.args.opened.committer.state c.args.opened.committer.disk _ g.K.Sink c.args.sink.now c.tell-in-Err.new.sink c.tell-in-Err.result.status
     a.many a.replies last c.answer_all.new.committer.state c.answer_all.new.committer.disk right refl (c.tell-in-Err.ensures.disk ∙ c.into_disk-in-Err.ensures)
-    (λ start first. subst (λ (config : Config). IsStory g.D.Disk.told g.D.Disk.may_leave g.D.Disk.moment g.D.Disk.left_since opened start last (durable (take a.many (script_view c.args.script).orders) a.replies) config c.answer_all.new.committer.state c.answer_all.new.committer.disk) c.requires.config
-    (subst (λ (shelf : Shelf). IsStory g.D.Disk.told g.D.Disk.may_leave g.D.Disk.moment g.D.Disk.left_since shelf start last (durable (take a.many (script_view c.args.script).orders) a.replies) c.args.opened.committer.config c.answer_all.new.committer.state c.answer_all.new.committer.disk) is (a.story start
-    (subst (λ (shelf : Shelf). IsStory g.D.Disk.told g.D.Disk.may_leave g.D.Disk.moment g.D.Disk.left_since shelf start shelf 0 c.args.opened.committer.config c.args.opened.committer.state c.args.opened.committer.disk) (sym is)
-    (subst (λ (config : Config). IsStory g.D.Disk.told g.D.Disk.may_leave g.D.Disk.moment g.D.Disk.left_since opened start opened 0 config c.args.opened.committer.state c.args.opened.committer.disk) (sym c.requires.config) first)))))
+    (λ start first. subst (λ (config : Config). IsStory g.D.Disk opened start last (durable (take a.many (script_view c.args.script).orders) a.replies) config c.answer_all.new.committer.state c.answer_all.new.committer.disk) c.requires.config
+    (subst (λ (shelf : Shelf). IsStory g.D.Disk shelf start last (durable (take a.many (script_view c.args.script).orders) a.replies) c.args.opened.committer.config c.answer_all.new.committer.state c.answer_all.new.committer.disk) is (a.story start
+    (subst (λ (shelf : Shelf). IsStory g.D.Disk shelf start shelf 0 c.args.opened.committer.config c.args.opened.committer.state c.args.opened.committer.disk) (sym is)
+    (subst (λ (config : Config). IsStory g.D.Disk opened start opened 0 config c.args.opened.committer.state c.args.opened.committer.disk) (sym c.requires.config) first)))))
     (inr (inr (c.tell-in-Err.ensures.status, c.tell-in-Err.ensures.line)))

@@ -8,7 +8,7 @@ use Rattle.facet_words.proofs.script.read_orders.Given as goal
 abbrev pub invariant-loop-rest : goal.invariant-loop-rest
 invariant-loop-rest l = record {
   read : IsReadTo (map order_view l.orders.items) l.line (lines_of l.rest) (orders_from 2 (lines_of l.bytes));
-  early : l.line + length l.rest ≤ 67108866;
+  early : l.line + length l.rest ≤ 2 + length l.bytes;
 }
 
 abbrev pub decreases-loop-rest : goal.decreases-loop-rest

@@ -8,10 +8,10 @@ alone : (labels : List (List (List ℕ))) (parent : ℕ) (part : List ℕ) → p
 alone labels parent part root is = ap (λ n. joined labels n part) root ∙ is
 
 pub returns-then-parent-eq0-clause-ok : goal.returns-then-parent-eq0-clause-ok
-returns-then-parent-eq0-clause-ok c = rw (alone c.args.labels.now c.args.parent c.args.part.now c.if-parent-eq0.true (joined_root c.args.labels.now c.args.part.now c.size.ensures.list)) (search rules)
+returns-then-parent-eq0-clause-ok c = rw (alone c.args.labels.now c.args.parent c.args.part.now c.if-parent-eq0.true (joined_root c.args.labels.now c.args.part.now c.requires.list)) (search rules)
 
 pub returns-then-parent-eq0-clause-err : goal.returns-then-parent-eq0-clause-err
-returns-then-parent-eq0-clause-err c = rw (alone c.args.labels.now c.args.parent c.args.part.now c.if-parent-eq0.true (joined_root c.args.labels.now c.args.part.now c.size.ensures.list)) c.of_dim.ensures.err
+returns-then-parent-eq0-clause-err c = rw (alone c.args.labels.now c.args.parent c.args.part.now c.if-parent-eq0.true (joined_root c.args.labels.now c.args.part.now c.requires.list)) c.of_dim.ensures.err
 
 pub returns-then-parent-eq0-clause-memory : goal.returns-then-parent-eq0-clause-memory
-returns-then-parent-eq0-clause-memory c = rw (alone c.args.labels.now c.args.parent c.args.part.now c.if-parent-eq0.true (joined_root c.args.labels.now c.args.part.now c.size.ensures.list)) c.of_dim.ensures.memory
+returns-then-parent-eq0-clause-memory c = rw (alone c.args.labels.now c.args.parent c.args.part.now c.if-parent-eq0.true (joined_root c.args.labels.now c.args.part.now c.requires.list)) c.of_dim.ensures.memory

@@ -17,17 +17,17 @@ parent-requires c = omega (arith, as_many c.args.view.now c.arrays.result.now c.
 
 pub overflow_cast-parent : goal.overflow_cast-parent
 overflow_cast-parent c =
-    let parent = parent_entry c.args.view.now c.arrays.result.now c.arrays.ensures.arrays c.size.ensures.list c.args.ord c.requires.some c.requires.within in
+    let parent = parent_entry c.args.view.now c.arrays.result.now c.arrays.ensures.arrays c.requires.list c.args.ord c.requires.some c.requires.within in
     let is : c.parent.result ≡ pos parent.0 = c.parent.ensures ∙ parent.2 in
-    let read : to_z w32 (of_z w32 c.parent.result) ≡ pos parent.0 = ap (λ z. to_z w32 (of_z w32 z)) is ∙ to_z-of_z w32 (pos parent.0) (record { sfits = omega (arith, parent.1, c.requires.within, c.size.ensures.few) }) in
-    let low : parent.0 < 2 ^ 32 = omega (arith, parent.1, c.requires.within, c.size.ensures.few) in
+    let read : to_z w32 (of_z w32 c.parent.result) ≡ pos parent.0 = ap (λ z. to_z w32 (of_z w32 z)) is ∙ to_z-of_z w32 (pos parent.0) (record { sfits = omega (arith, parent.1, c.requires.within, c.requires.few) }) in
+    let low : parent.0 < 2 ^ 32 = omega (arith, parent.1, c.requires.within, c.requires.few) in
     rw read (search rules)
 
 pub returns : goal.returns
 returns c =
-    let parent = parent_entry c.args.view.now c.arrays.result.now c.arrays.ensures.arrays c.size.ensures.list c.args.ord c.requires.some c.requires.within in
+    let parent = parent_entry c.args.view.now c.arrays.result.now c.arrays.ensures.arrays c.requires.list c.args.ord c.requires.some c.requires.within in
     let is : c.parent.result ≡ pos parent.0 = c.parent.ensures ∙ parent.2 in
-    let read : to_z w32 (of_z w32 c.parent.result) ≡ pos parent.0 = ap (λ z. to_z w32 (of_z w32 z)) is ∙ to_z-of_z w32 (pos parent.0) (record { sfits = omega (arith, parent.1, c.requires.within, c.size.ensures.few) }) in
+    let read : to_z w32 (of_z w32 c.parent.result) ≡ pos parent.0 = ap (λ z. to_z w32 (of_z w32 z)) is ∙ to_z-of_z w32 (pos parent.0) (record { sfits = omega (arith, parent.1, c.requires.within, c.requires.few) }) in
     let label : get_or c.args.view.now c.args.ord [] ≡ c.path_of-path.result.now = get_or_from_slice_get c.args.view.now c.args.ord c.path_of-path.result.now [] c.path_of-path.ensures in
     let last : last_part c.path_of-path.result.now ≡ c.part.result.now = get_or_from_slice_get c.path_of-path.result.now (length c.path_of-path.result.now - 1) c.part.result.now [] (ap (λ n. slice_get c.path_of-path.result.now (n - 1)) (sym c.len.ensures.len) ∙ c.part.ensures.part) in
     let fits : IsStorable c.path_of-path.result.now = record {

@@ -1,12 +1,10 @@
-use Rattle.std.proofs.Common.{◌≡◌, ◌∙◌, ℕ, List, [], sym, subst}
+use Rattle.std.proofs.Common.{◌∙◌, ℕ, List, sym, subst}
 use Rattle.facet_model.specs.Shapes.{doc_fault}
 use Rattle.facet_model.specs.Stored.{AreLabelsAt}
 use Rattle.seg_grammar.specs.Lookups.{record_of}
 use Rattle.seg_grammar.specs.Spelling.{IsRecord}
-use Rattle.seg_decoding.specs.Decoding.{doc_in}
 use Rattle.seg_decoding.proofs.Decoded.{doc_made}
 use Rattle.seg_decoding.proofs.Shapes.{memory_alone}
-use Rattle.seg_decoding.proofs.Stored.{each_at}
 use Rattle.seg_decoding.proofs.entries.document_of.Goals as goal
 
 pub returns-in-Ok-clause-doc : goal.returns-in-Ok-clause-doc

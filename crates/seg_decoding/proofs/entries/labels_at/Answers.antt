@@ -1,5 +1,5 @@
-use Rattle.std.proofs.Common.{◌≡◌, ◌∙◌, ◌∷◌, ◌++◌, ◌+◌, ◌-◌, ◌<◌, ◌≤◌, [], ℕ, List, Some, get_or, length, map, take, slice_get, ap, sym, arith}
-use Rattle.std.proofs.lemmas.List.{get_or_default, map_push, take_more}
+use Rattle.std.proofs.Common.{◌≡◌, ◌∙◌, ◌-◌, ◌<◌, [], ℕ, get_or, length, ap, arith}
+use Rattle.std.proofs.lemmas.List.{get_or_default}
 use Rattle.seg_decoding.specs.Answers.{IsLeaf}
 use Rattle.seg_decoding.proofs.Decoded.{label_behind, labels_more}
 use Rattle.seg_decoding.proofs.entries.labels_at.Goals as goal

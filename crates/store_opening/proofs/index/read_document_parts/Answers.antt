@@ -39,9 +39,9 @@ loop-part-preserved g c =
           ∙ kept.read s told listed;
       named = rw (take_more parts i blank lt, c.in_ok-keep.ensures)
           (zip_push (IsNamedAs config labels) (take i parts) (map arc_value c.loop-part.segments.items) (get_or parts i blank) c.in_ok-segment.segment kept.named c.in_ok-segment.ensures.named);
-      still = c.in_ok-segment.ensures.still.ok ∙ kept.still;
-      unfailed = c.in_ok-segment.ensures.unfailed.ok ∙ kept.unfailed;
-      quiet = goes_on _ _ _ kept.quiet c.in_ok-segment.ensures.quiet;
+      still = c.in_ok-segment.ensures.read.still.ok ∙ kept.still;
+      unfailed = c.in_ok-segment.ensures.read.unfailed.ok ∙ kept.unfailed;
+      quiet = goes_on g.D.Disk _ _ _ kept.quiet c.in_ok-segment.ensures.read.quiet;
     }
 
 pub returns-clause-ok : goal.returns-clause-ok

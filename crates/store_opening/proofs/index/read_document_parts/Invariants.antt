@@ -16,5 +16,5 @@ invariant-loop-part g l = record {
   named : AllZip (IsNamedAs l.config l.labels) (take l.part-index l.parts) (map arc_value l.segments.items);
   still : g.D.Disk.faults l.disk ≡ g.D.Disk.faults l.fn.disk;
   unfailed : g.D.Disk.failures l.disk ≡ g.D.Disk.failures l.fn.disk;
-  quiet : IsQuiet g.D.Disk.told g.D.Disk.may_leave g.D.Disk.moment g.D.Disk.left_since g.D.Disk.faults l.fn.disk l.disk;
+  quiet : IsQuiet g.D.Disk l.fn.disk l.disk;
 }

@@ -35,11 +35,11 @@ returns-in_err-segments-clause-err g c =
     let found = c.in-Some.found in
     rw (p.1, p.2) (λ memory device s told listed. index_read c.args.config.now c.args.labels.now (segments_in Index s.files) (newest_file Index s.files) found.number found.bytes.items
     (c.in_ok-found.ensures.ok s told listed ∙ ap (option_map commit_bytes) c.in-Some.is) (index_listing c.in_ok-commit.commit) c.in_ok-commit.ensures.ok c.in_ok-check_commit.ensures.ok
-    ∙ rw c.deref.ensures.value at (c.in_err-segments.ensures.err memory device s (c.in_ok-found.ensures.quiet.same ∙ told) listed))
+    ∙ rw c.deref.ensures.value at (c.in_err-segments.ensures.err memory device s (c.in_ok-found.ensures.read.quiet.same ∙ told) listed))
 
 pub returns-clause-ok : goal.returns-clause-ok
 returns-clause-ok g c =
     let found = c.in-Some.found in
     λ s told listed. index_read c.args.config.now c.args.labels.now (segments_in Index s.files) (newest_file Index s.files) found.number found.bytes.items
     (c.in_ok-found.ensures.ok s told listed ∙ ap (option_map commit_bytes) c.in-Some.is) (index_listing c.in_ok-commit.commit) c.in_ok-commit.ensures.ok c.in_ok-check_commit.ensures.ok
-    ∙ rw c.deref.ensures.value at (c.in_ok-segments.ensures.ok s (c.in_ok-found.ensures.quiet.same ∙ told) listed)
+    ∙ rw c.deref.ensures.value at (c.in_ok-segments.ensures.ok s (c.in_ok-found.ensures.read.quiet.same ∙ told) listed)

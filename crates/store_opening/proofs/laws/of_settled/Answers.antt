@@ -2,4 +2,6 @@ use Rattle.store_opening.proofs.Held.{settled_stands}
 use Rattle.store_opening.proofs.laws.of_settled.Goals as goal
 
 pub returns : goal.returns
-returns g c = λ config s f next settled e below. settled_stands g.D.Disk.may_leave c.args.disk.now config s f next settled e below
+returns g c =
+    let laws = g.met.D.Disk g.world.𝓛 g.world.𝓜 g.world.𝓡 ((λ s x. x), (λ x. x), (λ x. x), λ x. x) in
+    settled_stands g.D.Disk c.args.disk.now (laws.numbered c.args.disk.now)

@@ -22,7 +22,7 @@ returns-in_err-taxonomy-clause-err g c =
     let first = subst (AreListed s.files) (sym c.deref.ensures.value) names in
     let second = subst (AreListed s.files) (sym c.deref-2.ensures.value) names in
     files_taxonomy c.args.config.now s.files (c.in_ok-next.ensures.ok s.files first) c.in_err-taxonomy.field-0.0
-    (c.in_err-taxonomy.ensures.err memory device s (c.in_ok-listed.ensures.quiet.same ∙ told) second))
+    (c.in_err-taxonomy.ensures.err memory device s (c.in_ok-listed.ensures.read.quiet.same ∙ told) second))
 
 pub returns-in_err-index-clause-err : goal.returns-in_err-index-clause-err
 returns-in_err-index-clause-err g c =
@@ -32,9 +32,9 @@ returns-in_err-index-clause-err g c =
     let first = subst (AreListed s.files) (sym c.deref.ensures.value) names in
     let second = subst (AreListed s.files) (sym c.deref-2.ensures.value) names in
     let third = subst (AreListed s.files) (sym c.deref-3.ensures.value) names in
-    let listed = c.in_ok-listed.ensures.quiet.same ∙ told in
+    let listed = c.in_ok-listed.ensures.read.quiet.same ∙ told in
     files_index c.args.config.now s.files (c.in_ok-next.ensures.ok s.files first) c.in_ok-taxonomy.taxonomy.labels (c.in_ok-taxonomy.ensures.ok s listed second) c.in_err-index.field-0.0
-    (c.in_err-index.ensures.err memory device s (c.in_ok-taxonomy.ensures.quiet.same ∙ listed) third))
+    (c.in_err-index.ensures.err memory device s (c.in_ok-taxonomy.ensures.read.quiet.same ∙ listed) third))
 
 pub returns-clause-ok : goal.returns-clause-ok
 returns-clause-ok g c = λ s told.
@@ -42,9 +42,9 @@ returns-clause-ok g c = λ s told.
     let first = subst (AreListed s.files) (sym c.deref.ensures.value) names in
     let second = subst (AreListed s.files) (sym c.deref-2.ensures.value) names in
     let third = subst (AreListed s.files) (sym c.deref-3.ensures.value) names in
-    let listed = c.in_ok-listed.ensures.quiet.same ∙ told in
+    let listed = c.in_ok-listed.ensures.read.quiet.same ∙ told in
     files_read c.args.config.now s.files (c.in_ok-next.ensures.ok s.files first) c.in_ok-taxonomy.taxonomy.labels (c.in_ok-taxonomy.ensures.ok s listed second) (map arc_value c.in_ok-index.index.segments.items)
-    (c.in_ok-index.ensures.ok s (c.in_ok-taxonomy.ensures.quiet.same ∙ listed) third)
+    (c.in_ok-index.ensures.ok s (c.in_ok-taxonomy.ensures.read.quiet.same ∙ listed) third)
 
 pub returns-clause-decodes : goal.returns-clause-decodes
 returns-clause-decodes g c = decodes_from c.args.config.now c.in_ok-taxonomy.taxonomy.labels c.in_ok-index.index.parts.items (map arc_value c.in_ok-index.index.segments.items) c.in_ok-index.ensures.named

@@ -5,5 +5,5 @@ use Rattle.store_opening.proofs.reading.list_all.Goals as goal
 pub returns-clause-ok : goal.returns-clause-ok
 returns-clause-ok g c = λ s told. both_listed s.files c.in_ok-names.names.items c.deref.result.now c.extend_from_slice.new.self.items
     (c.in_ok-names.ensures.ok s told)
-    (rw c.deref.ensures.value (c.in_ok-others.ensures.ok s (c.in_ok-names.ensures.quiet.same ∙ told)))
+    (rw c.deref.ensures.value (c.in_ok-others.ensures.ok s (c.in_ok-names.ensures.read.quiet.same ∙ told)))
     c.in_ok-extend_from_slice.ensures.items

@@ -41,10 +41,12 @@ loop-part-preserved g c =
     record {
       read = λ s told listed. labels_more (segments_in Taxonomy s.files) c.loop-part.labels parts i blank c.read_label_part.new.labels lt (c.in_ok-read_label_part.ensures.ok s (kept.quiet.same ∙ told) listed)
           ∙ kept.read s told listed;
+      list = c.in_ok-read_label_part.ensures.list;
+      many = omega (arith, kept.many, c.in_ok-read_label_part.ensures.count, c.in_ok-read_label_part.ensures.some);
       order = subst (λ (n : ℕ). AreInOrder c.args.total n (drop (i + 1) parts)) longer order.1;
-      still = c.in_ok-read_label_part.ensures.still.ok ∙ kept.still;
-      unfailed = c.in_ok-read_label_part.ensures.unfailed.ok ∙ kept.unfailed;
-      quiet = goes_on _ _ _ kept.quiet c.in_ok-read_label_part.ensures.quiet;
+      still = c.in_ok-read_label_part.ensures.read.still.ok ∙ kept.still;
+      unfailed = c.in_ok-read_label_part.ensures.read.unfailed.ok ∙ kept.unfailed;
+      quiet = goes_on g.D.Disk _ _ _ kept.quiet c.in_ok-read_label_part.ensures.read.quiet;
     }
 
 pub returns-clause-ok : goal.returns-clause-ok

@@ -26,14 +26,14 @@ returns-in_err-labels-clause-err g c =
     let found = c.in-Some.found in
     rw (p.1, p.2) (λ memory device s told listed. taxonomy_read (segments_in Taxonomy s.files) (newest_file Taxonomy s.files) found.number found.bytes.items
     (c.in_ok-found.ensures.ok s told listed ∙ ap (option_map commit_bytes) c.in-Some.is) (taxonomy_listing c.in_ok-commit.commit) c.in_ok-commit.ensures.ok
-    ∙ rw c.deref.ensures.value at (c.in_err-labels.ensures.err memory device s (c.in_ok-found.ensures.quiet.same ∙ told) listed))
+    ∙ rw c.deref.ensures.value at (c.in_err-labels.ensures.err memory device s (c.in_ok-found.ensures.read.quiet.same ∙ told) listed))
 
 pub returns-clause-ok : goal.returns-clause-ok
 returns-clause-ok g c =
     let found = c.in-Some.found in
     λ s told listed. taxonomy_read (segments_in Taxonomy s.files) (newest_file Taxonomy s.files) found.number found.bytes.items
     (c.in_ok-found.ensures.ok s told listed ∙ ap (option_map commit_bytes) c.in-Some.is) (taxonomy_listing c.in_ok-commit.commit) c.in_ok-commit.ensures.ok
-    ∙ rw c.deref.ensures.value at (c.in_ok-labels.ensures.ok s (c.in_ok-found.ensures.quiet.same ∙ told) listed)
+    ∙ rw c.deref.ensures.value at (c.in_ok-labels.ensures.ok s (c.in_ok-found.ensures.read.quiet.same ∙ told) listed)
 
 pub returns-clause-order : goal.returns-clause-order
 returns-clause-order g c = rw c.in_ok-labels.ensures.count c.in_ok-commit.ensures.order

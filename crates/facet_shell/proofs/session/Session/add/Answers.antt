@@ -14,15 +14,15 @@ use Rattle.facet_shell.proofs.session.Session.add.Goals as goal
 pub invariant_of-self : goal.invariant_of-self
 invariant_of-self c =
     let s = c.self.inside in
-    kept_grown s.settings.config s.labels s.view (map arc_value s.segments.items) s.published s.buffer.items s.taken s.stored c.size-2.ensures.list c.self.invariant c.add-reply.new.labels c.add-reply.new.entries.items c.size-3.ensures.list c.add-reply.ensures.goes_on c.add-reply.ensures.entries c.add-reply.ensures.few
+    kept_grown s.settings.config s.labels s.view (map arc_value s.segments.items) s.published s.buffer.items s.taken s.stored c.self.invariant c.add.new.labels c.add.new.entries.items c.add.ensures.list c.add.ensures.goes_on c.add.ensures.entries c.add.ensures.few
 
 pub returns-clause-right : goal.returns-clause-right
 returns-clause-right c store =
     let s = c.self.inside in
     let all = map arc_value s.segments.items in
-    let same : docs_in c.add-reply.new.labels all ≡ docs_in s.labels all = grown_docs s.settings.config s.labels s.view all s.published s.buffer.items s.taken s.stored c.size-2.ensures.list c.self.invariant c.add-reply.new.labels c.size-3.ensures.list c.add-reply.ensures.goes_on in
-    let right = c.add-reply.ensures.right (docs_in s.labels all) s.taken (length s.view) (length all) store (sym c.self.invariant.stored_size) in
+    let same : docs_in c.add.new.labels all ≡ docs_in s.labels all = grown_docs s.settings.config s.labels s.view all s.published s.buffer.items s.taken s.stored c.self.invariant c.add.new.labels c.add.ensures.list c.add.ensures.goes_on in
+    let right = c.add.ensures.right (docs_in s.labels all) s.taken (length s.view) (length all) store (sym c.self.invariant.stored_size) in
     let before : State = record { settings = settings_view s.settings; labels = s.labels; docs = docs_in s.labels all ++ docs_of s.buffer.items; taken = s.taken; taken_labels = length s.view; segments = all; waiting = length s.buffer.items } in
-    let after : List Doc → State = λ docs. record { settings = settings_view s.settings; labels = c.add-reply.new.labels; docs = docs ++ docs_of c.add-reply.new.entries.items; taken = s.taken; taken_labels = length s.view; segments = all; waiting = length c.add-reply.new.entries.items } in
-    subst (λ (old : State). RightReply old.settings (shelf_of old store) (add c.args.doc) (reply_view c.add-reply.result) (shelf_of (after (docs_in c.add-reply.new.labels all)) store)) c.self.view_is
-    (subst (λ (docs : List Doc). RightReply (settings_view s.settings) (shelf_of before store) (add c.args.doc) (reply_view c.add-reply.result) (shelf_of (after docs) store)) (sym same) right)
+    let after : List Doc → State = λ docs. record { settings = settings_view s.settings; labels = c.add.new.labels; docs = docs ++ docs_of c.add.new.entries.items; taken = s.taken; taken_labels = length s.view; segments = all; waiting = length c.add.new.entries.items } in
+    subst (λ (old : State). RightReply old.settings (shelf_of old store) (add c.args.doc) (reply_view c.add.result) (shelf_of (after (docs_in c.add.new.labels all)) store)) c.self.view_is
+    (subst (λ (docs : List Doc). RightReply (settings_view s.settings) (shelf_of before store) (add c.args.doc) (reply_view c.add.result) (shelf_of (after docs) store)) (sym same) right)

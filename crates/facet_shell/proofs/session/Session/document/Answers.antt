@@ -21,7 +21,7 @@ show-requires-clause-leaves c =
     let seen = take s.published (map arc_value s.segments.items) in
     let front : map arc_value c.front-segments.result.now ≡ take s.published (map arc_value s.segments.items) = c.front-segments.ensures ∙ ap (λ arcs. take s.published (map arc_value arcs)) c.deref.ensures.value in
     subst (λ (segments : List Records). All (λ (r : Stored). All (λ ord. (0 < ord) × (ord < length s.view)) r.leaves) (records_in segments)) (sym front)
-    (λ k d lt. leaves_within s.view s.settings.config (get_or (records_in seen) k d) c.size.ensures.list (records_are s.view s.settings.config seen (docs_in s.view seen) c.self.invariant.seen k d lt))
+    (λ k d lt. leaves_within s.view s.settings.config (get_or (records_in seen) k d) c.self.invariant.seen_list (records_are s.view s.settings.config seen (docs_in s.view seen) c.self.invariant.seen k d lt))
 
 pub returns-in-Ok : goal.returns-in-Ok
 returns-in-Ok c =
@@ -35,6 +35,6 @@ returns-in-Ok c =
     record {
       right = λ store.
           let state : State = record { settings = settings_view s.settings; labels = s.labels; docs = docs_in s.labels all ++ docs_of s.buffer.items; taken = s.taken; taken_labels = length s.view; segments = all; waiting = length s.buffer.items } in
-          let is = shown_is s.settings.config (shelf_of state store) s.view seen rest c.args.at (reply_view c.in-Ok.reply) c.size.ensures.list c.size-2.ensures.list c.self.invariant.goes_on c.self.invariant.seen docs c.self.invariant.taken_size shown in
+          let is = shown_is s.settings.config (shelf_of state store) s.view seen rest c.args.at (reply_view c.in-Ok.reply) c.self.invariant.seen_list c.self.invariant.list c.self.invariant.goes_on c.self.invariant.seen docs c.self.invariant.taken_size shown in
           subst (λ (now : State). RightReply now.settings (shelf_of now store) (document c.args.at) (reply_view c.in-Ok.reply) (shelf_of now store)) c.self.view_is (inl (is, refl));
     }

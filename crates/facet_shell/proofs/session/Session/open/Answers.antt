@@ -17,4 +17,4 @@ invariant_of-result c =
     let count : c.len-published.result ≡ length all = omega (arith, c.len-published.ensures, length-map c.args.segments.items arc_value) in
     subst (λ (v : List (List (List ℕ))). IsKept config labels v all c.len-published.result c.new.result.items n n) (sym c.in_ok-view.ensures)
     (subst (λ (m : ℕ). IsKept config labels labels all m c.new.result.items n n) (sym count)
-    (subst (λ (entries : List Entry). IsKept config labels labels all (length all) entries n n) (sym c.new.ensures.items) (kept_opened config labels all n c.requires.decodes c.requires.few size)))
+    (subst (λ (entries : List Entry). IsKept config labels labels all (length all) entries n n) (sym c.new.ensures.items) (kept_opened config labels all n c.requires.list c.requires.decodes c.requires.some c.requires.own c.requires.few size)))

@@ -35,3 +35,6 @@ returns-clause-ordinal c =
     let size : c.size-ord.result ≡ length ([] ∷ keys) = c.size-ord.ensures.size ∙ sym (ap length c.self.view_is) in
     let last : c.insert.new.self.keys ≡ keys ++ path ∷ [] = c.in_ok-insert.ensures.keys ∙ ap (insert_key path_eq keys) c.in_ok-label.ensures ∙ inserted_last keys c.self.inside.parents.items path c.self.invariant new under in
     ap (λ l. place ([] ∷ l) path) last ∙ last_ordinal keys c.self.inside.parents.items path c.self.invariant new under ∙ ap Some (sym size)
+
+pub returns-clause-list : goal.returns-clause-list
+returns-clause-list c = (invariant_of-self-2 c).list

@@ -1,0 +1,103 @@
+-- What a commit promises, given the committer before it and after it.
+use Rattle.std.specs.Prelude.{◌≡◌, ◌≢◌, ◌≤◌, ◌<◌, ◌+◌, ◌^◌, [], ℕ, List, Some, None, Result, IfErr, OnOk, Contains}
+use Rattle.facet_disk.specs.declared.disk.Disk.{Ghosts}
+use Rattle.facet_disk.specs.declared.name.FileName.{FileName}
+use Rattle.facet_disk.specs.Images.{Image, Told}
+use Rattle.facet_disk.specs.Calls.{Rose}
+use Rattle.facet_model.specs.Flags.{Config}
+use Rattle.facet_model.specs.Stored.{Records}
+use Rattle.facet_names.specs.Labels.{GoesOn}
+use Rattle.commit_calls.specs.Held.{Below}
+use Rattle.commit_calls.specs.Moments.{LeavesOnly}
+use Rattle.store_opening.specs.Newest.{AreListed}
+use Rattle.store_opening.specs.Settled.{IsSettled}
+use Rattle.commit_store.specs.declared.fault.CommitFault.{CommitFault}
+use Rattle.commit_store.specs.declared.fault.CommitFault.TheVariants.{NumbersSpent, NoMemory}
+use Rattle.commit_store.specs.Committed.{Committed}
+use Rattle.commit_store.specs.Committers.{CommitterView}
+use Rattle.commit_store.specs.Committing.{HasOneOfThree}
+use Rattle.commit_store.specs.Drafts.{last_number, named_files}
+use Rattle.commit_store.specs.Plannings.{IsCommittedAt}
+use Rattle.commit_store.specs.Results.{committed_told, IsCutShort}
+
+-- ---- what a commit goes out from
+
+-- whatever a crash leaves are the files of these labels and segments, and the committer knows of them
+abbrev pub IsHere : {D : Type 0} → Ghosts D → Config → CommitterView D → List (List (List ℕ)) → List Records → Type 0
+IsHere disk config committer labels segments = IsCommittedAt disk config committer.state committer.disk labels segments
+
+-- it holds of the labels and segments of a disk that tells its files, from which the given labels go on
+abbrev pub FromPair : {D : Type 0} → Ghosts D → CommitterView D → List (List (List ℕ)) → (List (List (List ℕ)) → List Records → Type 0) → Type 0
+FromPair disk old view holds = (s : Told) (labels : List (List (List ℕ))) (segments : List Records) → disk.told old.disk ≡ Some s
+    → IsHere disk old.config old labels segments → GoesOn labels view → holds labels segments
+
+-- it holds of what a disk tells before and after
+abbrev pub OfBoth : {D : Type 0} → Ghosts D → D → D → (Told → Told → Type 0) → Type 0
+OfBoth disk old new holds = (s u : Told) → disk.told old ≡ Some s → disk.told new ≡ Some u → holds s u
+
+-- ---- what a crash leaves
+
+-- each image at each moment has the files of the pair before, of the old segments under the new labels, or of the pair after
+abbrev pub PassesThree : {D : Type 0} → Ghosts D → CommitterView D → CommitterView D → List (List (List ℕ)) → List Records → Type 0
+PassesThree disk old new view segments = FromPair disk old view (λ labels old_segments.
+    LeavesOnly disk old.disk new.disk (HasOneOfThree old.config labels old_segments view segments))
+
+-- and so has each image at the end
+abbrev pub LeavesThree : {D : Type 0} → Ghosts D → CommitterView D → CommitterView D → List (List (List ℕ)) → List Records → Type 0
+LeavesThree disk old new view segments = FromPair disk old view (λ labels old_segments.
+    (c : Image) → disk.may_leave new.disk c → HasOneOfThree old.config labels old_segments view segments c)
+
+-- each image has the files of the pair after; without segments there were none before
+abbrev pub Acknowledges : {D : Type 0} → Ghosts D → CommitterView D → CommitterView D → List (List (List ℕ)) → List Records → Type 0
+Acknowledges disk old new view segments = FromPair disk old view (λ labels old_segments. (segments ≡ [] → old_segments ≡ []) → IsHere disk new.config new view segments)
+
+-- the disk is settled, as whoever opens it next may need
+abbrev pub Settles : {D : Type 0} → Ghosts D → CommitterView D → CommitterView D → List (List (List ℕ)) → List Records → Type 0
+Settles disk old new view segments = (s u : Told) (labels : List (List (List ℕ))) (old_segments : List Records) → disk.told old.disk ≡ Some s → disk.told new.disk ≡ Some u
+    → IsHere disk old.config old labels old_segments → GoesOn labels view → (segments ≡ [] → old_segments ≡ []) → IsSettled disk new.config u new.disk
+
+-- ---- what the disk tells
+
+-- what it told, with the files of the commit made, its pending files renamed and its strays removed
+abbrev pub TellsCommit : {D : Type 0} → Ghosts D → CommitterView D → CommitterView D → List (List (List ℕ)) → List Records → Type 0
+TellsCommit disk old new view segments = (s : Told) → disk.told old.disk ≡ Some s → disk.told new.disk ≡ Some (committed_told old.config old.state view segments s)
+
+-- each file is one of these
+abbrev pub AreAmong : Image → List FileName → Type 0
+AreAmong c names = (n : FileName) → c n ≢ None → Contains names n
+
+-- each newest commit file, and each segment that it names, is there
+abbrev pub HasNamed : Image → Committed → Type 0
+HasNamed c s = (n : FileName) → Contains (named_files s.taxonomy s.label_parts s.index s.kept) n → c n ≢ None
+
+-- where these were there and the files before were those listed, the files that are left are those listed
+abbrev pub StaysListed : {D : Type 0} → Ghosts D → CommitterView D → CommitterView D → Type 0
+StaysListed disk old new = OfBoth disk old.disk new.disk (λ s u.
+    HasNamed s.files old.state → AreListed s.files old.state.listed → AreListed u.files new.state.listed)
+
+-- where a fault ends it: it has removed strays in their order alone, and none before all else was done
+abbrev pub CutsShort : {D : Type 0} → Ghosts D → CommitterView D → CommitterView D → List (List (List ℕ)) → List Records → Type 0
+CutsShort disk old new view segments = (s : Told) → disk.told old.disk ≡ Some s → IsCutShort old.config old.state view segments s (disk.told new.disk)
+
+-- ---- faults
+
+-- a fault of the disk was counted, and the committer is closed with that count
+abbrev pub ClosesAt : {D : Type 0} → Ghosts D → CommitterView D → CommitterView D → ℕ → Type 0
+ClosesAt disk old new count = Rose (disk.faults old.disk) (disk.faults new.disk) × (count ≡ disk.faults new.disk) × (new.closed ≡ Some count)
+
+-- where what is known of the files is true of those that the disk tells, the device failed
+abbrev pub FailsDevice : {D : Type 0} → Ghosts D → CommitterView D → CommitterView D → Type 0
+FailsDevice disk old new = (s : Told) → disk.told old.disk ≡ Some s → AreListed s.files old.state.listed → Below old.state.next s.files
+    → Rose (disk.failures old.disk) (disk.failures new.disk)
+
+-- the last number that a commit takes
+abbrev pub last_of : {D : Type 0} → CommitterView D → List (List (List ℕ)) → List Records → ℕ
+last_of old view segments = last_number old.config old.state view segments
+
+-- it is too great, and little above the next one
+abbrev pub IsSpentAt : ℕ → ℕ → ℕ → Type 0
+IsSpentAt next last number = (number ≡ last) × (2 ^ 63 ≤ number) × (number < next + 1000003)
+
+-- where it is too great it is told, but for want of memory
+abbrev pub IsRefusedAt : {T : Type 0} → ℕ → Result T CommitFault → Type 0
+IsRefusedAt last result = 2 ^ 63 ≤ last → IfErr result (λ e. e ≢ NoMemory → e ≡ NumbersSpent last) × OnOk result ⊥

@@ -1,0 +1,244 @@
+use crate::name::{Dir, FileName};
+use crate::names::Names;
+use facet_io::read_retrying;
+use std::alloc::{AllocError, Global};
+use std::fs::{File, OpenFile, OpenOptions};
+use std::io;
+use std::io::{ErrorKind, Read, Write};
+use std::rt::Files;
+
+/// A folder of the operating system, with a folder in it for each directory. Each call on it takes its lock first, and none gives it back.
+///
+/// An error of the kind `NotFound` says that a file is not there, and one of the kind `AlreadyExists` that one is.
+#[derive(Drop)]
+pub(crate) struct HeldFolder<R: Files<File = File> + Drop> {
+    alloc: Global,
+    files: R,
+    root: String,
+    // the folder, with its lock
+    lock: Option<File>,
+    // whether it was not there at a call, and was not made by this disk since
+    was_absent: bool,
+    // whether this directory's folder was seen to at a call that may make it
+    has_taxonomy: bool,
+    has_index: bool,
+}
+
+impl<R: Files<File = File> + Drop> HeldFolder<R> {
+    /// It makes no call of the operating system.
+    pub(crate) fn new(alloc: Global, files: R, path: &str) -> Result<HeldFolder<R>, AllocError> {
+        let root = String::from_str(alloc, path)?;
+        Ok(HeldFolder {
+            alloc,
+            files,
+            root,
+            lock: None,
+            was_absent: false,
+            has_taxonomy: false,
+            has_index: false,
+        })
+    }
+
+    // Takes the lock, unless it is held. Where another has it, that is an error of the kind `WouldBlock`.
+    fn take(&mut self) -> io::Result<()> {
+        if self.lock.is_none() {
+            let mut how = OpenOptions::new();
+            how.read(true);
+            let folder = self.files.open_file(&how, &self.root)?;
+            folder.try_lock()?;
+            self.lock = Some(folder);
+        }
+        Ok(())
+    }
+
+    // The same, where a folder that is not there is none that another has. One that was not there, and then was made elsewhere, is another's:
+    // what this disk has told of it is not so.
+    fn take_if_there(&mut self) -> io::Result<()> {
+        match self.take() {
+            Ok(()) => if self.was_absent {
+                Err(ErrorKind::WouldBlock.into())
+            } else {
+                Ok(())
+            },
+            Err(e) => if e.kind() == ErrorKind::NotFound {
+                self.was_absent = true;
+                Ok(())
+            } else {
+                Err(e)
+            },
+        }
+    }
+
+    fn folder_path(&self, dir: Dir) -> Result<String, AllocError> {
+        format!(in self.alloc; "{}/{dir}", self.root)
+    }
+
+    fn file_path(&self, name: FileName) -> Result<String, AllocError> {
+        format!(in self.alloc; "{}/{name}", self.root)
+    }
+
+    fn sync_path(&self, path: &str) -> io::Result<()> {
+        let mut how = OpenOptions::new();
+        how.read(true);
+        self.files.open_file(&how, path)?.sync_all()
+    }
+
+    // Makes a folder that may be there already, and answers whether it was made.
+    fn make_folder(&self, path: &str) -> io::Result<bool> {
+        match self.files.create_dir(path) {
+            Ok(()) => Ok(true),
+            Err(e) => if e.kind() == ErrorKind::AlreadyExists {
+                Ok(false)
+            } else {
+                Err(e)
+            },
+        }
+    }
+
+    // Makes the folder of the store where it is not there, and takes it.
+    fn make_root(&mut self) -> io::Result<()> {
+        if self.make_folder(&self.root)? {
+            self.take()?;
+            self.was_absent = false;
+        }
+        self.take_if_there()
+    }
+
+    // Makes the folders that a file of a directory stands in, where they are not there, and syncs what holds them, made or not: a run that
+    // was cut off may have made them and not synced them, and a sync of the file is in vain where its folder does not last.
+    fn make_folders(&mut self, dir: Dir) -> io::Result<()> {
+        let is_done = match dir {
+            Dir::Taxonomy => self.has_taxonomy,
+            Dir::Index => self.has_index,
+        };
+        if is_done {
+            return Ok(());
+        }
+        self.make_root()?;
+        let path = self.folder_path(dir)?;
+        self.make_folder(&path)?;
+        let above = format!(in self.alloc; "{}/..", self.root)?;
+        self.sync_path(&above)?;
+        self.sync_path(&self.root)?;
+        match dir {
+            Dir::Taxonomy => self.has_taxonomy = true,
+            Dir::Index => self.has_index = true,
+        }
+        Ok(())
+    }
+
+    // A name that is not there gives an error of that kind.
+    fn is_there(&self, path: &str) -> io::Result<bool> {
+        match self.files.symlink_metadata(path) {
+            Ok(_) => Ok(true),
+            Err(e) => if e.kind() == ErrorKind::NotFound {
+                Ok(false)
+            } else {
+                Err(e)
+            },
+        }
+    }
+
+    /// The names of ours in a directory's folder; none where it is not there.
+    pub(crate) fn list(&mut self, alloc: Global, dir: Dir) -> io::Result<Names> {
+        self.take_if_there()?;
+        let path = self.folder_path(dir)?;
+        match self.files.open_dir(&path) {
+            Ok(mut folder) => {
+                let names = read_names(alloc, &mut folder, dir)?;
+                Ok(Names::new(names))
+            }
+            Err(e) => if e.kind() == ErrorKind::NotFound {
+                Ok(Names::new(Vec::new(alloc)))
+            } else {
+                Err(e)
+            },
+        }
+    }
+
+    pub(crate) fn read(&mut self, alloc: Global, name: FileName) -> io::Result<Vec<u8>> {
+        self.take_if_there()?;
+        let path = self.file_path(name)?;
+        let mut how = OpenOptions::new();
+        how.read(true);
+        let mut file = self.files.open_file(&how, &path)?;
+        let mut bytes = Vec::new(alloc);
+        file.read_to_end(&mut bytes)?;
+        Ok(bytes)
+    }
+
+    pub(crate) fn put(&mut self, name: FileName, bytes: &[u8]) -> io::Result<()> {
+        self.take_if_there()?;
+        self.make_folders(name.dir)?;
+        let path = self.file_path(name)?;
+        let mut how = OpenOptions::new();
+        how.write(true);
+        how.create_new(true);
+        self.files.open_file(&how, &path)?.write_all(bytes)
+    }
+
+    /// It syncs the file and its directory's folder.
+    pub(crate) fn sync(&mut self, name: FileName) -> io::Result<()> {
+        self.take_if_there()?;
+        let path = self.file_path(name)?;
+        self.sync_path(&path)?;
+        let folder = self.folder_path(name.dir)?;
+        self.sync_path(&folder)
+    }
+
+    /// The operating system would put the file in the place of one of the new name, so that is looked for first.
+    pub(crate) fn rename(&mut self, from: FileName, to: FileName) -> io::Result<()> {
+        self.take_if_there()?;
+        let old = self.file_path(from)?;
+        let new = self.file_path(to)?;
+        if !self.is_there(&old)? {
+            return Err(ErrorKind::NotFound.into());
+        }
+        if self.is_there(&new)? {
+            return Err(ErrorKind::AlreadyExists.into());
+        }
+        if from.dir != to.dir {
+            self.make_folders(to.dir)?;
+        }
+        self.files.rename(&old, &new)
+    }
+
+    pub(crate) fn sync_names(&mut self, dir: Dir) -> io::Result<()> {
+        self.take_if_there()?;
+        let path = self.folder_path(dir)?;
+        self.sync_path(&path)
+    }
+
+    pub(crate) fn remove(&mut self, name: FileName) -> io::Result<()> {
+        self.take_if_there()?;
+        let path = self.file_path(name)?;
+        self.files.remove_file(&path)
+    }
+}
+
+// Puts the names of ours behind those that are known. A block has whole entries, each ended by a NUL.
+fn add_names(block: &[u8], dir: Dir, names: &mut Vec<FileName>) -> io::Result<()> {
+    for entry in block.split(|byte| *byte == 0) {
+        if let Ok(text) = str::from_utf8(entry) {
+            if let Some(name) = FileName::from_entry(dir, text) {
+                names.push(name)?;
+            }
+        }
+    }
+    Ok(())
+}
+
+// The names of ours that are left in an open folder. The system refuses a read that has no room for the next entry, so a block has room for
+// the longest.
+fn read_names<F: Read>(alloc: Global, folder: &mut F, dir: Dir) -> io::Result<Vec<FileName>> {
+    let mut names = Vec::new(alloc);
+    let mut block = [0; 4096];
+    for _ in 0..u64::MAX {
+        let count = read_retrying(folder, &mut block)?;
+        if count == 0 {
+            break;
+        }
+        add_names(&block[..count], dir, &mut names)?;
+    }
+    Ok(names)
+}
