@@ -119,8 +119,9 @@ def read_label_segment(data, labels, first, count):
     known = set(labels)
     for _ in range(count):
         at = cursor.at
-        parent, part = cursor.u32(), cursor.text()
+        parent = cursor.u32()
         cursor.expect(parent < len(labels), at)
+        part = cursor.text()
         path = labels[parent] + (part,)
         cursor.expect(1 <= len(part.encode()) <= 1024 and len(path) <= 32 and path not in known, at)
         known.add(path)

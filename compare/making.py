@@ -92,6 +92,14 @@ def order(random, number):
     return search(random)
 
 
+def segments(random, count):
+    """So many documents, each a segment of its own, which are committed: a store of more files than one read of a folder tells."""
+    orders = []
+    for number in range(count):
+        orders += [{"s": 1, "cmd": "add", "id": f"s{number}", "facets": [["A", random.choice(PARTS)]]}, {"s": 1, "cmd": "refresh"}]
+    return orders + [{"s": 1, "cmd": "commit"}]
+
+
 # ---- damage
 
 
