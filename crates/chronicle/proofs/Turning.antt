@@ -36,6 +36,15 @@ module _ {S : Type 0} where
   pub one_slot_exchanged : (held after : List (ℕ × S)) (x y : ℕ × S) → held ≡ x ∷ [] → after ≡ y ∷ rest held → after ≡ y ∷ []
   one_slot_exchanged held after x y e exchanged = subst (λ l. after ≡ y ∷ rest l) e exchanged
 
+module _ {V E : Type 0} where
+  -- a seat with one slot out, as a first slot and the rest
+  pub one_out : (before : Me (Option V) (Knowledge E)) (k : Knowledge E) (x : ℕ × Option V) → before ≡ (k, x ∷ []) → before.1 ≡ x ∷ rest before.1
+  one_out before k x is = one_slot before.1 x (ap (λ m. m.1) is)
+
+  -- a seat with one slot out, whose value was taken
+  pub emptied : (before after : Me (Option V) (Knowledge E)) (k : Knowledge E) (x y : ℕ × Option V) → before ≡ (k, x ∷ []) → after ≡ (before.0, y ∷ rest before.1) → (after.0.stage ≡ k.stage) × (after.1 ≡ y ∷ [])
+  emptied before after k x y is now = (ap (λ m. m.0.stage) now ∙ ap (λ m. m.0.stage) is, one_slot_exchanged before.1 after.1 x y (ap (λ m. m.1) is) (ap (λ m. m.1) now))
+
 ticket_in : (g : Stage) → is_in_turn g ≡ true → (ticket : ℕ) × (g ≡ InTurn ticket)
 ticket_in Spent e = absurd cc
 ticket_in Idle e = absurd cc

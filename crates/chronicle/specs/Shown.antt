@@ -1,5 +1,5 @@
 -- What a token shows, and how it may change.
-use Rattle.std.specs.Prelude.{◌≡◌, ◌+◌, ℕ, Bool, true, false, List}
+use Rattle.std.specs.Prelude.{◌≡◌, ◌+◌, ◌++◌, ℕ, Bool, true, false, List, [], ◌∷◌}
 use mathlib.Core.List.{IsPrefix}
 use base.Stored.{Coded, coded×, coded_ℕ, coded_bool, coded_list, coded_via}
 use Rattle.atomic_table.specs.Seated.{TableId, table_id_coded}
@@ -75,3 +75,12 @@ module _ {E : Type 0} where
   -- the token of number 0 has seen no entry under a number that was not given yet
   abbrev pub IsCounted : Shown E → Type 0
   IsCounted t = t.is_note ≡ false → t.number ≡ 0 → NumbersUpTo t.made t.seen
+
+-- The token entered this one entry, behind all that was there when its turn came.
+pub record EntersBehind {E : Type 0} (entry : E) (old new : Shown E) : Type 0 where
+  -- what stood there when the entry came
+  pub between : List (ℕ × E)
+  pub on : IsPrefix old.seen between
+  -- nothing of it is the token's own that it had not seen
+  pub none : own_of old.is_note old.number between ≡ mine old
+  pub seen : new.seen ≡ between ++ (old.number, entry) ∷ []

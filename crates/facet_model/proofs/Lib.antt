@@ -2,3 +2,4 @@ pub mod Unique
 pub mod Tops
 pub mod Cut
 pub mod Fronts
+pub mod ConfigTexts

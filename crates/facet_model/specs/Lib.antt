@@ -1,6 +1,7 @@
 pub mod Listing
 pub mod Documents
 pub mod Flags
+pub mod ConfigTexts
 pub mod Accepts
 pub mod Words
 pub mod Results

@@ -17,7 +17,7 @@ pub use counted::{Counted, Resolved};
 pub use document::{DocShape, Document};
 pub use drill::Drill;
 pub use flags::DimFlags;
-pub use laws::{one_listing, one_top};
+pub use laws::{one_config, one_listing, one_top};
 pub use query::Query;
 pub use result::{Child, FacetAnswer, FacetResult};
 pub use word::Word;
