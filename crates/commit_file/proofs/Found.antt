@@ -195,28 +195,37 @@ at_end made x p q bytes t e =
     by [] h = refl
     by (y ∷ ys) h = absurd (omega (arith, h))
 
+-- what was read part by part is the whole body
+taxonomy_parts_found : (number : ℕ) (body : List ℕ) (c : TaxonomyListing) (a : Place) (labels : ℕ) (b : Place) (n : ℕ) (d : Place) (parts : List LabelPart) (f : Place)
+    → IsBytes body → head_at 0x4654434d number (record { at = 0; rest = body }) ≡ Ok a → labels_at a ≡ Ok (labels, b) → some_at b ≡ Ok (n, d) → label_parts_at labels n d ≡ Ok (parts, f)
+    → cond (eqb (length f.rest) 0) (done (record { labels = labels; parts = parts })) (Err (Malformed f.at)) ≡ Ok c → (body ≡ taxonomy_bytes number c) × IsTaxonomy c
+unfolding taxonomy_bytes
+taxonomy_parts_found number body c a labels b n d parts f fits ea eb ed ef e =
+    let p : Place = record { at = 0; rest = body } in
+    let ka = head_found 0x4654434d number p a fits ea in
+    let kb = labels_found a labels b ka.bytes eb in
+    let kd = some_found b n d kb.0.bytes ed in
+    let kf = each_found (label_part_at labels) (λ _ part. end_of part) label_bytes (FitsBehind labels) (label_found labels) n 1 d parts f kd.0.bytes ef in
+    let made : TaxonomyListing = record { labels = labels; parts = parts } in
+    let count : be32 n ≡ be32 (length parts) = ap be32 (sym kf.count) in
+    let td = Takes-then b (be32 n) d (flat_map label_bytes parts) f kd.0 kf.takes in
+    let tb = Takes-then a (be32 labels) b (be32 n ++ flat_map label_bytes parts) f kb.0 td in
+    let ta = Takes-then p (head_bytes 0x4654434d number) a (be32 labels ++ (be32 n ++ flat_map label_bytes parts)) f ka tb in
+    let z = at_end made c p f (head_bytes 0x4654434d number ++ (be32 labels ++ (be32 n ++ flat_map label_bytes parts))) ta e in
+    let whole : body ≡ taxonomy_bytes number made = z.0 ∙ ap (λ (m : List ℕ). head_bytes 0x4654434d number ++ (be32 labels ++ (m ++ flat_map label_bytes parts))) count in
+    let some : 0 < length parts = omega (arith, kd.1.0, kf.count) in
+    subst (λ (x : TaxonomyListing). (body ≡ taxonomy_bytes number x) × IsTaxonomy x) z.1
+    (whole, record { labels = kb.1; some = some; few = omega (arith, kd.1.1, kf.count); order = in_order labels 1 parts some kf.fit })
+
 taxonomy_body_found : (number : ℕ) (body : List ℕ) (c : TaxonomyListing) → IsBytes body → taxonomy_at number body ≡ Ok c → (body ≡ taxonomy_bytes number c) × IsTaxonomy c
-unfolding taxonomy_at taxonomy_bytes
+unfolding taxonomy_at
 taxonomy_body_found number body c fits e =
     let p : Place = record { at = 0; rest = body } in
     let a = bind_ok (head_at 0x4654434d number p) (λ start. labels_at start >>= λ labels. some_at labels.1 >>= λ n. label_parts_at labels.0 n.0 n.1 >>= λ parts. cond (eqb (length parts.1.rest) 0) (done (record { labels = labels.0; parts = parts.0 })) (Err (Malformed parts.1.at))) c e in
     let b = bind_ok (labels_at a.0) (λ labels. some_at labels.1 >>= λ n. label_parts_at labels.0 n.0 n.1 >>= λ parts. cond (eqb (length parts.1.rest) 0) (done (record { labels = labels.0; parts = parts.0 })) (Err (Malformed parts.1.at))) c a.2 in
     let d = bind_ok (some_at b.0.1) (λ n. label_parts_at b.0.0 n.0 n.1 >>= λ parts. cond (eqb (length parts.1.rest) 0) (done (record { labels = b.0.0; parts = parts.0 })) (Err (Malformed parts.1.at))) c b.2 in
     let f = bind_ok (label_parts_at b.0.0 d.0.0 d.0.1) (λ parts. cond (eqb (length parts.1.rest) 0) (done (record { labels = b.0.0; parts = parts.0 })) (Err (Malformed parts.1.at))) c d.2 in
-    let ka = head_found 0x4654434d number p a.0 fits a.1 in
-    let kb = labels_found a.0 b.0.0 b.0.1 ka.bytes b.1 in
-    let kd = some_found b.0.1 d.0.0 d.0.1 kb.0.bytes d.1 in
-    let kf = each_found (label_part_at b.0.0) (λ _ part. end_of part) label_bytes (FitsBehind b.0.0) (label_found b.0.0) d.0.0 1 d.0.1 f.0.0 f.0.1 kd.0.bytes f.1 in
-    let made : TaxonomyListing = record { labels = b.0.0; parts = f.0.0 } in
-    let count : be32 d.0.0 ≡ be32 (length f.0.0) = ap be32 (sym kf.count) in
-    let td = Takes-then b.0.1 (be32 d.0.0) d.0.1 (flat_map label_bytes f.0.0) f.0.1 kd.0 kf.takes in
-    let tb = Takes-then a.0 (be32 b.0.0) b.0.1 (be32 d.0.0 ++ flat_map label_bytes f.0.0) f.0.1 kb.0 td in
-    let ta = Takes-then p (head_bytes 0x4654434d number) a.0 (be32 b.0.0 ++ (be32 d.0.0 ++ flat_map label_bytes f.0.0)) f.0.1 ka tb in
-    let z = at_end made c p f.0.1 (head_bytes 0x4654434d number ++ (be32 b.0.0 ++ (be32 d.0.0 ++ flat_map label_bytes f.0.0))) ta f.2 in
-    let whole : body ≡ taxonomy_bytes number made = z.0 ∙ ap (λ (n : List ℕ). head_bytes 0x4654434d number ++ (be32 b.0.0 ++ (n ++ flat_map label_bytes f.0.0))) count in
-    let some : 0 < length f.0.0 = omega (arith, kd.1.0, kf.count) in
-    subst (λ (x : TaxonomyListing). (body ≡ taxonomy_bytes number x) × IsTaxonomy x) z.1
-    (whole, record { labels = kb.1; some = some; few = omega (arith, kd.1.1, kf.count); order = in_order b.0.0 1 f.0.0 some kf.fit })
+    taxonomy_parts_found number body c a.0 b.0.0 b.0.1 d.0.0 d.0.1 f.0.0 f.0.1 fits a.1 b.1 d.1 f.1 f.2
 
 pub taxonomy_found : (number : ℕ) (bytes : List ℕ) (c : TaxonomyListing) → IsBytes bytes → taxonomy_commit number bytes ≡ Ok c → (bytes ≡ taxonomy_commit_bytes number c) × IsTaxonomy c
 unfolding taxonomy_commit
@@ -261,7 +270,7 @@ declaration_found left before p d q fits e =
     let b = bind_ok (flags_at a.0.1) (λ flags. done ((a.0.0, flags.0), flags.1)) (d, q) a.2 in
     let ka = dim_found before p a.0.0 a.0.1 fits a.1 in
     let kb = flags_found a.0.1 b.0.0 b.0.1 ka.0.bytes b.1 in
-    subst (λ (x : (List ℕ × DimFlags) × Place). Takes p (declaration_bytes x.0) x.1 × FitsAfter left before x.0) (done_is FileFault ((a.0.0, b.0.0), b.0.1) (d, q) b.2)
+    subst (λ (x : (List ℕ × DimFlags) × Place). Takes p (declaration_bytes x.0) x.1 × FitsAfter left before x.0) {x = ((a.0.0, b.0.0), b.0.1)} {y = (d, q)} (done_is FileFault ((a.0.0, b.0.0), b.0.1) (d, q) b.2)
     (Takes-then p (text a.0.0) a.0.1 (one_byte (flags_number b.0.0)) b.0.1 ka.0 kb.0, record { fits = record { some = some_byte before a.0.0 ka.1.1; text = ka.1.0 }; after = ka.1.1; set = kb.1 })
 
 rises : (before : List ℕ) (ds : Config) → EachFits (λ _. declaration_at) (λ _ d. d.0) declaration_bytes FitsAfter before ds → AllByRecursion (λ y. word_cmp before y ≡ Less) (keys_of ds) × IsStrictlySortedBy word_cmp (keys_of ds)
@@ -296,15 +305,49 @@ document_found left before p part q fits e =
     let made : DocumentPart = record { number = a.0.0; documents = b.0.0; digest = c.0.0 } in
     let tb = Takes-then a.0.1 (be32 b.0.0) b.0.1 c.0.0 c.0.1 kb.0 kc.0 in
     let ta = Takes-then p (be64 a.0.0) a.0.1 (be32 b.0.0 ++ c.0.0) c.0.1 ka.0 tb in
-    subst (λ (x : DocumentPart × Place). Takes p (document_bytes x.0) x.1 × FitsBeside left before x.0) (done_is FileFault (made, c.0.1) (part, q) c.2)
+    subst (λ (x : DocumentPart × Place). Takes p (document_bytes x.0) x.1 × FitsBeside left before x.0) {x = (made, c.0.1)} {y = (part, q)} (done_is FileFault (made, c.0.1) (part, q) c.2)
     (ta, record { fits = record { number = ka.1; documents = kb.1.1; digest = kc.1 }; few = kb.1.0 })
 
 few_documents : (before : ℕ) (parts : List DocumentPart) → before ≤ 1000000 → EachFits (λ _. document_part_at) with_documents document_bytes FitsBeside before parts → before + sum_by documents_of parts ≤ 1000000
 few_documents before [] le fit = omega (arith, le)
 few_documents before (part ∷ parts) le fit = omega (arith, sum_by-cons documents_of part parts, few_documents (before + part.documents) parts fit.0.few fit.1)
 
+-- what was read part by part is the whole body
+index_parts_found : (number : ℕ) (body : List ℕ) (c : IndexListing) (a : Place) (needs : ℕ) (b : Place) (ds : ℕ) (d : Place) (kept : Config) (f : Place) (n : ℕ) (g : Place) (parts : List DocumentPart) (h : Place)
+    → IsBytes body → head_at 0x4649434d number (record { at = 0; rest = body }) ≡ Ok a → told (u32_at a) ≡ Ok (needs, b) → told (vint_at b) ≡ Ok (ds, d) → declarations_at ds d ≡ Ok (kept, f)
+    → some_at f ≡ Ok (n, g) → document_parts_at n g ≡ Ok (parts, h)
+    → cond (eqb (length h.rest) 0) (done (record { needs = needs; kept = kept; parts = parts })) (Err (Malformed h.at)) ≡ Ok c → (body ≡ index_bytes number c) × IsIndex c
+unfolding index_bytes
+index_parts_found number body c a needs b ds d kept f n g parts h fits ea eb ed ef eg eh e =
+    let p : Place = record { at = 0; rest = body } in
+    let ka = head_found 0x4649434d number p a fits ea in
+    let kb = u32_told a needs b ka.bytes eb in
+    let kd = vint_told b ds d kb.0.bytes ed in
+    let kf = each_found (λ _. declaration_at) (λ _ x. x.0) declaration_bytes FitsAfter declaration_found ds [] d kept f kd.0.bytes ef in
+    let kg = some_found f n g kf.takes.bytes eg in
+    let kh = each_found (λ _. document_part_at) with_documents document_bytes FitsBeside document_found n 0 g parts h kg.0.bytes eh in
+    let made : IndexListing = record { needs = needs; kept = kept; parts = parts } in
+    let tg = Takes-then f (be32 n) g (flat_map document_bytes parts) h kg.0 kh.takes in
+    let tf = Takes-then d (flat_map declaration_bytes kept) f (be32 n ++ flat_map document_bytes parts) h kf.takes tg in
+    let td = Takes-then b (vint ds) d (flat_map declaration_bytes kept ++ (be32 n ++ flat_map document_bytes parts)) h kd.0 tf in
+    let tb = Takes-then a (be32 needs) b (vint ds ++ (flat_map declaration_bytes kept ++ (be32 n ++ flat_map document_bytes parts))) h kb.0 td in
+    let ta = Takes-then p (head_bytes 0x4649434d number) a (be32 needs ++ (vint ds ++ (flat_map declaration_bytes kept ++ (be32 n ++ flat_map document_bytes parts)))) h ka tb in
+    let z = at_end made c p h (head_bytes 0x4649434d number ++ (be32 needs ++ (vint ds ++ (flat_map declaration_bytes kept ++ (be32 n ++ flat_map document_bytes parts))))) ta e in
+    let whole : body ≡ index_bytes number made =
+    z.0 ∙ (λ i. head_bytes 0x4649434d number ++ (be32 needs ++ (vint (sym kf.count i) ++ (flat_map declaration_bytes kept ++ (be32 (sym kh.count i) ++ flat_map document_bytes parts))))) in
+    let order = rises [] kept kf.fit in
+    subst (λ (x : IndexListing). (body ≡ index_bytes number x) × IsIndex x) z.1 (
+      whole,
+      record {
+        kept = kept_whole kept order.1 (all_set [] kept kf.fit);
+        some = omega (arith, kg.1.0, kh.count);
+        few = omega (arith, kg.1.1, kh.count);
+        documents = omega (arith, few_documents 0 parts (omega arith) kh.fit);
+      },
+    )
+
 index_body_found : (number : ℕ) (body : List ℕ) (c : IndexListing) → IsBytes body → index_at number body ≡ Ok c → (body ≡ index_bytes number c) × IsIndex c
-unfolding index_at index_bytes
+unfolding index_at
 index_body_found number body c fits e =
     let p : Place = record { at = 0; rest = body } in
     let a = bind_ok (head_at 0x4649434d number p) (λ start. told (u32_at start) >>= λ needs. told (vint_at needs.1) >>= λ ds. declarations_at ds.0 ds.1 >>= λ kept. some_at kept.1 >>= λ n. document_parts_at n.0 n.1 >>= λ parts. cond (eqb (length parts.1.rest) 0) (done (record { needs = needs.0; kept = kept.0; parts = parts.0 })) (Err (Malformed parts.1.at))) c e in
@@ -313,31 +356,7 @@ index_body_found number body c fits e =
     let f = bind_ok (declarations_at d.0.0 d.0.1) (λ kept. some_at kept.1 >>= λ n. document_parts_at n.0 n.1 >>= λ parts. cond (eqb (length parts.1.rest) 0) (done (record { needs = b.0.0; kept = kept.0; parts = parts.0 })) (Err (Malformed parts.1.at))) c d.2 in
     let g = bind_ok (some_at f.0.1) (λ n. document_parts_at n.0 n.1 >>= λ parts. cond (eqb (length parts.1.rest) 0) (done (record { needs = b.0.0; kept = f.0.0; parts = parts.0 })) (Err (Malformed parts.1.at))) c f.2 in
     let h = bind_ok (document_parts_at g.0.0 g.0.1) (λ parts. cond (eqb (length parts.1.rest) 0) (done (record { needs = b.0.0; kept = f.0.0; parts = parts.0 })) (Err (Malformed parts.1.at))) c g.2 in
-    let ka = head_found 0x4649434d number p a.0 fits a.1 in
-    let kb = u32_told a.0 b.0.0 b.0.1 ka.bytes b.1 in
-    let kd = vint_told b.0.1 d.0.0 d.0.1 kb.0.bytes d.1 in
-    let kf = each_found (λ _. declaration_at) (λ _ x. x.0) declaration_bytes FitsAfter declaration_found d.0.0 [] d.0.1 f.0.0 f.0.1 kd.0.bytes f.1 in
-    let kg = some_found f.0.1 g.0.0 g.0.1 kf.takes.bytes g.1 in
-    let kh = each_found (λ _. document_part_at) with_documents document_bytes FitsBeside document_found g.0.0 0 g.0.1 h.0.0 h.0.1 kg.0.bytes h.1 in
-    let made : IndexListing = record { needs = b.0.0; kept = f.0.0; parts = h.0.0 } in
-    let tg = Takes-then f.0.1 (be32 g.0.0) g.0.1 (flat_map document_bytes h.0.0) h.0.1 kg.0 kh.takes in
-    let tf = Takes-then d.0.1 (flat_map declaration_bytes f.0.0) f.0.1 (be32 g.0.0 ++ flat_map document_bytes h.0.0) h.0.1 kf.takes tg in
-    let td = Takes-then b.0.1 (vint d.0.0) d.0.1 (flat_map declaration_bytes f.0.0 ++ (be32 g.0.0 ++ flat_map document_bytes h.0.0)) h.0.1 kd.0 tf in
-    let tb = Takes-then a.0 (be32 b.0.0) b.0.1 (vint d.0.0 ++ (flat_map declaration_bytes f.0.0 ++ (be32 g.0.0 ++ flat_map document_bytes h.0.0))) h.0.1 kb.0 td in
-    let ta = Takes-then p (head_bytes 0x4649434d number) a.0 (be32 b.0.0 ++ (vint d.0.0 ++ (flat_map declaration_bytes f.0.0 ++ (be32 g.0.0 ++ flat_map document_bytes h.0.0)))) h.0.1 ka tb in
-    let z = at_end made c p h.0.1 (head_bytes 0x4649434d number ++ (be32 b.0.0 ++ (vint d.0.0 ++ (flat_map declaration_bytes f.0.0 ++ (be32 g.0.0 ++ flat_map document_bytes h.0.0))))) ta h.2 in
-    let whole : body ≡ index_bytes number made =
-    z.0 ∙ (λ i. head_bytes 0x4649434d number ++ (be32 b.0.0 ++ (vint (sym kf.count i) ++ (flat_map declaration_bytes f.0.0 ++ (be32 (sym kh.count i) ++ flat_map document_bytes h.0.0))))) in
-    let order = rises [] f.0.0 kf.fit in
-    subst (λ (x : IndexListing). (body ≡ index_bytes number x) × IsIndex x) z.1 (
-      whole,
-      record {
-        kept = kept_whole f.0.0 order.1 (all_set [] f.0.0 kf.fit);
-        some = omega (arith, kg.1.0, kh.count);
-        few = omega (arith, kg.1.1, kh.count);
-        documents = omega (arith, few_documents 0 h.0.0 (omega arith) kh.fit);
-      },
-    )
+    index_parts_found number body c a.0 b.0.0 b.0.1 d.0.0 d.0.1 f.0.0 f.0.1 g.0.0 g.0.1 h.0.0 h.0.1 fits a.1 b.1 d.1 f.1 g.1 h.1 h.2
 
 pub index_found : (number : ℕ) (bytes : List ℕ) (c : IndexListing) → IsBytes bytes → index_commit number bytes ≡ Ok c → (bytes ≡ index_commit_bytes number c) × IsIndex c
 unfolding index_commit

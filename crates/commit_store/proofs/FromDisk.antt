@@ -109,6 +109,15 @@ module _ (config : Config) (labels : Labels) where
 
   -- ---- both directories
 
+  -- what was read of one and of the other is the whole
+  parts_read : (c : Image) (ss : List Records) (first : List (List (List ℕ))) (rest : List Records) → taxonomy_in (newest_file Taxonomy c) (image_segments Taxonomy c) ≡ Ok first
+      → index_in config first (newest_file Index c) (image_segments Index c) ≡ Ok rest → (let f : Found = record { labels = first; segments = rest } in f) ≡ record { labels = labels; segments = ss }
+      → (taxonomy_in (newest_file Taxonomy c) (image_segments Taxonomy c) ≡ Ok labels) × (index_in config labels (newest_file Index c) (image_segments Index c) ≡ Ok ss)
+  parts_read c ss first rest taxonomy index is =
+      let same : first ≡ labels = ap (λ (f : Found). f.labels) is in
+      let segs : rest ≡ ss = ap (λ (f : Found). f.segments) is in
+      (taxonomy ∙ ap (λ l. Ok l) same, ap (λ l. index_in config l (newest_file Index c) (image_segments Index c)) (sym same) ∙ index ∙ ap (λ l. Ok l) segs)
+
   files_read : (c : Image) (ss : List Records) → files config c ≡ Ok (record { labels = labels; segments = ss })
       → (taxonomy_in (newest_file Taxonomy c) (image_segments Taxonomy c) ≡ Ok labels) × (index_in config labels (newest_file Index c) (image_segments Index c) ≡ Ok ss)
   unfolding files
@@ -116,10 +125,7 @@ module _ (config : Config) (labels : Labels) where
       let below = bind_ok (unspent (greatest_number c)) (λ below. taxonomy_in (newest_file Taxonomy c) (image_segments Taxonomy c) >>= λ labels. index_in config labels (newest_file Index c) (image_segments Index c) >>= λ segments. Ok (record { labels = labels; segments = segments })) (record { labels = labels; segments = ss }) e in
       let a = bind_ok (taxonomy_in (newest_file Taxonomy c) (image_segments Taxonomy c)) (λ labels. index_in config labels (newest_file Index c) (image_segments Index c) >>= λ segments. Ok (record { labels = labels; segments = segments })) (record { labels = labels; segments = ss }) below.2 in
       let b = bind_ok (index_in config a.0 (newest_file Index c) (image_segments Index c)) (λ segments. Ok (record { labels = a.0; segments = segments })) (record { labels = labels; segments = ss }) a.2 in
-      let is = done_is OpenFault (record { labels = a.0; segments = b.0 }) (record { labels = labels; segments = ss }) b.2 in
-      let same : a.0 ≡ labels = ap (λ (f : Found). f.labels) is in
-      let segs : b.0 ≡ ss = ap (λ (f : Found). f.segments) is in
-      (a.1 ∙ ap (λ l. Ok l) same, ap (λ l. index_in config l (newest_file Index c) (image_segments Index c)) (sym same) ∙ b.1 ∙ ap (λ l. Ok l) segs)
+      parts_read c ss a.0 b.0 a.1 b.1 (done_is OpenFault (record { labels = a.0; segments = b.0 }) (record { labels = labels; segments = ss }) b.2)
 
   taxonomy_number : (o : Option (ℕ × List ℕ)) (n : Option ℕ) (parts : List LabelPart) → IsNewestTaxonomy o n parts labels → option_map (λ c. c.0) o ≡ n
   taxonomy_number None n parts is = sym is.0

@@ -1,5 +1,5 @@
 -- The newest commit files, and the segments that they name, are there.
-use Rattle.std.proofs.Common.{◌≡◌, ◌≢◌, refl, sym, ap, subst, ◌∙◌, ⊎_elim, arith, ℕ, List, [], ◌∷◌, ◌++◌, map, Option, Some, None, Contains}
+use Rattle.std.proofs.Common.{◌≡◌, ◌≢◌, refl, sym, ap, ◌∙◌, ⊎_elim, arith, ℕ, List, [], ◌∷◌, ◌++◌, map, Option, Some, None, Contains}
 use Rattle.std.specs.Option.{option_map, option_and_then}
 use Rattle.std.specs.List.{All, AllByRecursion}
 use Rattle.std.proofs.lemmas.List.Elements.{All-contains, All-from_recursion, recursion_from_All, Contains-push_cases, Contains-append_cases}
@@ -15,7 +15,7 @@ use Rattle.store_opening.specs.Files.{Segments, segments_in}
 use Rattle.store_opening.specs.Newest.{AreListed}
 use Rattle.store_opening.specs.Settled.{before, named, there, held_in}
 use Rattle.commit_store.specs.Committed.{Committed, Kept}
-use Rattle.commit_store.specs.Drafts.{commit_names, named_files, committed_after}
+use Rattle.commit_store.specs.Drafts.{commit_names, committed_after}
 use Rattle.commit_store.specs.Plannings.{IsKnown}
 use Rattle.commit_store.specs.Promised.{HasNamed}
 use Rattle.commit_store.specs.Results.{committed_told}

@@ -193,6 +193,13 @@ impl<D: Disk> Committer<D> {
         Ok(())
     }
 
+    /// The count of faults with which a commit ended. From then on it takes no more.
+    pub fn closed(&self) -> Option<u64>
+        ensures { result ≡ self.now.closed }
+    {
+        self.closed
+    }
+
     /// The disk.
     pub fn into_disk(self) -> D
         ensures { result ≡ self.disk }

@@ -3,7 +3,7 @@ use Rattle.std.proofs.Common.{◌≡◌, ℕ, Bool, true, false, List, [], ◌�
 use Rattle.std.specs.Prelude.{option_map}
 use Rattle.std.proofs.lemmas.Option.{slice_get-map}
 use Rattle.std.specs.Map.{lookup}
-use Rattle.std.specs.List.{list_any, AllZip}
+use Rattle.std.specs.List.{list_any, AllByRecursion, AllZip}
 use Rattle.std.specs.Option.{option_map_or}
 use Rattle.std.specs.Str.{bytes_eq}
 use Rattle.facet_model.specs.declared.flags.DimFlags.{DimFlags}
@@ -85,3 +85,11 @@ pub named_in : (es : List Entry) (at : ℕ) (e : Entry) (name : List ℕ) → Ar
 named_in es at e name all there is =
     let named : Entry → List ℕ × DimFlags = λ e. (string_bytes e.0, e.1) in
     subst IsDimension (sym is) (named_at (declarations es) at (named e) all (slice_get-map named es at ∙ ap (option_map named) there))
+
+-- the names of the declarations, one by one
+pub names_in : (es : List Entry) (names : List (String Global)) → names ≡ map (λ e. e.0) es → AreDimensions (declarations es) → AllByRecursion (λ name. IsDimension (string_bytes name)) names
+names_in es names is all = subst (AllByRecursion (λ (name : String Global). IsDimension (string_bytes name))) (sym is) (by es all)
+  where
+    by : (es : List Entry) → AreDimensions (declarations es) → AllByRecursion (λ name. IsDimension (string_bytes name)) (map (λ e. e.0) es)
+    by [] all = tt
+    by (e ∷ es) all = (all.0, by es all.1)

@@ -1,5 +1,5 @@
 //! Which documents a config accepts.
-ghost use Rattle.std.specs.Prelude.{◌≡◌, ◌<◌, [], length, slice_index_or};
+ghost use Rattle.std.specs.Prelude.{◌≡◌, ◌<◌, length};
 ghost use Rattle.std.specs.List.{list_any};
 ghost use Rattle.std.specs.Str.{bytes_eq};
 ghost use Rattle.facet_model.specs.Documents.{dim_of};
@@ -20,17 +20,17 @@ impl FacetsConfig {
         ensures { outcome result ≡ first_broken self.now doc.now }
     {
         let facets = doc.facets();
-        for at in 0..facets.len() {
-            self.check_facet(facets, at)?;
+        for (at, facet) in facets.iter().enumerate() {
+            self.check_facet(facets, at, facet)?;
         }
         Ok(())
     }
 
-    fn check_facet(&self, facets: &[Path], at: usize) -> Result<(), DocFault>
+    // What the facet at a place breaks.
+    fn check_facet(&self, facets: &[Path], at: usize, facet: &Path) -> Result<(), DocFault>
         requires { at < length facets.now }
-        ensures { outcome result ≡ broken_at self.now facets.now (at, slice_index_or facets.now at []) }
+        ensures { outcome result ≡ broken_at self.now facets.now (at, facet.now) }
     {
-        let facet = &facets[at];
         let dim = facet.dim();
         let flags = self.flags(dim);
         if facet.len() == 1 {

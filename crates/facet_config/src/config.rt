@@ -17,7 +17,7 @@ use std::marker::Model;
 /// A flag is found by hash, in the time of one look-up whatever the number of dimensions.
 #[derive(Drop)]
 pub struct FacetsConfig {
-    dims: IndexMap<String, DimFlags>,
+    pub(crate) dims: IndexMap<String, DimFlags>,
 }
 
 impl Model for FacetsConfig {

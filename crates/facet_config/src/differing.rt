@@ -31,9 +31,8 @@ impl FacetsConfig {
         ensures named { IfSome result (λ d. IsDimension d.now) }
     {
         let mut first = before;
-        for at in 0..self.len() {
-            let (dim, _) = self.declared(at);
-            first = nearer(one, other, first, dim);
+        for dim in self.dims.keys() {
+            first = nearer(one, other, first, dim.as_str());
         }
         first
     }

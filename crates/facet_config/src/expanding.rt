@@ -26,8 +26,8 @@ impl FacetsConfig {
     {
         let facets = doc.facets();
         let mut ords = Vec::new(alloc);
-        for at in 0..facets.len() {
-            self.expand_label(&facets[at], &resolved[at], &mut ords)?;
+        for (at, label) in facets.iter().enumerate() {
+            self.expand_label(label, &resolved[at], &mut ords)?;
         }
         Ok(once(ords))
     }

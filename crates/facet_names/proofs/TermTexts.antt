@@ -32,7 +32,7 @@ none_is_not_some h = absurd cc
 
 pub read_plain : (b : ℕ) (bs : List ℕ) (whole : List (List ℕ)) (part : List ℕ) → is_special b ≡ false → read (b ∷ bs) false whole part ≡ read bs false whole (part ++ b ∷ [])
 unfolding read
-read_plain b bs whole part e = let both = or_parts (b == 30) (b == 31) e in rw (both.0, both.1) refl
+read_plain b bs whole part e = let both = or_parts (b == 30) (b == 31) e in rw (both.0, both.1) (refl {a = read bs false whole (part ++ b ∷ [])})
 
 pub read_special : (b : ℕ) (bs : List ℕ) (whole : List (List ℕ)) (part : List ℕ) → is_special b ≡ true → read (b ∷ bs) true whole part ≡ read bs false whole (part ++ b ∷ [])
 unfolding read

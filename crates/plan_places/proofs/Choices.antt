@@ -1,9 +1,9 @@
 -- The places of a node that others choose.
-use Rattle.std.proofs.Common.{◌≡◌, ℕ, zero, suc, ◌+◌, ◌<◌, ◌≤◌, Bool, true, false, not, cond, leb, eqb, ◌&&◌, ◌||◌, List, [], ◌∷◌, ◌++◌, length, get_or, set, take, map, Option, Some, None, refl, sym, ap, subst, ◌∙◌, arith, inl, inr}
+use Rattle.std.proofs.Common.{◌≡◌, ℕ, zero, suc, ◌+◌, ◌<◌, ◌≤◌, Bool, true, false, not, cond, leb, eqb, ◌&&◌, ◌||◌, List, [], ◌∷◌, ◌++◌, length, get_or, set, drop, take, map, Option, Some, None, refl, sym, ap, subst, ◌∙◌, arith, inl, inr}
 use Rattle.std.specs.List.{filter, AllByRecursion}
 use Rattle.std.specs.Option.{option_eq}
 use Rattle.std.proofs.lemmas.Bool.{le-leb, lt-leb, cases_lt}
-use Rattle.std.proofs.lemmas.List.{take_more, take_all}
+use Rattle.std.proofs.lemmas.List.{append-nil, drop_all, take_more, take_all}
 use Rattle.seg_postings.specs.Rising.{IsRising, is_in, from_place, first_of}
 use Rattle.seg_postings.proofs.Order.{rising_from, rising_filter}
 use Rattle.seg_postings.proofs.Members.{is_in-either}
@@ -268,6 +268,10 @@ chosen_here others excluded excluded1 first next r met le h e m is =
 
 -- ---- the others, one after the other
 
+-- a list that is written back in the room that it was lent from
+pub written_back : {A : Type 0} (n : ℕ) (xs ys : List A) → length xs ≡ n → length ys ≤ length xs → take n (xs ++ drop (length xs) ys) ≡ xs
+written_back n xs ys size le = ap (λ zs. take n (xs ++ zs)) (drop_all (length xs) ys le) ∙ ap (take n) (append-nil xs) ∙ take_all n xs (omega (arith, size))
+
 -- Those before i have the place.
 pub record AreMet (first i : ℕ) (now old : List Planned) : Type 0 where
   pub within : i ≤ length old
@@ -304,6 +308,13 @@ met_same first i now old child d h lt e =
     let s = same_at first i now old d h.same k in
     let l : from_place first child.left ≡ from_place first (get_or old i d).left = ap (from_place first) (child_is first i now old child d h lt e) ∙ from_twice first first (get_or old i d).left (omega arith) in
     same_set first i now old child d h.same k (record { left = l; nodes = ap (λ (p : Planned). p.nodes) e ∙ s.nodes })
+
+-- the same where they are written back
+pub met_back : (first i : ℕ) (now old : List Planned) (child d : Planned) (n : ℕ) → AreMet first i now old → i < length now → child ≡ moved_to first (get_or now i d) → n ≡ length old → AreSameFrom first (take n (set now i child ++ drop (length (set now i child)) old)) old
+met_back first i now old child d n h lt e size =
+    let same = met_same first i now old child d h lt e in
+    let long : length (set now i child) ≡ length old = same_length first (set now i child) old same in
+    subst (λ (ps : List Planned). AreSameFrom first ps old) (sym (written_back n (set now i child) old (omega (arith, long, size)) (omega (arith, long)))) same
 
 pub met_more : (first i : ℕ) (now old : List Planned) (child d : Planned) (next : ℕ) → AreMet first i now old → i < length now → child ≡ moved_to first (get_or now i d) → Some next ≡ first_of child.left → next ≡ first
     → AreMet first (i + 1) (set now i child) old

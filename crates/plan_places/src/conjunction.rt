@@ -64,14 +64,11 @@ fn meeting(others: &mut Vec<PlanNode<'_>>, first: u32) -> Option<u32>
     ensures others { AreSameFrom first others.new.items others.old.items }
     ensures next { IsMeeting (λ n. all_have n others.old.items) first result }
 {
-    let mut i = 0;
-    while i < others.len() {
-        let other = &mut others[i];
+    for other in others.iter_mut() {
         let next = other.at_least(first as u64)?;
         if next != first {
             return Some(next);
         }
-        i += 1;
     }
     Some(first)
 }

@@ -15,12 +15,8 @@ pub(crate) fn any_at_least(children: &mut Vec<PlanNode<'_>>, place: u64) -> Opti
     ensures moved { children.new.items ≡ map (moved_to place) children.old.items }
 {
     let mut first = None;
-    let mut i = children.len();
-    while i > 0 {
-        i -= 1;
-        let child = &mut children[i];
-        let next = child.at_least(place);
-        first = least(next, first);
+    for child in children.iter_mut() {
+        first = least(first, child.at_least(place));
     }
     first
 }

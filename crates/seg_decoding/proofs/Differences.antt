@@ -1,7 +1,7 @@
 -- Where two lists of bytes differ first.
-use Rattle.std.proofs.Common.{◌≡◌, ℕ, ◌+◌, ◌<◌, ◌≤◌, Bool, true, false, cond, eqb, List, [], ◌∷◌, length, drop, get_or, min, Some, None, refl, ap, ◌∙◌, arith, ◌⊎◌, inl, inr}
+use Rattle.std.proofs.Common.{◌≡◌, ℕ, ◌+◌, ◌<◌, ◌≤◌, Bool, true, false, cond, eqb, List, [], ◌∷◌, length, drop, get_or, take, min, Some, None, refl, ap, ◌∙◌, arith, ◌⊎◌, inl, inr}
 use Rattle.std.proofs.lemmas.Bool.{eq-eqb, ne_eqb, eqb-true, cases_lt}
-use Rattle.std.proofs.lemmas.List.{drop_more, drop_all}
+use Rattle.std.proofs.lemmas.List.{drop_more, drop_all, length-take-le}
 use Rattle.seg_decoding.specs.Opening.{first_difference_from}
 
 -- ---- from byte to byte
@@ -32,6 +32,10 @@ longer_at xs ys at common here least differ = by (cases_lt (length xs) (length y
     by : (length xs < length ys) ⊎ (length ys ≤ length xs) → first_difference_from at (drop at xs) (drop at ys) ≡ Some common
     by (inl lt) = right_is_longer xs ys at (omega (arith, here, least)) (omega (arith, here, least)) ∙ ap Some here
     by (inr le) = left_is_longer xs ys at (omega (arith, here, least, differ)) (omega (arith, here, least)) ∙ ap Some here
+
+-- as many bytes as both have at least
+pub front_long : (xs ys : List ℕ) (common : ℕ) → common ≡ min (length xs) (length ys) → length (take common xs) ≡ common
+front_long xs ys common least = length-take-le common xs (omega (arith, least))
 
 -- ---- no difference
 

@@ -6,8 +6,9 @@ pub(crate) fn first_difference(left: &[u8], right: &[u8]) -> Option<u64>
     ensures { result ≡ first_difference left.now right.now }
 {
     let common = left.len().min(right.len());
-    for at in 0..common {
-        if left[at] != right[at] {
+    let front = &left[..common];
+    for (at, byte) in front.iter().enumerate() {
+        if *byte != right[at] {
             return Some(at as u64);
         }
     }

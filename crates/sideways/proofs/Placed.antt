@@ -3,11 +3,11 @@ use Rattle.std.proofs.Common.{◌≡◌, ℕ, zero, suc, ◌+◌, ◌<◌, ◌�
 use Rattle.std.specs.Prelude.{sum_by}
 use Rattle.std.specs.List.{AllByRecursion}
 use Rattle.std.proofs.lemmas.Grind.{flat_map-append}
-use Rattle.std.proofs.lemmas.List.{append-nil, get_or-set_other, length-append, length-map, length-set, map-append, map_push, take_all, take_more}
+use Rattle.std.proofs.lemmas.List.{append-nil, get_or_default, get_or-set_other, length-append, length-map, length-set, map-append, map_push, take_all, take_more}
 use Rattle.seg_grammar.specs.Lookups.{record_of}
 use Rattle.std.proofs.lemmas.List.Sums.{sum_by-cons}
 use Rattle.facet_counts.specs.Tallies.{Tally}
-use Rattle.sideways.specs.Counted.{PartLeft, AreCountable, IsGrown, IsReady, IsTaking, lists_at, lists_of, placed}
+use Rattle.sideways.specs.Counted.{PartLeft, AreCountable, IsGrown, IsNoting, IsReady, IsTaking, lists_at, lists_of, placed}
 use Rattle.sideways.proofs.Walked.{grown_more}
 
 sum_to : {A : Type 0} (f : A → ℕ) (xs : List A) (i : ℕ) (d : A) → i < length xs → sum_by f (take i xs) + f (get_or xs i d) ≤ sum_by f xs
@@ -89,6 +89,10 @@ all_at P [] i d all lt = absurd (omega arith)
 all_at P (x ∷ xs) zero d all lt = all.0
 all_at P (x ∷ xs) (suc i) d all lt = all_at P xs i d all.1 (omega arith)
 
+-- the part that is next stands at its index
+pub part_here : (i : ℕ) (now all : List PartLeft) (before mid : Tally) (item : PartLeft) → AreCountedTo i now all before mid → i < length all → get_or now i item ≡ get_or now i (get_or now i item)
+part_here i now all before mid item counted lt = get_or_default now i item (get_or now i item) (omega (arith, counted.long, lt))
+
 -- what the next part needs
 pub record IsNextPart (p : PartLeft) (tally : Tally) : Type 0 where
   pub countable : AreCountable tally.config tally.labels p.segment
@@ -119,18 +123,34 @@ number_more i now all before mid p number more counted lt here is sum =
     let there : get_or all i p ≡ p = sym (counted.same i p (omega arith)) ∙ sym here in
     omega (arith, is, sum, ap length (lists_to all i p lt there), length-append (lists_of (take i all)) (lists_at p.segment p.left), length-map p.left (λ place. (record_of p.segment place).counted))
 
-pub places_more : (i : ℕ) (now all : List PartLeft) (before mid : Tally) (p : PartLeft) (base limit : ℕ) (hits new first rest : List ℕ) → AreCountedTo i now all before mid → i < length all → p ≡ get_or now i p → base ≡ sum_by records_in (take i all)
-    → hits ≡ take limit (placed 0 (take i all)) → p.left ≡ first ++ rest → new ≡ hits ++ map (λ n. base + n) first → length new ≤ limit → (limit ≤ length new) ⊎ (rest ≡ []) → new ≡ take limit (placed 0 (take (i + 1) all))
-places_more i now all before mid p base limit hits new first rest counted lt here is so_far left noted few enough =
+pub places_more : (i : ℕ) (now all : List PartLeft) (before mid : Tally) (p : PartLeft) (base limit : ℕ) (hits new : List ℕ) → AreCountedTo i now all before mid → i < length all → p ≡ get_or now i p → base ≡ sum_by records_in (take i all)
+    → hits ≡ take limit (placed 0 (take i all)) → IsNoting p base limit hits new → new ≡ take limit (placed 0 (take (i + 1) all))
+places_more i now all before mid p base limit hits new counted lt here is so_far noting =
     let there : get_or all i p ≡ p = sym (counted.same i p (omega arith)) ∙ sym here in
     let zero_base : base ≡ 0 + sum_by records_in (take i all) = omega (arith, is) in
     let all_placed : placed 0 (take (i + 1) all) ≡ placed 0 (take i all) ++ map (λ n. base + n) p.left = ap (placed 0) (take_more all i p lt ∙ ap (λ x. take i all ++ x ∷ []) there) ∙ placed_more 0 (take i all) p ∙ ap (λ b. placed 0 (take i all) ++ map (λ n. b + n) p.left) (sym zero_base) in
-    first_taken limit (placed 0 (take i all)) (map (λ n. base + n) first) (map (λ n. base + n) rest) new (noted ∙ ap (λ h. h ++ map (λ n. base + n) first) so_far) few (over enough)
-    ∙ ap (λ l. take limit (placed 0 (take i all) ++ l)) (sym (ap (map (λ n. base + n)) left ∙ map-append (λ n. base + n) first rest)) ∙ ap (take limit) (sym all_placed)
+    noting (placed 0 (take i all)) so_far ∙ ap (take limit) (sym all_placed)
+
+-- the places of a part are noted, where enough were taken or all
+pub noted_more : (old : PartLeft) (base limit : ℕ) (hits new first rest : List ℕ) → old.left ≡ first ++ rest → new ≡ hits ++ map (λ n. base + n) first → length new ≤ limit → (limit ≤ length new) ⊎ (rest ≡ []) → IsNoting old base limit hits new
+noted_more old base limit hits new first rest left noted few enough before so_far =
+    first_taken limit before (map (λ n. base + n) first) (map (λ n. base + n) rest) new (noted ∙ ap (λ h. h ++ map (λ n. base + n) first) so_far) few (over enough)
+    ∙ ap (λ l. take limit (before ++ l)) (sym (ap (map (λ n. base + n)) left ∙ map-append (λ n. base + n) first rest))
   where
     over : (limit ≤ length new) ⊎ (rest ≡ []) → (limit ≤ length new) ⊎ (map (λ n. base + n) rest ≡ [])
     over (inl h) = inl h
     over (inr h) = inr (ap (map (λ n. base + n)) h)
+
+-- ---- after the last part
+
+pub all_grown : (i : ℕ) (now all : List PartLeft) (before after : Tally) → AreCountedTo i now all before after → length all ≤ i → IsGrown before after (lists_of all)
+all_grown i now all before after counted le = subst (λ ps. IsGrown before after (lists_of ps)) (take_all i all le) counted.grown
+
+pub all_numbered : (i number : ℕ) (all : List PartLeft) → number ≡ length (lists_of (take i all)) → length all ≤ i → number ≡ length (lists_of all)
+all_numbered i number all is le = is ∙ ap (λ ps. length (lists_of ps)) (take_all i all le)
+
+pub all_noted : (i limit : ℕ) (all : List PartLeft) (hits : List ℕ) → hits ≡ take limit (placed 0 (take i all)) → length all ≤ i → hits ≡ take limit (placed 0 all)
+all_noted i limit all hits is le = is ∙ ap (λ ps. take limit (placed 0 ps)) (take_all i all le)
 
 -- ---- taking hits
 

@@ -99,6 +99,10 @@ pub record IsTaking (old new : PartLeft) (before after : Tally) (base limit : �
   pub as_many : number ≡ length first
   pub few : length more ≤ limit
 
+-- where the first places so far were noted, they still are with those of the part
+abbrev pub IsNoting : PartLeft → ℕ → ℕ → List ℕ → List ℕ → Type 0
+IsNoting part base limit hits more = (before : List ℕ) → hits ≡ take limit before → more ≡ take limit (before ++ map (λ place. base + place) part.left)
+
 -- ---- one pass over all segments
 
 -- one part for each segment, with the documents that pass

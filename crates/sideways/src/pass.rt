@@ -5,7 +5,7 @@ ghost use Rattle.facet_model.specs.Documents.{Doc};
 ghost use Rattle.facet_model.specs.QueryViews.{query_view};
 ghost use Rattle.facet_counts.specs.Tallies.{AreCounts, HasAdded};
 ghost use Rattle.query_eval.specs.Segments.{HasTermsOf};
-ghost use Rattle.sideways.specs.Counted.{AreCountable, ArePartsOf, IsTaking, IsReady, lifted_of, lists_of, passes_all, placed};
+ghost use Rattle.sideways.specs.Counted.{AreCountable, ArePartsOf, IsGrown, IsNoting, IsTaking, IsReady, lifted_of, lists_at, lists_of, passes_all, placed};
 ghost use Rattle.sideways.specs.Searches.{records_of};
 
 use crate::part::Part;
@@ -93,6 +93,26 @@ fn take_hits(
     Ok(number)
 }
 
+// Counts all records of a part, and notes places of its first ones until there are enough. Says how many they are.
+fn count_part(
+    part: &mut Part<'_>,
+    counter: &mut Counter<'_>,
+    base: u32,
+    limit: u32,
+    hits: &mut Vec<u32>,
+) -> Result<u64, NoMemory>
+    requires countable { AreCountable counter.old.config counter.old.labels part.old.segment }
+    requires room { counter.old.added + length part.old.left ≤ 1000000 }
+    requires few { base + length part.old.segment.records ≤ 1000000 }
+    requires limit { length hits.old.items ≤ limit }
+    ensures grown { OnOk result (IsGrown counter.old counter.new (lists_at part.old.segment part.old.left)) }
+    ensures number { IfOk result (λ number. number ≡ length part.old.left) }
+    ensures noted { OnOk result (IsNoting part.old base limit hits.old.items hits.new.items) }
+{
+    let first = take_hits(part, counter, base, limit, hits)?;
+    Ok(first + part.count(counter))
+}
+
 impl<'a> Pass<'a> {
     /// A pass over the documents that match the query and pass all dimensions of the drill, but for the one that is lifted. It takes the memory that
     /// the counting needs.
@@ -154,9 +174,7 @@ impl<'a> Pass<'a> {
         let mut base = 0;
         for part in parts.iter_mut() {
             let docs = part.docs();
-            let first = take_hits(part, &mut counter, base, limit, &mut places)?;
-            let rest = part.count(&mut counter);
-            number += first + rest;
+            number += count_part(part, &mut counter, base, limit, &mut places)?;
             base += docs;
         }
         Ok(Found {

@@ -22,17 +22,17 @@ drop_at (x ∷ xs) (suc i) d lt =
 -- ---- labels
 
 module _ (segments : Segments) (known : List (List (List ℕ))) (parts : List LabelPart) (i : ℕ) (d : LabelPart) where
-  pub labels_more : (longer : List (List (List ℕ))) → i < length parts → labels_behind segments known (get_or parts i d) ≡ Ok longer → labels_of segments longer (drop (i + 1) parts) ≡ labels_of segments known (drop i parts)
+  pub labels_more : (longer : List (List (List ℕ))) (whole : Result (List (List (List ℕ))) OpenFault) → i < length parts → labels_behind segments known (get_or parts i d) ≡ Ok longer → labels_of segments known (drop i parts) ≡ whole → labels_of segments longer (drop (i + 1) parts) ≡ whole
   unfolding labels_of
-  labels_more longer lt e = sym (ap (labels_of segments known) (drop_at parts i d lt) ∙ ap (λ (r : Result (List (List (List ℕ))) OpenFault). r >>= λ l. labels_of segments l (drop (i + 1) parts)) e)
+  labels_more longer whole lt e read = sym (ap (labels_of segments known) (drop_at parts i d lt) ∙ ap (λ (r : Result (List (List (List ℕ))) OpenFault). r >>= λ l. labels_of segments l (drop (i + 1) parts)) e) ∙ read
 
-  pub labels_fail : (fault : OpenFault) → i < length parts → labels_behind segments known (get_or parts i d) ≡ Err fault → labels_of segments known (drop i parts) ≡ Err fault
+  pub labels_fail : (fault : OpenFault) (whole : Result (List (List (List ℕ))) OpenFault) → i < length parts → labels_behind segments known (get_or parts i d) ≡ Err fault → labels_of segments known (drop i parts) ≡ whole → whole ≡ Err fault
   unfolding labels_of
-  labels_fail fault lt e = ap (labels_of segments known) (drop_at parts i d lt) ∙ ap (λ (r : Result (List (List (List ℕ))) OpenFault). r >>= λ l. labels_of segments l (drop (i + 1) parts)) e
+  labels_fail fault whole lt e read = sym read ∙ ap (labels_of segments known) (drop_at parts i d lt) ∙ ap (λ (r : Result (List (List (List ℕ))) OpenFault). r >>= λ l. labels_of segments l (drop (i + 1) parts)) e
 
-  pub labels_end : length parts ≤ i → labels_of segments known (drop i parts) ≡ Ok known
+  pub labels_end : (whole : Result (List (List (List ℕ))) OpenFault) → length parts ≤ i → labels_of segments known (drop i parts) ≡ whole → whole ≡ Ok known
   unfolding labels_of
-  labels_end le = ap (labels_of segments known) (drop_all i parts le)
+  labels_end whole le read = sym read ∙ ap (labels_of segments known) (drop_all i parts le)
 
 pub order_at : (total start : ℕ) (parts : List LabelPart) (i : ℕ) (d : LabelPart) → i < length parts → AreInOrder total start (drop i parts) → ((get_or parts i d).first ≡ start) × AreInOrder total (end_of (get_or parts i d)) (drop (i + 1) parts)
 order_at total start parts i d lt order = subst (AreInOrder total start) (drop_at parts i d lt) order
@@ -52,20 +52,21 @@ module _ (config : Config) (labels : List (List (List ℕ))) (needs : ℕ) (segm
   regroup x (Ok ys) = ap (λ (xs : List Records). Ok xs) (append_assoc front (x ∷ []) ys)
   regroup x (Err e) = refl
 
-  pub segments_more : (x : Records) → i < length parts → segment_of config labels needs segments (get_or parts i d) ≡ Ok x
-      → behind (front ++ x ∷ []) (segments_of config labels needs segments (drop (i + 1) parts)) ≡ behind front (segments_of config labels needs segments (drop i parts))
+  pub segments_more : (x : Records) (whole : Result (List Records) OpenFault) → i < length parts → segment_of config labels needs segments (get_or parts i d) ≡ Ok x
+      → behind front (segments_of config labels needs segments (drop i parts)) ≡ whole → behind (front ++ x ∷ []) (segments_of config labels needs segments (drop (i + 1) parts)) ≡ whole
   unfolding segments_of
-  segments_more x lt e = regroup x (segments_of config labels needs segments (drop (i + 1) parts))
+  segments_more x whole lt e read = regroup x (segments_of config labels needs segments (drop (i + 1) parts))
       ∙ ap (behind front) (sym (ap (segments_of config labels needs segments) (drop_at parts i d lt) ∙ ap (λ (r : Result Records OpenFault). r >>= λ y. segments_of config labels needs segments (drop (i + 1) parts) >>= λ others. Ok (y ∷ others)) e))
+      ∙ read
 
-  pub segments_fail : (fault : OpenFault) → i < length parts → segment_of config labels needs segments (get_or parts i d) ≡ Err fault
-      → behind front (segments_of config labels needs segments (drop i parts)) ≡ Err fault
+  pub segments_fail : (fault : OpenFault) (whole : Result (List Records) OpenFault) → i < length parts → segment_of config labels needs segments (get_or parts i d) ≡ Err fault
+      → behind front (segments_of config labels needs segments (drop i parts)) ≡ whole → whole ≡ Err fault
   unfolding segments_of
-  segments_fail fault lt e = ap (behind front) (ap (segments_of config labels needs segments) (drop_at parts i d lt) ∙ ap (λ (r : Result Records OpenFault). r >>= λ y. segments_of config labels needs segments (drop (i + 1) parts) >>= λ others. Ok (y ∷ others)) e)
+  segments_fail fault whole lt e read = sym read ∙ ap (behind front) (ap (segments_of config labels needs segments) (drop_at parts i d lt) ∙ ap (λ (r : Result Records OpenFault). r >>= λ y. segments_of config labels needs segments (drop (i + 1) parts) >>= λ others. Ok (y ∷ others)) e)
 
-  pub segments_end : length parts ≤ i → behind front (segments_of config labels needs segments (drop i parts)) ≡ Ok front
+  pub segments_end : (whole : Result (List Records) OpenFault) → length parts ≤ i → behind front (segments_of config labels needs segments (drop i parts)) ≡ whole → whole ≡ Ok front
   unfolding segments_of
-  segments_end le = ap (λ (xs : List DocumentPart). behind front (segments_of config labels needs segments xs)) (drop_all i parts le) ∙ ap (λ (xs : List Records). Ok xs) (append-nil front)
+  segments_end whole le read = sym read ∙ ap (λ (xs : List DocumentPart). behind front (segments_of config labels needs segments xs)) (drop_all i parts le) ∙ ap (λ (xs : List Records). Ok xs) (append-nil front)
 
 -- one more pair
 pub zip_push : {A B : Type 0} (R : A → B → Type 0) (xs : List A) (ys : List B) (x : A) (y : B) → AllZip R xs ys → R x y → AllZip R (xs ++ x ∷ []) (ys ++ y ∷ [])

@@ -1,10 +1,10 @@
-use Rattle.std.proofs.Common.{◌≡◌, ℕ, Some, ◌+◌, ◌-◌, ◌*◌, ◌<◌, ◌≤◌, ap, sym, subst, ◌∙◌, arith}
+use Rattle.std.proofs.Common.{◌≡◌, List, length, Some, ◌+◌, ◌*◌, ◌<◌, ◌≤◌, ap, sym, subst, ◌∙◌, arith}
 use Rattle.seg_postings.specs.Rising.{IsRising, first_of}
 use Rattle.plan_places.specs.Planned.{Planned, moved_to, all_nodes}
 use Rattle.plan_places.specs.Nodes.{planned, conjunction_nodes}
-use Rattle.plan_places.proofs.Unions.{AreMoved, moved_more, kept_nodes, rising_any, leaf_of, any_is, conjunction_is}
+use Rattle.plan_places.proofs.Unions.{moved_more, kept_nodes, rising_any, leaf_of, any_is, conjunction_is}
 use Rattle.plan_places.proofs.Choices.{ahead_starts, ahead_first, ahead_same, ahead_goes, ahead_left, ahead_nodes, ahead_shorter, found_first, none_first, empty_first, rising_chosen, chosen_excluded, chosen_here, same_itself, same_moved, same_length}
-use Rattle.plan_places.proofs.Choices.{met_starts, met_same, met_more, met_none, met_later, met_all, met_nodes}
+use Rattle.plan_places.proofs.Choices.{AreMet, met_starts, met_back, met_more, met_none, met_later, met_nodes}
 use Rattle.plan_places.proofs.+at_least.Goals as goal
 use Rattle.plan_places.proofs.+at_least.Goals.{node::PlanNode::at_least-in-Range, node::PlanNode::at_least-in-Term, node::PlanNode::at_least-in-Any, node::PlanNode::at_least-in-All}
 
@@ -121,61 +121,45 @@ conjunction::chosen-returns-clause-next t c =
 
 -- ---- the others, one after the other
 
-pub conjunction::meeting-loop-i-init : goal.conjunction::meeting-loop-i-init
-conjunction::meeting-loop-i-init t c = met_starts _ _
+pub conjunction::meeting-loop-other-init : goal.conjunction::meeting-loop-other-init
+conjunction::meeting-loop-other-init t c = subst (λ (xs : List Planned). AreMet c.args.first 0 xs c.args.others.now.items) (sym c.deref_mut-other-items.ensures.value) (met_starts _ _)
 
 pub conjunction::meeting-at_least-requires : goal.conjunction::meeting-at_least-requires
 conjunction::meeting-at_least-requires t c =
     let d : 4 * all_nodes c.args.others.now.items + 1 ≡ t = c.decreases in
-    let n = met_nodes _ _ _ _ c.index_mut-other.result.now c.loop-i.invariant (omega arith) in
-    let lt : 4 * c.index_mut-other.result.now.nodes < t = omega (arith, d, n, ap (λ (p : Planned). p.nodes) c.index_mut-other.ensures.value) in
-    (lt, omega arith)
+    let n = met_nodes _ _ _ _ c.other-item.result c.loop-other.invariant (omega (arith, c.loop-other-test.true, ap length c.deref_mut-other-items.ensures.value, same_length _ _ _ c.loop-other.invariant.same)) in
+    (omega (arith, d, n), omega arith)
 
 pub conjunction::meeting-returns-in_err-next-clause-others : goal.conjunction::meeting-returns-in_err-next-clause-others
 conjunction::meeting-returns-in_err-next-clause-others t c =
-    met_same _ _ _ _ _ c.index_mut-other.result.now c.loop-i.invariant (omega arith) (c.at_least.ensures.moved ∙ ap (moved_to c.args.first) c.index_mut-other.ensures.value)
+    met_back _ _ _ _ _ c.other-item.result _ c.loop-other.invariant (omega (arith, c.loop-other-test.true, ap length c.deref_mut-other-items.ensures.value, same_length _ _ _ c.loop-other.invariant.same)) c.at_least.ensures.moved (omega (arith, c.deref_mut-other-items.ensures.len, ap length c.deref_mut-other-items.ensures.value))
 
 pub conjunction::meeting-returns-in_err-next-clause-next : goal.conjunction::meeting-returns-in_err-next-clause-next
 conjunction::meeting-returns-in_err-next-clause-next t c =
-    rw c.from_residual.ensures (met_none _ _ _ _ _ c.index_mut-other.result.now c.loop-i.invariant (omega arith) (c.at_least.ensures.moved ∙ ap (moved_to c.args.first) c.index_mut-other.ensures.value) c.in_err-next.ensures.first)
+    rw c.from_residual.ensures (met_none _ _ _ _ _ c.other-item.result c.loop-other.invariant (omega (arith, c.loop-other-test.true, ap length c.deref_mut-other-items.ensures.value, same_length _ _ _ c.loop-other.invariant.same)) c.at_least.ensures.moved c.in_err-next.ensures.first)
 
 pub conjunction::meeting-returns-then-next-first-clause-others : goal.conjunction::meeting-returns-then-next-first-clause-others
 conjunction::meeting-returns-then-next-first-clause-others t c =
-    met_same _ _ _ _ _ c.index_mut-other.result.now c.loop-i.invariant (omega arith) (c.at_least.ensures.moved ∙ ap (moved_to c.args.first) c.index_mut-other.ensures.value)
+    met_back _ _ _ _ _ c.other-item.result _ c.loop-other.invariant (omega (arith, c.loop-other-test.true, ap length c.deref_mut-other-items.ensures.value, same_length _ _ _ c.loop-other.invariant.same)) c.at_least.ensures.moved (omega (arith, c.deref_mut-other-items.ensures.len, ap length c.deref_mut-other-items.ensures.value))
 
 pub conjunction::meeting-returns-then-next-first-clause-next : goal.conjunction::meeting-returns-then-next-first-clause-next
 conjunction::meeting-returns-then-next-first-clause-next t c =
-    met_later _ _ _ _ _ c.index_mut-other.result.now _ c.loop-i.invariant (omega arith) (c.at_least.ensures.moved ∙ ap (moved_to c.args.first) c.index_mut-other.ensures.value)
-    (subst (λ (p : Planned). IsRising p.left) c.index_mut-other.ensures.value c.at_least.ensures.rising) c.in_ok-next.ensures.first c.if-next-first.true
+    met_later _ _ _ _ _ c.other-item.result _ c.loop-other.invariant (omega (arith, c.loop-other-test.true, ap length c.deref_mut-other-items.ensures.value, same_length _ _ _ c.loop-other.invariant.same)) c.at_least.ensures.moved c.at_least.ensures.rising c.in_ok-next.ensures.first c.if-next-first.true
 
-pub conjunction::meeting-loop-i-smaller : goal.conjunction::meeting-loop-i-smaller
-conjunction::meeting-loop-i-smaller t c =
-    omega (arith, c.loop-i-test.true, same_length c.args.first c.loop-i.others.items c.args.others.now.items c.loop-i.invariant.same)
-
-pub conjunction::meeting-loop-i-preserved : goal.conjunction::meeting-loop-i-preserved
-conjunction::meeting-loop-i-preserved t c =
-    met_more _ _ _ _ _ c.index_mut-other.result.now _ c.loop-i.invariant (omega arith) (c.at_least.ensures.moved ∙ ap (moved_to c.args.first) c.index_mut-other.ensures.value) c.in_ok-next.ensures.first (omega (arith, c.if-next-first.false))
-
-pub conjunction::meeting-returns-clause-next : goal.conjunction::meeting-returns-clause-next
-conjunction::meeting-returns-clause-next t c = met_all _ _ _ _ c.loop-i.invariant (omega arith)
+pub conjunction::meeting-loop-other-preserved : goal.conjunction::meeting-loop-other-preserved
+conjunction::meeting-loop-other-preserved t c =
+    met_more _ _ _ _ _ c.other-item.result _ c.loop-other.invariant (omega (arith, c.loop-other-test.true, ap length c.deref_mut-other-items.ensures.value, same_length _ _ _ c.loop-other.invariant.same)) c.at_least.ensures.moved c.in_ok-next.ensures.first (omega (arith, c.if-next-first.false))
 
 -- ---- any of the children
 
-pub union::any_at_least-at_least-next-requires : goal.union::any_at_least-at_least-next-requires
-union::any_at_least-at_least-next-requires t c =
-    let k = kept_nodes c.args.place c.loop-i.i c.loop-i.children.items c.args.children.now.items c.loop-i.first c.index_mut-child.result.now c.loop-i.invariant c.loop-i-test.true in
+pub union::any_at_least-at_least-requires : goal.union::any_at_least-at_least-requires
+union::any_at_least-at_least-requires t c =
     let d : 4 * all_nodes c.args.children.now.items + 1 ≡ t = c.decreases in
-    let lt : 4 * c.index_mut-child.result.now.nodes < t = omega (arith, k, d, ap (λ (p : Planned). p.nodes) c.index_mut-child.ensures.value) in
-    (lt, c.requires)
+    (omega (arith, d, kept_nodes _ _ _ _ _ c.child-item.result c.loop-child.invariant (omega (arith, c.loop-child-test.true, ap length c.deref_mut-child-items.ensures.value, c.loop-child.invariant.long))), c.requires)
 
-pub union::any_at_least-loop-i-preserved : goal.union::any_at_least-loop-i-preserved
-union::any_at_least-loop-i-preserved t c =
-    let j : c.loop-i.i ≡ c.loop-i.i - 1 + 1 = omega arith in
-    rw c.least-first.ensures (moved_more c.args.place (c.loop-i.i - 1) c.loop-i.children.items c.args.children.now.items c.loop-i.first c.at_least-next.result c.at_least-next.new.self c.index_mut-child.result.now
-    (subst (λ (i : ℕ). AreMoved c.args.place i c.loop-i.children.items c.args.children.now.items c.loop-i.first) j c.loop-i.invariant)
-    (c.at_least-next.ensures.moved ∙ ap (moved_to c.args.place) c.index_mut-child.ensures.value)
-    (subst (λ (p : Planned). IsRising p.left) c.index_mut-child.ensures.value c.at_least-next.ensures.rising)
-    c.at_least-next.ensures.first)
+pub union::any_at_least-loop-child-preserved : goal.union::any_at_least-loop-child-preserved
+union::any_at_least-loop-child-preserved t c =
+    rw c.least-first.ensures (moved_more _ _ _ _ _ _ _ c.child-item.result c.loop-child.invariant (omega (arith, c.loop-child-test.true, ap length c.deref_mut-child-items.ensures.value, c.loop-child.invariant.long)) c.at_least.ensures.moved c.at_least.ensures.rising c.at_least.ensures.first)
 
 -- ---- a node of any kind
 

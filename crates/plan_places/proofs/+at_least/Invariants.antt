@@ -1,4 +1,4 @@
-use Rattle.std.proofs.Common.{◌≡◌, ◌*◌, ◌+◌, ◌-◌, length, Some}
+use Rattle.std.proofs.Common.{◌≡◌, ◌*◌, ◌+◌, length, Some}
 use Rattle.seg_postings.specs.Rising.{first_of}
 use Rattle.plan_places.specs.Planned.{all_nodes}
 use Rattle.plan_places.specs.Nodes.{conjunction_nodes}
@@ -6,11 +6,8 @@ use Rattle.plan_places.proofs.Unions.{AreMoved}
 use Rattle.plan_places.proofs.Choices.{IsAhead, AreMet}
 use Rattle.plan_places.proofs.+at_least.Given as goal
 
-abbrev pub invariant-union::any_at_least-loop-i : goal.invariant-union::any_at_least-loop-i
-invariant-union::any_at_least-loop-i l = AreMoved l.place l.i l.children.items l.fn.children.items l.first
-
-abbrev pub decreases-union::any_at_least-loop-i : goal.decreases-union::any_at_least-loop-i
-decreases-union::any_at_least-loop-i l = l.i
+abbrev pub invariant-union::any_at_least-loop-child : goal.invariant-union::any_at_least-loop-child
+invariant-union::any_at_least-loop-child l = AreMoved l.place l.child-index l.child-items l.fn.children.items l.first
 
 abbrev pub invariant-conjunction::Conjunction::at_least-loop-next : goal.invariant-conjunction::Conjunction::at_least-loop-next
 invariant-conjunction::Conjunction::at_least-loop-next l =
@@ -20,11 +17,8 @@ invariant-conjunction::Conjunction::at_least-loop-next l =
 abbrev pub decreases-conjunction::Conjunction::at_least-loop-next : goal.decreases-conjunction::Conjunction::at_least-loop-next
 decreases-conjunction::Conjunction::at_least-loop-next l = length l.self.lead.value.left
 
-abbrev pub invariant-conjunction::meeting-loop-i : goal.invariant-conjunction::meeting-loop-i
-invariant-conjunction::meeting-loop-i l = AreMet l.first l.i l.others.items l.fn.others.items
-
-abbrev pub decreases-conjunction::meeting-loop-i : goal.decreases-conjunction::meeting-loop-i
-decreases-conjunction::meeting-loop-i l = length l.fn.others.items - l.i
+abbrev pub invariant-conjunction::meeting-loop-other : goal.invariant-conjunction::meeting-loop-other
+invariant-conjunction::meeting-loop-other l = AreMet l.first l.other-index l.other-items l.fn.others.items
 
 abbrev pub decreases-node::PlanNode::at_least : goal.decreases-node::PlanNode::at_least
 decreases-node::PlanNode::at_least l = 4 * l.self.now.nodes

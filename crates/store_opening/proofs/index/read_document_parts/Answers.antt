@@ -1,4 +1,4 @@
-use Rattle.std.proofs.Common.{rules, ◌+◌, ◌<◌, ◌∙◌, List, [], length, map, take, drop, get_or, sym, ap, arith}
+use Rattle.std.proofs.Common.{rules, ◌+◌, ◌<◌, ◌∙◌, List, [], length, map, take, drop, get_or, ap, arith}
 use Rattle.std.specs.Arc.{arc_value}
 use Rattle.std.proofs.lemmas.List.{take_more}
 use Rattle.std.proofs.lemmas.Result.{err_from_is_err_and}
@@ -21,9 +21,9 @@ returns-in_err-segment-clause-err g c =
     let i = c.loop-part.part-index in
     let lt : i < length parts = search rules in
     let kept = c.loop-part.invariant in
-    rw (p.1, p.2) (λ memory device s told listed. sym (kept.read s told listed)
-    ∙ segments_fail c.args.config.now c.args.labels.now c.args.needs (segments_in Index s.files) parts i blank (map arc_value c.loop-part.segments.items) c.in_err-segment.field-0.0 lt
-    (c.in_err-segment.ensures.err memory device s (kept.quiet.same ∙ told) listed))
+    rw (p.1, p.2) (λ memory device s told listed.
+    segments_fail c.args.config.now c.args.labels.now c.args.needs (segments_in Index s.files) parts i blank (map arc_value c.loop-part.segments.items) c.in_err-segment.field-0.0 (segments_of c.args.config.now c.args.labels.now c.args.needs (segments_in Index s.files) parts) lt
+    (c.in_err-segment.ensures.err memory device s (kept.quiet.same ∙ told) listed) (kept.read s told listed))
 
 pub loop-part-preserved : goal.loop-part-preserved
 loop-part-preserved g c =
@@ -35,8 +35,7 @@ loop-part-preserved g c =
     let labels = c.args.labels.now in
     record {
       read = λ s told listed. ap (λ (front : List Records). behind front (segments_of config labels c.args.needs (segments_in Index s.files) (drop (i + 1) parts))) c.in_ok-keep.ensures
-          ∙ segments_more config labels c.args.needs (segments_in Index s.files) parts i blank (map arc_value c.loop-part.segments.items) c.in_ok-segment.segment lt (c.in_ok-segment.ensures.ok s (kept.quiet.same ∙ told) listed)
-          ∙ kept.read s told listed;
+          ∙ segments_more config labels c.args.needs (segments_in Index s.files) parts i blank (map arc_value c.loop-part.segments.items) c.in_ok-segment.segment (segments_of config labels c.args.needs (segments_in Index s.files) parts) lt (c.in_ok-segment.ensures.ok s (kept.quiet.same ∙ told) listed) (kept.read s told listed);
       named = rw (take_more parts i blank lt, c.in_ok-keep.ensures)
           (zip_push (IsNamedAs config labels) (take i parts) (map arc_value c.loop-part.segments.items) (get_or parts i blank) c.in_ok-segment.segment kept.named c.in_ok-segment.ensures.named);
       still = c.in_ok-segment.ensures.read.still.ok ∙ kept.still;
@@ -45,5 +44,6 @@ loop-part-preserved g c =
     }
 
 pub returns-clause-ok : goal.returns-clause-ok
-returns-clause-ok g c = λ s told listed. sym (c.loop-part.invariant.read s told listed)
-    ∙ segments_end c.args.config.now c.args.labels.now c.args.needs (segments_in Index s.files) c.args.parts.now c.loop-part.part-index blank (map arc_value c.loop-part.segments.items) (omega (arith, c.loop-part-test.false))
+returns-clause-ok g c = λ s told listed.
+    segments_end c.args.config.now c.args.labels.now c.args.needs (segments_in Index s.files) c.args.parts.now c.loop-part.part-index blank (map arc_value c.loop-part.segments.items)
+    (segments_of c.args.config.now c.args.labels.now c.args.needs (segments_in Index s.files) c.args.parts.now) (omega (arith, c.loop-part-test.false)) (c.loop-part.invariant.read s told listed)

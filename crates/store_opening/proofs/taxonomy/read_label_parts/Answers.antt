@@ -1,9 +1,9 @@
-use Rattle.std.proofs.Common.{rules, ◌≡◌, ◌+◌, ◌<◌, ◌∙◌, ℕ, [], length, drop, get_or, sym, subst, arith}
+use Rattle.std.proofs.Common.{rules, ◌≡◌, ◌+◌, ◌<◌, ◌∙◌, ℕ, [], ◌∷◌, length, drop, get_or, subst, arith}
 use Rattle.std.proofs.lemmas.Result.{err_from_is_err_and}
 use Rattle.facet_disk.specs.declared.name.Dir.TheVariants.{Taxonomy}
 use Rattle.commit_file.specs.declared.taxonomy.LabelPart.{LabelPart}
 use Rattle.commit_file.specs.Commits.{AreInOrder, end_of}
-use Rattle.store_opening.specs.Files.{segments_in}
+use Rattle.store_opening.specs.Files.{labels_of, segments_in}
 use Rattle.store_opening.proofs.Loops.{labels_more, labels_fail, labels_end, order_at, order_low}
 use Rattle.store_opening.proofs.Quiet.{goes_on}
 use Rattle.store_opening.proofs.taxonomy.read_label_parts.Goals as goal
@@ -27,8 +27,8 @@ returns-in_err-read_label_part-clause-err g c =
     let i = c.loop-part.part-index in
     let lt : i < length parts = search rules in
     let kept = c.loop-part.invariant in
-    rw (p.1, p.2) (λ memory device s told listed. sym (kept.read s told listed)
-    ∙ labels_fail (segments_in Taxonomy s.files) c.loop-part.labels parts i blank c.in_err-read_label_part.field-0.0 lt (c.in_err-read_label_part.ensures.err memory device s (kept.quiet.same ∙ told) listed))
+    rw (p.1, p.2) (λ memory device s told listed. labels_fail (segments_in Taxonomy s.files) c.loop-part.labels parts i blank c.in_err-read_label_part.field-0.0 (labels_of (segments_in Taxonomy s.files) ([] ∷ []) parts) lt
+    (c.in_err-read_label_part.ensures.err memory device s (kept.quiet.same ∙ told) listed) (kept.read s told listed))
 
 pub loop-part-preserved : goal.loop-part-preserved
 loop-part-preserved g c =
@@ -39,8 +39,8 @@ loop-part-preserved g c =
     let order = order_at c.args.total (length c.loop-part.labels) parts i blank lt kept.order in
     let longer : end_of (get_or parts i blank) ≡ length c.read_label_part.new.labels = omega (arith, c.in_ok-read_label_part.ensures.count, order.0) in
     record {
-      read = λ s told listed. labels_more (segments_in Taxonomy s.files) c.loop-part.labels parts i blank c.read_label_part.new.labels lt (c.in_ok-read_label_part.ensures.ok s (kept.quiet.same ∙ told) listed)
-          ∙ kept.read s told listed;
+      read = λ s told listed. labels_more (segments_in Taxonomy s.files) c.loop-part.labels parts i blank c.read_label_part.new.labels (labels_of (segments_in Taxonomy s.files) ([] ∷ []) parts) lt
+          (c.in_ok-read_label_part.ensures.ok s (kept.quiet.same ∙ told) listed) (kept.read s told listed);
       list = c.in_ok-read_label_part.ensures.list;
       many = omega (arith, kept.many, c.in_ok-read_label_part.ensures.count, c.in_ok-read_label_part.ensures.some);
       order = subst (λ (n : ℕ). AreInOrder c.args.total n (drop (i + 1) parts)) longer order.1;
@@ -50,5 +50,5 @@ loop-part-preserved g c =
     }
 
 pub returns-clause-ok : goal.returns-clause-ok
-returns-clause-ok g c = λ s told listed. sym (c.loop-part.invariant.read s told listed)
-    ∙ labels_end (segments_in Taxonomy s.files) c.loop-part.labels c.args.parts.now c.loop-part.part-index blank (omega (arith, c.loop-part-test.false))
+returns-clause-ok g c = λ s told listed. labels_end (segments_in Taxonomy s.files) c.loop-part.labels c.args.parts.now c.loop-part.part-index blank (labels_of (segments_in Taxonomy s.files) ([] ∷ []) c.args.parts.now)
+    (omega (arith, c.loop-part-test.false)) (c.loop-part.invariant.read s told listed)

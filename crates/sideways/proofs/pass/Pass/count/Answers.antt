@@ -1,7 +1,7 @@
-use Rattle.std.proofs.Common.{◌≡◌, get_or, ◌<◌, arith, length, refl}
+use Rattle.std.proofs.Common.{◌≡◌, ◌∙◌, [], get_or, ◌<◌, ◌≤◌, arith, length, refl}
 use Rattle.std.proofs.lemmas.List.{get_or_default}
-use Rattle.sideways.specs.Counted.{PartLeft}
-use Rattle.sideways.proofs.Placed.{counted_more, next_part}
+use Rattle.sideways.specs.Counted.{PartLeft, lists_of}
+use Rattle.sideways.proofs.Placed.{all_grown, counted_more, next_part}
 use Rattle.sideways.proofs.pass.Pass.count.Goals as goal
 
 pub count-requires-clause-countable : goal.count-requires-clause-countable
@@ -24,3 +24,15 @@ loop-part-preserved c =
     let p : PartLeft = get_or c.loop-part.part-items c.loop-part.part-index c.part-item.result in
     let here : p ≡ get_or c.loop-part.part-items c.loop-part.part-index p = get_or_default c.loop-part.part-items c.loop-part.part-index c.part-item.result p (omega (arith, lt, c.loop-part.invariant.long)) in
     counted_more c.loop-part.part-index c.loop-part.part-items _ c.args.self.parts.items c.args.self.counter c.loop-part.counter c.count.new.counter p c.count.new.self c.loop-part.invariant lt here refl c.count.ensures.grown
+
+pub returns-clause-counts : goal.returns-clause-counts
+returns-clause-counts c =
+    let le : length c.args.self.parts.items ≤ c.loop-part.part-index = omega (arith, c.loop-part.invariant.long, c.loop-part-test.false) in
+    let grown = all_grown c.loop-part.part-index c.loop-part.part-items c.args.self.parts.items c.args.self.counter c.loop-part.counter c.loop-part.invariant le in
+    c.roll_up.ensures.counts (lists_of c.args.self.parts.items) (grown.added [] c.requires.fresh)
+
+pub returns-clause-labels : goal.returns-clause-labels
+returns-clause-labels c = c.roll_up.ensures.labels ∙ c.loop-part.invariant.grown.labels
+
+pub returns-clause-config : goal.returns-clause-config
+returns-clause-config c = c.roll_up.ensures.config ∙ c.loop-part.invariant.grown.config
