@@ -1,6 +1,7 @@
 ghost use Rattle.std.specs.Prelude.{◌<◌, length, IfOk};
 
 use crate::making::{all, sought, spelled};
+use crate::places::far_ahead_are_sought;
 use plan_places::{PlanNode, PlanPlaces};
 use seg_postings::{Places, Postings};
 use std::alloc::{AllocFailed, Global};
@@ -43,39 +44,40 @@ fn sets<'a>(
     Ok([any, all, without])
 }
 
+// left, right, their union and intersection, and the left without the right and without 0
+const SETS: [[&[u32]; 5]; 8] = [
+    [&[], &[], &[], &[], &[]],
+    [&[], &[2], &[2], &[], &[]],
+    [&[1, 2], &[1, 2], &[1, 2], &[1, 2], &[]],
+    [
+        &[0, 4294967295],
+        &[4294967295],
+        &[0, 4294967295],
+        &[4294967295],
+        &[],
+    ],
+    [&[0, 2], &[2], &[0, 2], &[2], &[]],
+    [&[7], &[], &[7], &[], &[7]],
+    [
+        &[1, 3, 5, 9],
+        &[3, 4, 9, 12],
+        &[1, 3, 4, 5, 9, 12],
+        &[3, 9],
+        &[1, 5],
+    ],
+    [
+        &[5, 4294967295],
+        &[4294967295],
+        &[5, 4294967295],
+        &[4294967295],
+        &[5],
+    ],
+];
+
 #[test]
 fn set_operations(rt: HostRuntime) -> Result<(), Fail> {
     let alloc = rt.alloc();
-    // left, right, their union and intersection, and the left without the right and without 0
-    let rows: [[&[u32]; 5]; 8] = [
-        [&[], &[], &[], &[], &[]],
-        [&[], &[2], &[2], &[], &[]],
-        [&[1, 2], &[1, 2], &[1, 2], &[1, 2], &[]],
-        [
-            &[0, 4294967295],
-            &[4294967295],
-            &[0, 4294967295],
-            &[4294967295],
-            &[],
-        ],
-        [&[0, 2], &[2], &[0, 2], &[2], &[]],
-        [&[7], &[], &[7], &[], &[7]],
-        [
-            &[1, 3, 5, 9],
-            &[3, 4, 9, 12],
-            &[1, 3, 4, 5, 9, 12],
-            &[3, 9],
-            &[1, 5],
-        ],
-        [
-            &[5, 4294967295],
-            &[4294967295],
-            &[5, 4294967295],
-            &[4294967295],
-            &[5],
-        ],
-    ];
-    for [left, right, union, both, lacking] in rows {
+    for [left, right, union, both, lacking] in SETS {
         let left = spelled(alloc, left)?;
         let right = spelled(alloc, right)?;
         let got = sets(alloc, &Postings::new(&left), &Postings::new(&right))?;
@@ -104,8 +106,36 @@ fn found<'a>(
     Ok([any, all, without])
 }
 
+// The places of the one node within so many levels of intersections.
+fn nested<'a>(alloc: Global, node: PlanNode<'a>, levels: u32) -> Result<PlanNode<'a>, Fail> {
+    let mut node = node;
+    for _ in 0..levels {
+        let nodes = pair(alloc, node, PlanNode::below(8))?;
+        node = PlanNode::all(alloc, nodes, Vec::new(alloc))?;
+    }
+    Ok(node)
+}
+
+// Whether the places of a node within 32 levels of intersections are found as they are asked for.
+fn nested_are_sought(alloc: Global) -> Result<bool, Fail> {
+    let bytes = spelled(alloc, &[1, 3, 4, 7, 9])?;
+    let postings = Postings::new(&bytes);
+    let mut places = PlanPlaces::new(nested(alloc, PlanNode::list(&postings), 32)?);
+    if places.next() != Some(1) {
+        return Ok(false);
+    }
+    // each place that is asked for, and whether it is left
+    for (place, want) in [(1, false), (2, false), (3, true), (3, true), (5, false)] {
+        if places.has(place) != want {
+            return Ok(false);
+        }
+    }
+    let ahead = places.seek(4) == Some(7) && places.seek(8).is_none();
+    Ok(ahead && !places.has(9))
+}
+
 #[test]
-fn seeks_in_sets(rt: HostRuntime) -> Result<(), Fail> {
+fn seeks(rt: HostRuntime) -> Result<(), Fail> {
     let alloc = rt.alloc();
     let left = spelled(alloc, &[1, 3, 5, 9])?;
     let right = spelled(alloc, &[3, 4, 9, 12])?;
@@ -124,33 +154,7 @@ fn seeks_in_sets(rt: HostRuntime) -> Result<(), Fail> {
         let got = found(alloc, &left, &right, place)?;
         assert!(rt; got == want, "{place}");
     }
-    Ok(())
-}
-
-// The places of the one node within so many levels of intersections.
-fn nested<'a>(alloc: Global, node: PlanNode<'a>, levels: u32) -> Result<PlanNode<'a>, Fail> {
-    let mut node = node;
-    for _ in 0..levels {
-        let nodes = pair(alloc, node, PlanNode::below(8))?;
-        node = PlanNode::all(alloc, nodes, Vec::new(alloc))?;
-    }
-    Ok(node)
-}
-
-#[test]
-fn seeks_in_nested_nodes(rt: HostRuntime) -> Result<(), Fail> {
-    let alloc = rt.alloc();
-    let bytes = spelled(alloc, &[1, 3, 4, 7, 9])?;
-    let postings = Postings::new(&bytes);
-    let mut places = PlanPlaces::new(nested(alloc, PlanNode::list(&postings), 32)?);
-    assert_eq!(rt; places.next(), Some(1));
-    // each place that is asked for, and whether it is left
-    let rows = [(1, false), (2, false), (3, true), (3, true), (5, false)];
-    for (place, want) in rows {
-        assert_eq!(rt; places.has(place), want);
-    }
-    assert_eq!(rt; places.seek(4), Some(7));
-    assert_eq!(rt; places.seek(8), None);
-    assert!(rt; !places.has(9));
+    assert!(rt; nested_are_sought(alloc)?);
+    assert!(rt; far_ahead_are_sought(alloc)?);
     Ok(())
 }

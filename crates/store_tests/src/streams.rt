@@ -158,7 +158,7 @@ fn is_read(alloc: Global, reading: &Reading) -> Result<bool, Fail> {
 }
 
 #[test]
-fn sources(rt: HostRuntime) -> Result<(), Fail> {
+fn sources_and_sinks(rt: HostRuntime) -> Result<(), Fail> {
     let alloc = rt.alloc();
     for reading in READINGS {
         assert!(rt; is_read(alloc, reading)?, "{reading:?}");
@@ -170,12 +170,7 @@ fn sources(rt: HostRuntime) -> Result<(), Fail> {
     let mut interrupted = StdSource::new(Interrupted::new());
     assert!(rt; answers(alloc, &mut interrupted, 17, Ok(17)));
     assert!(rt; reads_on());
-    Ok(())
-}
 
-#[test]
-fn sinks(rt: HostRuntime) -> Result<(), Fail> {
-    let alloc = rt.alloc();
     let mut sink = MemorySink::new(alloc, Vec::from_slice(alloc, &[2u64])?);
     assert!(rt; write_all(&mut sink, TEXT) == Ok(()));
     assert!(rt; write_all(&mut sink, TEXT) == Err(Failed));
