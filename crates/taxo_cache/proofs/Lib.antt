@@ -1,0 +1,3 @@
+pub mod Seen
+mod Kept
+pub mod Crossing
