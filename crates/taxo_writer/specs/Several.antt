@@ -1,0 +1,30 @@
+-- What resolving several paths adds to the labels.
+use Rattle.std.specs.Prelude.{◌≡◌, ◌≤◌, ◌<◌, ◌+◌, ℕ, Bool, List, length, take, slice_get, Some, Contains, IsTrue}
+use Rattle.std.specs.List.{list_all, position_or_len}
+use Rattle.chronicle.specs.Shown.{Shown}
+use Rattle.facet_names.specs.Paths.{path_eq}
+use Rattle.facet_names.specs.Labels.{stands}
+use Rattle.taxo_list.specs.declared.fault.TaxoFault.{TaxoFault}
+use Rattle.taxo_cache.specs.Seen.{labels_of}
+use Rattle.taxo_writer.specs.Adding.{IsFull}
+
+-- of these paths, those before the first such one are among the labels
+abbrev pub skips_none : List (List (List ℕ)) → List (List (List ℕ)) → List (List ℕ) → Bool
+skips_none labels paths path = list_all (stands labels) (take (position_or_len (path_eq path) paths) paths)
+
+-- each entry under this number behind the old ones is as it has to be, given its place
+abbrev pub EachNew : {A : Type 0} → ℕ → (ℕ → A → Type 0) → List (ℕ × A) → List (ℕ × A) → Type 0
+EachNew {A} n P old new = (i : ℕ) (x : A) → length old ≤ i → slice_get new i ≡ Some (n, x) → P i x
+
+-- A label that was entered, given its place behind the root. It is one of the paths, and it is below the limit. Each of the paths before it is a label
+-- before it, so none of them was skipped.
+abbrev pub IsInTurn : ℕ → List (List (List ℕ)) → List (List (List ℕ)) → ℕ → List (List ℕ) → Type 0
+IsInTurn limit labels paths i path = IsTrue (stands paths path) × (i + 1 < limit) × IsTrue (skips_none (take (i + 1) labels) paths path)
+
+-- The token entered some of the paths, each in its turn.
+abbrev pub AddsInTurn : List (List (List ℕ)) → ℕ → Shown (List (List ℕ)) → Shown (List (List ℕ)) → Type 0
+AddsInTurn paths limit old new = EachNew old.number (IsInTurn limit (labels_of new.seen) paths) old.seen new.seen
+
+-- the list is full for one of the paths
+abbrev pub IsFullForOne : TaxoFault → ℕ → List (List (List ℕ)) → List (List (List ℕ)) → Type 0
+IsFullForOne fault limit labels paths = (path : List (List ℕ)) × Contains paths path × IsFull fault limit labels path

@@ -1,0 +1,359 @@
+ghost use Rattle.std.specs.Prelude.{◌≡◌, ◌≢◌, ◌≤◌, ◌<◌, ◌-◌, ◌^◌, ◌⊎◌, ℕ, [], true, false, length, take, map, slice_get, flat_map, Some, IfOk, IfErr, OnOk};
+ghost use Rattle.std.specs.Arc.{arc_value};
+ghost use mathlib.Core.List.{IsPrefix};
+ghost use Rattle.chronicle.specs.History.{longer};
+ghost use Rattle.chronicle.specs.Shown.{mine, MayTake, SameToken, SeesOn, EndsWith, MakesOne, IsMadeFrom, IsNoteOf, IsCounted};
+ghost use Rattle.facet_names.specs.Labels.{place, prefixes};
+ghost use Rattle.facet_model.specs.CountedPaths.{AreResolved};
+ghost use Rattle.taxo_cache.specs.Seen.{labels_of, SeesLabels};
+ghost use Rattle.taxo_cache.specs.declared.looked.Looked.TheVariants.{Hit};
+ghost use Rattle.taxo_writer.specs.Adding.{HaveOrdinals, Adds, IsFull};
+ghost use Rattle.taxo_writer.specs.Several.{AddsInTurn, IsFullForOne};
+ghost use Rattle.taxo_list.specs.declared.fault.TaxoFault.TheVariants.{NoMemory as Memory};
+
+use crate::label_list::LabelList;
+use crate::resolving::add_each;
+use crate::viewing::renewed;
+use chronicle::{Chronicle, Token};
+use facet_model::Resolved;
+use facet_names::{NoMemory, Path};
+use std::alloc::Global;
+use std::marker::Model;
+use std::sync::{Arc, Wait};
+use taxo_cache::{Looked, Name, Stripes};
+use taxo_list::{TaxoFault, TaxoView, Taxonomy};
+
+/// Gives ordinals to labels, for callers on any threads, each with a token of its own; as Lucene's `DirectoryTaxonomyWriter` with its cache of labels.
+/// Contracts see the identity of its labels chronicle, and how many labels there may be.
+///
+/// A path whose prefixes are all in the cache is resolved without the turn of the labels. What a call says is the same with and without.
+#[derive(Drop)]
+pub struct TaxoWriter<N: Name> {
+    alloc: Global,
+    labels: Chronicle<LabelList>,
+    cache: Stripes<N>,
+    limit: u32,
+}
+
+impl<N: Name> Model for TaxoWriter<N> {
+    ghost use Rattle.std.specs.Prelude.{◌≡◌, ◌≤◌};
+    ghost use Rattle.taxo_writer.specs.Writer.{Writer};
+
+    ghost Value = { Writer };
+
+    ghost view = { λ w. record { labels = w.labels; limit = w.limit } };
+
+    ghost invariant = { λ w. (w.labels ≡ N.labels) × (w.limit ≤ 1000000) };
+}
+
+impl<N: Name> TaxoWriter<N> {
+    /// A writer over these labels, with a cache of so many stripes, each with room for `cache` paths. The limit counts the root too. Where there are more
+    /// labels than that, they stay, and there is room for none.
+    pub fn open(
+        alloc: Global,
+        labels: Chronicle<LabelList>,
+        first: &mut Token<Path>,
+        stripes: u32,
+        cache: u32,
+        limit: u32,
+    ) -> Result<TaxoWriter<N>, NoMemory>
+        requires name { labels ≡ N.labels }
+        requires own { first.old.identity ≡ labels }
+        requires labels { SeesLabels first.old }
+        requires some { (1 ≤ stripes) × (1 ≤ cache) }
+        requires limit { limit ≤ 1000000 }
+        ensures first { first.new ≡ first.old }
+        ensures writer { IfOk result (λ w. w ≡ record { labels = labels; limit = limit }) }
+    {
+        let cache = Stripes::new(alloc, &labels, first, stripes, cache)?;
+        Ok(TaxoWriter {
+            alloc,
+            labels,
+            cache,
+            limit,
+        })
+    }
+
+    // The ordinal of so many first components of the path, where the cache has it. The whole path is looked up as it is, and a shorter one as a copy.
+    fn look_at<R: Wait>(
+        &self,
+        rt: &R,
+        token: &mut Token<Path>,
+        path: &Path,
+        len: usize,
+    ) -> Result<Looked, NoMemory>
+        requires own { token.old.identity ≡ self.now.labels }
+        requires idle { MayTake token.old }
+        requires some { 0 < len }
+        requires within { len ≤ length path.now }
+        ensures token { SameToken token.old token.new × SeesOn token.old token.new × (token.new.holds_turn ≡ false) }
+        ensures labels { SeesLabels token.old → SeesLabels token.new }
+        ensures counted { IsCounted token.old → IsCounted token.new }
+        ensures hit { IfOk result (λ l. (ord : ℕ) → l ≡ Hit ord → place (labels_of token.new.seen) (take len path.now) ≡ Some ord) }
+    {
+        if len == path.len() {
+            return Ok(self.cache.look(rt, &self.labels, token, path));
+        }
+        let prefix = path.front(self.alloc, len)?;
+        Ok(self.cache.look(rt, &self.labels, token, &prefix))
+    }
+
+    // The ordinals of the path's first prefixes, as far as the cache has them.
+    fn find_known<R: Wait>(
+        &self,
+        rt: &R,
+        token: &mut Token<Path>,
+        path: &Path,
+    ) -> Result<Vec<u32>, NoMemory>
+        requires own { token.old.identity ≡ self.now.labels }
+        requires idle { MayTake token.old }
+        ensures token { SameToken token.old token.new × SeesOn token.old token.new × (token.new.holds_turn ≡ false) }
+        ensures labels { SeesLabels token.old → SeesLabels token.new }
+        ensures counted { IsCounted token.old → IsCounted token.new }
+        ensures known { IfOk result (λ v. HaveOrdinals (labels_of token.new.seen) (take (length v.items) (prefixes path.now)) v.items) }
+    {
+        let mut ords = Vec::with_capacity(self.alloc, path.len())?;
+        for n in 0..path.len() {
+            let found = self.look_at(rt, token, path, n + 1)?;
+            match found {
+                Looked::Hit(ord) => ords.push(ord)?,
+                Looked::Miss => return Ok(ords),
+            }
+        }
+        Ok(ords)
+    }
+
+    // Takes the labels' turn and gives it back. In between it adds the prefixes that are missing.
+    fn add_missing<R: Wait>(
+        &self,
+        rt: &R,
+        token: &mut Token<Path>,
+        path: &Path,
+        ords: &mut Vec<u32>,
+    ) -> Result<(), TaxoFault>
+        requires own { token.old.identity ≡ self.now.labels }
+        requires idle { MayTake token.old }
+        requires known { HaveOrdinals (labels_of token.old.seen) (take (length ords.old.items) (prefixes path.now)) ords.old.items }
+        ensures token { SameToken token.old token.new × (token.new.holds_turn ≡ false) }
+        ensures labels { SeesLabels token.new }
+        ensures counted { IsCounted token.new }
+        ensures adds { Adds path.now self.now.limit token.old token.new }
+        ensures ordinals { OnOk result (HaveOrdinals (labels_of token.new.seen) (prefixes path.now) ords.new.items) }
+        ensures full { IfErr result (λ e. e ≢ Memory → IsFull e self.now.limit (labels_of token.new.seen) path.now) }
+    {
+        let mut list = self.labels.take(rt, token).into_list();
+        let added = add_each(
+            self.alloc,
+            &self.labels,
+            token,
+            &mut list,
+            path,
+            ords,
+            self.limit,
+        );
+        self.labels.give(token, LabelList::new(list));
+        added
+    }
+
+    // Keeps the ordinal of so many first components of the path, where there is memory.
+    fn remember_at<R: Wait>(
+        &self,
+        rt: &R,
+        token: &mut Token<Path>,
+        path: &Path,
+        len: usize,
+        ord: u32,
+    )
+        requires own { token.old.identity ≡ self.now.labels }
+        requires labels { SeesLabels token.old }
+        requires some { 0 < len }
+        requires within { len ≤ length path.now }
+        requires there { place (labels_of token.old.seen) (take len path.now) ≡ Some ord }
+        ensures token { token.new ≡ token.old }
+    {
+        if len == path.len() {
+            self.cache.remember(rt, &self.labels, token, path, ord);
+        } else if let Ok(prefix) = path.front(self.alloc, len) {
+            self.cache.remember(rt, &self.labels, token, &prefix, ord);
+        }
+    }
+
+    // Keeps the ordinals of the path's prefixes from a place on, where there is memory.
+    fn remember_from<R: Wait>(
+        &self,
+        rt: &R,
+        token: &mut Token<Path>,
+        path: &Path,
+        ords: &[u32],
+        from: usize,
+    )
+        requires own { token.old.identity ≡ self.now.labels }
+        requires labels { SeesLabels token.old }
+        requires ordinals { HaveOrdinals (labels_of token.old.seen) (prefixes path.now) ords.now }
+        ensures token { token.new ≡ token.old }
+    {
+        for n in from..ords.len() {
+            self.remember_at(rt, token, path, n + 1, ords[n]);
+        }
+    }
+
+    /// The ordinals of a path's prefixes, the dimension's first. Prefixes that are missing are added, the shortest first, and those that were added before a
+    /// refusal stay.
+    ///
+    /// It looks into the cache for one prefix after the other. Where that has them all it takes no turn, and else it waits for the labels' turn once. It takes
+    /// memory for a copy of each shorter prefix, and no lock of the cache is held while it waits for the turn.
+    pub fn resolve<R: Wait>(
+        &self,
+        rt: &R,
+        token: &mut Token<Path>,
+        path: &Path,
+    ) -> Result<Resolved, TaxoFault>
+        requires own { token.old.identity ≡ self.now.labels }
+        requires idle { MayTake token.old }
+        requires labels { SeesLabels token.old }
+        ensures token { SameToken token.old token.new × (token.new.holds_turn ≡ false) }
+        ensures more { IsPrefix token.old.seen token.new.seen }
+        ensures labels { SeesLabels token.new }
+        ensures adds { Adds path.now self.now.limit token.old token.new }
+        ensures places { IfOk result (HaveOrdinals (labels_of token.new.seen) (prefixes path.now)) }
+        ensures ordinals { IfOk result (λ r. map (slice_get (labels_of token.new.seen)) r ≡ map Some (prefixes path.now)) }
+        ensures full { IfErr result (λ e. e ≢ Memory → IsFull e self.now.limit (labels_of token.new.seen) path.now) }
+        ensures counted { IsCounted token.old → IsCounted token.new }
+    {
+        let mut ords = self.find_known(rt, token, path)?;
+        let known = ords.len();
+        if known == path.len() {
+            return Ok(Resolved::new(ords));
+        }
+        self.add_missing(rt, token, path, &mut ords)?;
+        self.remember_from(rt, token, path, &ords, known);
+        Ok(Resolved::new(ords))
+    }
+
+    /// The ordinals of the prefixes of each path, path by path, as [`resolve`](TaxoWriter::resolve). Labels that were added before a refusal stay; so each
+    /// label that was added has all prefixes of the paths before its own as labels before it.
+    pub fn resolve_each<R: Wait>(
+        &self,
+        rt: &R,
+        token: &mut Token<Path>,
+        paths: &[Path],
+    ) -> Result<Vec<Resolved>, TaxoFault>
+        requires own { token.old.identity ≡ self.now.labels }
+        requires idle { MayTake token.old }
+        requires labels { SeesLabels token.old }
+        ensures token { SameToken token.old token.new × (token.new.holds_turn ≡ false) }
+        ensures more { IsPrefix token.old.seen token.new.seen }
+        ensures labels { SeesLabels token.new }
+        ensures adds { AddsInTurn (flat_map prefixes paths.now) self.now.limit token.old token.new }
+        ensures resolved { IfOk result (λ v. AreResolved (labels_of token.new.seen) paths.now v.items) }
+        ensures full { IfErr result (λ e. e ≢ Memory → IsFullForOne e self.now.limit (labels_of token.new.seen) paths.now) }
+        ensures counted { IsCounted token.old → IsCounted token.new }
+    {
+        let mut resolved = Vec::with_capacity(self.alloc, paths.len())?;
+        for path in paths {
+            let ordinals = match self.resolve(rt, token, path) {
+                Ok(ordinals) => ordinals,
+                Err(fault) => return Err(fault),
+            };
+            resolved.push(ordinals)?;
+        }
+        Ok(resolved)
+    }
+
+    /// The view of exactly what the token has then seen. It waits for the labels' turn, and copies every label in it: time and memory go with the whole
+    /// list.
+    pub fn snapshot<R: Wait>(&self, rt: &R, token: &mut Token<Path>) -> Result<TaxoView, NoMemory>
+        requires own { token.old.identity ≡ self.now.labels }
+        requires idle { MayTake token.old }
+        ensures token { SameToken token.old token.new × (token.new.holds_turn ≡ false) }
+        ensures more { SeesOn token.old token.new }
+        ensures labels { SeesLabels token.new }
+        ensures view { IfOk result (λ v. v ≡ labels_of token.new.seen) }
+        ensures counted { IsCounted token.new }
+    {
+        let list = self.labels.take(rt, token).into_list();
+        let view = list.view();
+        self.labels.give(token, LabelList::new(list));
+        view
+    }
+
+    /// The view of exactly what the token has then seen: the last one, shared, where no label is new, and else a new one. It waits for the labels' turn, and
+    /// copies every label in it where one is new. As Lucene's `openIfChanged` of a taxonomy reader.
+    pub fn renew<R: Wait>(
+        &self,
+        rt: &R,
+        token: &mut Token<Path>,
+        last: &Arc<TaxoView>,
+    ) -> Result<Arc<TaxoView>, NoMemory>
+        requires own { token.old.identity ≡ self.now.labels }
+        requires idle { MayTake token.old }
+        requires last { IsPrefix (arc_value last.now) (labels_of token.old.seen) }
+        ensures token { SameToken token.old token.new × (token.new.holds_turn ≡ false) }
+        ensures more { SeesOn token.old token.new }
+        ensures labels { SeesLabels token.new }
+        ensures view { IfOk result (λ v. arc_value v ≡ labels_of token.new.seen) }
+        ensures counted { IsCounted token.new }
+    {
+        let list = self.labels.take(rt, token).into_list();
+        let view = renewed(self.alloc, &list, last);
+        self.labels.give(token, LabelList::new(list));
+        view
+    }
+
+    /// The list of exactly what the token has then seen. It takes the labels' turn for good.
+    pub fn end<R: Wait>(&self, rt: &R, token: &mut Token<Path>) -> Taxonomy
+        requires own { token.old.identity ≡ self.now.labels }
+        requires idle { MayTake token.old }
+        ensures ended { EndsWith token.old token.new }
+        ensures more { SeesOn token.old token.new }
+        ensures labels { SeesLabels token.new }
+        ensures list { result ≡ labels_of token.new.seen }
+        ensures counted { IsCounted token.new }
+    {
+        self.labels.end(rt, token).into_list()
+    }
+
+    /// The labels chronicle.
+    pub fn labels(&self) -> &Chronicle<LabelList>
+        ensures { result.now ≡ self.now.labels }
+    {
+        &self.labels
+    }
+
+    /// Another token of the labels that may enter, as [`Chronicle::token`].
+    pub fn token(&self, first: &mut Token<Path>) -> Token<Path>
+        requires own { first.old.identity ≡ self.now.labels }
+        requires first { (first.old.is_note ≡ false) × (first.old.number ≡ 0) }
+        requires room { first.old.made < 2 ^ 64 - 1 }
+        ensures first { MakesOne first.old first.new }
+        ensures made { IsMadeFrom first.old result }
+        ensures mine { (mine first.new ≡ mine first.old) × (mine result ≡ []) }
+        ensures counted { IsCounted first.new }
+    {
+        self.labels.token(first)
+    }
+
+    /// A copy of what the token has seen of the labels, as [`Chronicle::note`].
+    pub fn note(&self, of: &mut Token<Path>) -> Token<Path>
+        requires own { of.old.identity ≡ self.now.labels }
+        ensures of { of.new ≡ of.old }
+        ensures note { IsNoteOf of.old result }
+        ensures counted { IsCounted of.new }
+    {
+        self.labels.note(of)
+    }
+
+    /// Tells `into` what `from` has seen of the labels, as [`Chronicle::meet`].
+    pub fn meet(&self, into: &mut Token<Path>, from: Token<Path>)
+        requires own { (into.old.identity ≡ self.now.labels) × (from.identity ≡ self.now.labels) }
+        requires idle { (into.old.holds_turn ≡ false) × (from.holds_turn ≡ false) }
+        ensures same { SameToken into.old into.new × (into.new.holds_turn ≡ false) }
+        ensures one { IsPrefix into.old.seen from.seen ⊎ IsPrefix from.seen into.old.seen }
+        ensures longer { into.new.seen ≡ longer into.old.seen from.seen }
+        ensures told { IsPrefix from.seen into.new.seen }
+        ensures more { SeesOn into.old into.new }
+        ensures counted { IsCounted into.new }
+    {
+        self.labels.meet(into, from)
+    }
+}
