@@ -1,0 +1,120 @@
+-- What an index keeps true of its fields, where it notes more labels, a document waits, and what waits becomes a segment.
+use Rattle.std.proofs.Common.{◌≡◌, ℕ, ◌+◌, ◌≤◌, List, [], ◌∷◌, ◌++◌, length, map, refl, sym, ap, subst, ◌∙◌, arith, append_assoc, replicate, true, false, if◌then◌else◌}
+use Rattle.std.proofs.lemmas.List.{append-nil, length-append, length-map, map-append}
+use Rattle.std.specs.Prelude.{◌≢◌, nat_lt}
+use Rattle.std.proofs.lemmas.Bool.{lt-ltb}
+use mathlib.Core.List.{IsPrefix}
+use Rattle.facet_names.specs.Labels.{GoesOn}
+use Rattle.facet_names.proofs.LabelLists.{Labels}
+use Rattle.facet_model.specs.Documents.{Doc}
+use Rattle.facet_model.specs.Flags.{Config}
+use Rattle.facet_model.specs.Histories.{Operation, docs}
+use Rattle.facet_model.specs.Stored.{Records, Decodes}
+use Rattle.seg_grammar.specs.Spelling.{IsSegment, seg_bytes}
+use Rattle.seg_terms.specs.Entries.{segment_of}
+use Rattle.seg_terms.specs.declared.entry.Entry.{Entry}
+use Rattle.seg_decoding.specs.Decoding.{docs_in, flushed}
+use Rattle.seg_decoding.specs.Entries.{IsEntry, AreEntries, docs_of}
+use Rattle.seg_decoding.proofs.Decoded.{decoded, decodes_stay, entries_stay, flushed_decodes}
+use Rattle.chronicle.specs.Shown.{Shown}
+use Rattle.taxo_cache.specs.Seen.{labels_of, SeesLabels}
+use Rattle.taxo_writer.proofs.Growing.{seen_goes_on}
+use Rattle.index_state.specs.Index.{Index, StandsFor, opened, AreOwn}
+use Rattle.index_state.specs.Kept.{IsKept}
+
+are_push : (config : Config) (known : Labels) (entries : List Entry) (e : Entry) → AreEntries config known entries → IsEntry config known e → AreEntries config known (entries ++ e ∷ [])
+are_push config known [] e are one = (one, tt)
+are_push config known (x ∷ entries) e are one = (are.0, are_push config known entries e are.1 one)
+
+own_push : (ss : List Records) (s : Records) → AreOwn ss → IsSegment (seg_bytes s) s → AreOwn (ss ++ s ∷ [])
+own_push [] s all one = (one, tt)
+own_push (r ∷ ss) s all one = (all.0, own_push ss s all.1 one)
+
+-- each segment is read from its own bytes, and so is one that the entries become
+own_flushed : (segments : List Records) (waiting : List Entry) → AreOwn segments → (waiting ≢ [] → IsSegment (seg_bytes (segment_of waiting)) (segment_of waiting)) → AreOwn (flushed segments waiting)
+own_flushed segments [] own new = own
+own_flushed segments (e ∷ es) own new = own_push segments (segment_of (e ∷ es)) own (new (λ none. cc none))
+
+module _ (config : Config) (labels : Shown (List (List ℕ))) (segments : List Records) (waiting : List Entry) (sessions : List ℕ) (max_docs : ℕ) (kept : IsKept config labels segments waiting sessions max_docs) where
+  -- ---- more labels are noted
+
+  module _ (next : Shown (List (List ℕ))) (more : IsPrefix labels.seen next.seen) (list : SeesLabels next) where
+    -- the documents of the segments stay
+    pub noted_docs : docs_in (labels_of next.seen) segments ≡ docs_in (labels_of labels.seen) segments
+    noted_docs = decoded (labels_of next.seen) config segments (docs_in (labels_of labels.seen) segments)
+        (decodes_stay config (labels_of labels.seen) (labels_of next.seen) kept.list list (seen_goes_on labels.seen next.seen more) segments (docs_in (labels_of labels.seen) segments) kept.decoded)
+
+    -- and a document waits, which has its ordinals under the labels that `told` has seen
+    pub kept_appended : (told : Shown (List (List ℕ))) (e : Entry) (session : ℕ) → (next.is_note ≡ true) × (next.holds_turn ≡ false) → SeesLabels told → IsPrefix told.seen next.seen → IsEntry config (labels_of told.seen) e → length sessions + 1 ≤ max_docs
+        → IsKept config next segments (waiting ++ e ∷ []) (sessions ++ session ∷ []) max_docs
+    kept_appended told e session note list_told begins entry room =
+        let on : GoesOn (labels_of labels.seen) (labels_of next.seen) = seen_goes_on labels.seen next.seen more in
+        record {
+          note = note;
+          list = list;
+          decoded = subst (Decodes (labels_of next.seen) config segments) (sym noted_docs) (decodes_stay config (labels_of labels.seen) (labels_of next.seen) kept.list list on segments (docs_in (labels_of labels.seen) segments) kept.decoded);
+          own = kept.own;
+          entries = are_push config (labels_of next.seen) waiting e (entries_stay config (labels_of labels.seen) (labels_of next.seen) kept.list list on waiting kept.entries)
+              (entries_stay config (labels_of told.seen) (labels_of next.seen) list_told list (seen_goes_on told.seen next.seen begins) (e ∷ []) (entry, tt)).0;
+          each = omega (arith, kept.each, ap length noted_docs, length-append waiting (e ∷ []), length-append sessions (session ∷ []));
+          few = omega (arith, kept.most, room, length-append sessions (session ∷ []));
+          most = kept.most;
+        }
+
+    pub appended_docs : (e : Entry) → docs_in (labels_of next.seen) segments ++ docs_of (waiting ++ e ∷ []) ≡ (docs_in (labels_of labels.seen) segments ++ docs_of waiting) ++ e.doc ∷ []
+    appended_docs e = (λ i. noted_docs i ++ map-append (λ (x : Entry). x.doc) waiting (e ∷ []) i) ∙ sym (append_assoc (docs_in (labels_of labels.seen) segments) (docs_of waiting) (e.doc ∷ []))
+
+  -- ---- what waits becomes a segment
+
+  decodes_all : Decodes (labels_of labels.seen) config (flushed segments waiting) (docs_in (labels_of labels.seen) segments ++ docs_of waiting)
+  decodes_all = flushed_decodes config (labels_of labels.seen) segments (docs_in (labels_of labels.seen) segments) waiting kept.decoded kept.entries
+
+  pub flushed_docs : docs_in (labels_of labels.seen) (flushed segments waiting) ≡ docs_in (labels_of labels.seen) segments ++ docs_of waiting
+  flushed_docs = decoded (labels_of labels.seen) config (flushed segments waiting) (docs_in (labels_of labels.seen) segments ++ docs_of waiting) decodes_all
+
+  pub kept_flushed : (waiting ≢ [] → IsSegment (seg_bytes (segment_of waiting)) (segment_of waiting)) → IsKept config labels (flushed segments waiting) [] sessions max_docs
+  kept_flushed new = record {
+    note = kept.note;
+    list = kept.list;
+    decoded = subst (Decodes (labels_of labels.seen) config (flushed segments waiting)) (sym flushed_docs) decodes_all;
+    own = own_flushed segments waiting kept.own new;
+    entries = tt;
+    each = omega (arith, kept.each, ap length flushed_docs, length-append (docs_in (labels_of labels.seen) segments) (docs_of waiting), length-map waiting (λ (e : Entry). e.doc));
+    few = kept.few;
+    most = kept.most;
+  }
+
+  -- there is a session for each document
+  pub as_many : length sessions ≡ length (docs_in (labels_of labels.seen) segments ++ docs_of waiting)
+  as_many = omega (arith, kept.each, length-append (docs_in (labels_of labels.seen) segments) (docs_of waiting), length-map waiting (λ (e : Entry). e.doc))
+
+-- ---- histories
+
+zeros_of : (ds : List Doc) → replicate (length ds) 0 ≡ map (λ (o : Operation). o.session) (opened ds)
+zeros_of [] = refl
+zeros_of (d ∷ ds) = ap (λ (l : List ℕ). 0 ∷ l) (zeros_of ds)
+
+docs_of_opened : (ds : List Doc) → ds ≡ docs (opened ds)
+docs_of_opened [] = refl
+docs_of_opened (d ∷ ds) = ap (λ (l : List Doc). d ∷ l) (docs_of_opened ds)
+
+pub opened_stands : (index : Index) → index.sessions ≡ replicate (length index.docs) 0 → StandsFor index (opened index.docs)
+opened_stands index sessions = record { documents = docs_of_opened index.docs; numbers = sessions ∙ zeros_of index.docs }
+
+pub one_more_stands : (old new : Index) (session : ℕ) (doc : Doc) → new.docs ≡ old.docs ++ doc ∷ [] → new.sessions ≡ old.sessions ++ session ∷ [] → (history : List Operation) → StandsFor old history → StandsFor new (history ++ record { session = session; doc = doc } ∷ [])
+one_more_stands old new session doc docs_more sessions_more history stands =
+    let o : Operation = record { session = session; doc = doc } in
+    record {
+      documents = docs_more ∙ ap (λ (l : List Doc). l ++ doc ∷ []) stands.documents ∙ sym (map-append (λ (x : Operation). x.doc) history (o ∷ []));
+      numbers = sessions_more ∙ ap (λ (l : List ℕ). l ++ session ∷ []) stands.numbers ∙ sym (map-append (λ (x : Operation). x.session) history (o ∷ []));
+    }
+
+-- ---- what waits, as segments
+
+pub flushed_count : (segments : List Records) (waiting : List Entry) → length (flushed segments waiting) ≡ length segments + (if nat_lt 0 (length waiting) then 1 else 0)
+flushed_count segments [] = omega arith
+flushed_count segments (e ∷ es) = rw (lt-ltb 0 (length (e ∷ es)) (omega arith)) (length-append segments (segment_of (e ∷ es) ∷ []))
+
+pub flushed_on : (segments : List Records) (waiting : List Entry) → IsPrefix segments (flushed segments waiting)
+flushed_on segments [] = ([], append-nil segments)
+flushed_on segments (e ∷ es) = (segment_of (e ∷ es) ∷ [], refl)

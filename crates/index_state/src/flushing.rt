@@ -1,0 +1,70 @@
+//! Lists of segments: one segment more, the same segments shared, and how many documents they have.
+ghost use Rattle.std.specs.Prelude.{◌≡◌, ◌≢◌, ◌≤◌, [], length, map, replicate, IfErr, IfOk, OnOk};
+ghost use Rattle.std.specs.Arc.{arc_value};
+ghost use Rattle.seg_grammar.specs.Spelling.{IsSegment, seg_bytes};
+ghost use Rattle.seg_terms.specs.Entries.{segment_of};
+ghost use Rattle.seg_decoding.specs.Decoding.{flushed, records_in};
+
+use facet_names::NoMemory;
+use seg_file::{Entry, Segment};
+use std::alloc::Global;
+use std::sync::Arc;
+
+/// Turns the entries, if there are any, into one segment behind these, and tells how many documents it has. Without memory all stays as it was.
+pub fn flush(
+    alloc: Global,
+    segments: &mut Vec<Arc<Segment>>,
+    entries: &mut Vec<Entry>,
+) -> Result<u32, NoMemory>
+    requires { length entries.old.items ≤ 1000000 }
+    ensures added { IfOk result (λ n. n ≡ length entries.old.items) }
+    ensures segments { OnOk result (map arc_value segments.new.items ≡ flushed (map arc_value segments.old.items) entries.old.items) }
+    ensures own { OnOk result (entries.old.items ≢ [] → IsSegment (seg_bytes (segment_of entries.old.items)) (segment_of entries.old.items)) }
+    ensures entries { OnOk result (entries.new.items ≡ []) }
+    ensures same_segments { IfErr result (λ _. segments.new.items ≡ segments.old.items) }
+    ensures same_entries { IfErr result (λ _. entries.new.items ≡ entries.old.items) }
+{
+    if entries.is_empty() {
+        return Ok(0);
+    }
+    let segment = Segment::build(alloc, entries)?;
+    let docs = segment.docs();
+    let segment = Arc::new(alloc, segment)?;
+    segments.push(segment)?;
+    entries.clear();
+    Ok(docs)
+}
+
+/// The same segments once more, with one owner more of each.
+pub fn shared(alloc: Global, segments: &[Arc<Segment>]) -> Result<Vec<Arc<Segment>>, NoMemory>
+    ensures { IfOk result (λ again. map arc_value again.items ≡ map arc_value segments.now) }
+{
+    let mut again = Vec::with_capacity(alloc, segments.len())?;
+    for segment in segments {
+        again.push(Arc::try_clone(segment)?)?;
+    }
+    Ok(again)
+}
+
+/// How many documents these segments have.
+pub fn count(segments: &[Arc<Segment>]) -> usize
+    requires { length (records_in (map arc_value segments.now)) ≤ 1000000 }
+    ensures { result ≡ length (records_in (map arc_value segments.now)) }
+{
+    let mut count = 0;
+    for segment in segments {
+        count += segment.docs() as usize;
+    }
+    count
+}
+
+/// So many zeros.
+pub fn zeros(alloc: Global, n: usize) -> Result<Vec<u32>, NoMemory>
+    ensures { IfOk result (λ v. v.items ≡ replicate n 0) }
+{
+    let mut zeros = Vec::with_capacity(alloc, n)?;
+    for _ in 0..n {
+        zeros.push(0)?;
+    }
+    Ok(zeros)
+}

@@ -1,0 +1,28 @@
+ghost use Rattle.std.specs.Prelude.{◌≡◌};
+
+use facet_model::Document;
+use std::marker::Model;
+
+/// An entry of the operations chronicle: a session added a document.
+#[derive(Drop)]
+pub struct Operation {
+    session: u32,
+    doc: Document,
+}
+
+impl Model for Operation {
+    ghost use Rattle.facet_model.specs.Histories.{Operation as Added};
+
+    ghost Value = { Added };
+
+    ghost view = { λ o. record { session = o.session; doc = o.doc } };
+}
+
+impl Operation {
+    /// The operation by which the session of this number added the document.
+    pub fn new(session: u32, doc: Document) -> Operation
+        ensures { result ≡ record { session = session; doc = doc } }
+    {
+        Operation { session, doc }
+    }
+}

@@ -1,0 +1,188 @@
+ghost use Rattle.std.specs.Prelude.{◌≡◌, ◌≢◌, ◌≤◌, ◌⊎◌, true, false, Err, IfOk, IfErr, OnOk, OnErr, length, map};
+ghost use Rattle.std.specs.Arc.{arc_value};
+ghost use mathlib.Core.List.{IsPrefix};
+ghost use Rattle.facet_model.specs.Stored.{Decodes};
+ghost use Rattle.chronicle.specs.Shown.{IsNoteOf};
+ghost use Rattle.seg_decoding.specs.Entries.{IsEntry};
+ghost use Rattle.taxo_cache.specs.Seen.{labels_of, SeesLabels};
+ghost use Rattle.index_state.specs.Index.{StandsFor, StandsForMore, opened, docs_under, DecodeUnder, AreOwn, IsAppended, IsFlushed};
+ghost use Rattle.index_state.specs.declared.fault.AppendFault.TheVariants.{DocsFull, NoMemory as Memory};
+
+use crate::fault::AppendFault;
+use crate::flushing::{count, flush, shared, zeros};
+use crate::operation::Operation;
+use crate::view::IndexView;
+use chronicle::{Chronicle, Standing, Token};
+use facet_config::FacetsConfig;
+use facet_names::{NoMemory, Path};
+use seg_file::{Entry, Segment};
+use std::alloc::Global;
+use std::marker::Model;
+use std::sync::Arc;
+use taxo_writer::LabelList;
+
+/// The value of the operations chronicle, as Lucene's `IndexWriter` behind a lock. The documents of its segments and then those that wait in memory are those
+/// of the history, under the labels that it has noted.
+///
+/// A document that waits is kept with its ordinals, until it becomes part of a segment and is bytes.
+#[derive(Drop)]
+pub struct IndexState {
+    alloc: Global,
+    segments: Vec<Arc<Segment>>,
+    waiting: Vec<Entry>,
+    // of each document
+    sessions: Vec<u32>,
+    config: Arc<FacetsConfig>,
+    max_docs: u32,
+    labels: Token<Path>,
+}
+
+impl Model for IndexState {
+    ghost use Rattle.std.specs.Prelude.{map};
+    ghost use Rattle.std.specs.Arc.{arc_value};
+    ghost use Rattle.index_state.specs.Index.{Index, index_of};
+    ghost use Rattle.index_state.specs.Kept.{IsKept};
+
+    ghost Value = { Index };
+
+    ghost view = { λ s. index_of (map arc_value s.segments.items) s.waiting.items s.sessions.items (arc_value s.config) s.max_docs s.labels };
+
+    ghost invariant = { λ s. IsKept (arc_value s.config) s.labels (map arc_value s.segments.items) s.waiting.items s.sessions.items s.max_docs };
+}
+
+impl Standing for IndexState {
+    ghost use Rattle.index_state.specs.Index.{StandsFor, opened};
+    ghost use Rattle.index_state.specs.Frames.{frame_of};
+
+    type Entry = Operation;
+
+    ghost stands = { λ index history. StandsFor index history };
+
+    ghost opening = { λ index. opened index.docs };
+
+    ghost frame = { λ index. frame_of index };
+}
+
+impl IndexState {
+    /// The index of segments that were opened, under labels that were noted. Each of their documents counts as added by session 0. It takes four bytes of
+    /// memory for each document.
+    pub fn open(
+        alloc: Global,
+        segments: Vec<Arc<Segment>>,
+        labels: Token<Path>,
+        config: Arc<FacetsConfig>,
+        max_docs: u32,
+    ) -> Result<IndexState, NoMemory>
+        requires note { (labels.is_note ≡ true) × (labels.holds_turn ≡ false) }
+        requires labels { SeesLabels labels }
+        requires decodes { DecodeUnder labels (arc_value config) (map arc_value segments.items) }
+        requires own { AreOwn (map arc_value segments.items) }
+        requires few { length (docs_under labels (map arc_value segments.items)) ≤ 1000000 }
+        requires most { max_docs ≤ 1000000 }
+        ensures docs { IfOk result (λ s. s.docs ≡ docs_under labels (map arc_value segments.items)) }
+        ensures segments { IfOk result (λ s. (s.segments ≡ map arc_value segments.items) × (s.waiting ≡ 0)) }
+        ensures labels { IfOk result (λ s. s.labels ≡ labels) }
+        ensures config { IfOk result (λ s. (s.config ≡ arc_value config) × (s.max_docs ≡ max_docs)) }
+        ensures stands { IfOk result (λ s. StandsFor s (opened s.docs)) }
+    {
+        let sessions = zeros(alloc, count(&segments))?;
+        Ok(IndexState {
+            alloc,
+            segments,
+            waiting: Vec::new(alloc),
+            sessions,
+            config,
+            max_docs,
+            labels,
+        })
+    }
+
+    /// Adds a document of a session behind all others, and answers its place. Its ordinals are those under the labels that `seen` has seen, and the index has
+    /// then noted these. After a refusal all is as before.
+    ///
+    /// It only puts the document into memory: its cost does not depend on how many there are.
+    pub fn append(
+        &mut self,
+        chronicle: &Chronicle<LabelList>,
+        seen: &mut Token<Path>,
+        session: u32,
+        entry: Entry,
+    ) -> Result<u64, AppendFault>
+        requires own { (seen.old.identity ≡ chronicle.now) × (self.old.labels.identity ≡ chronicle.now) }
+        requires labels { SeesLabels seen.old }
+        requires entry { IsEntry self.old.config (labels_of seen.old.seen) entry }
+        ensures seen { seen.new ≡ seen.old }
+        ensures place { IfOk result (λ at. at ≡ length self.old.docs) }
+        ensures appended { OnOk result (IsAppended session entry.doc self.old self.new) }
+        ensures stands { OnOk result (StandsForMore session entry.doc self.old self.new) }
+        ensures noted { OnOk result (IsPrefix seen.old.seen self.new.labels.seen) }
+        ensures full { self.old.max_docs ≤ length self.old.docs → result ≡ Err (DocsFull (length self.old.docs)) }
+        ensures refused { IfErr result (λ e. e ≢ Memory → (e ≡ DocsFull (length self.old.docs)) × (self.old.max_docs ≤ length self.old.docs)) }
+        ensures unchanged { OnErr result (self.new ≡ self.old) }
+    {
+        let at = self.sessions.len() as u64;
+        if at >= self.max_docs as u64 {
+            return Err(AppendFault::DocsFull { count: at });
+        }
+        self.sessions.reserve(1)?;
+        self.waiting.reserve(1)?;
+        let note = chronicle.note(seen);
+        chronicle.meet(&mut self.labels, note);
+        self.sessions.push(session)?;
+        self.waiting.push(entry)?;
+        Ok(at)
+    }
+
+    /// The documents that wait become a segment, and it answers how many they are. Where none waits, no segment is made and no memory taken.
+    ///
+    /// It costs as much as [`Segment::build`] of these documents, whatever else the index has. Without memory all is as before.
+    pub fn flush(&mut self) -> Result<u32, NoMemory>
+        ensures many { IfOk result (λ n. n ≡ self.old.waiting) }
+        ensures flushed { OnOk result (IsFlushed self.old self.new) }
+        ensures unchanged { OnErr result (self.new ≡ self.old) }
+    {
+        let docs = flush(self.alloc, &mut self.segments, &mut self.waiting)?;
+        Ok(docs)
+    }
+
+    /// The index as it stands. The documents that wait become a segment first, also where there is no memory for the rest. All segments are shared and none is
+    /// copied; it takes eight bytes of memory for each.
+    pub fn snapshot(&mut self, chronicle: &Chronicle<LabelList>) -> Result<IndexView, NoMemory>
+        requires own { self.old.labels.identity ≡ chronicle.now }
+        ensures rest { (self.new ≡ self.old) ⊎ IsFlushed self.old self.new }
+        ensures flushed { OnOk result (IsFlushed self.old self.new) }
+        ensures segments { IfOk result (λ v. map arc_value v.segments.items ≡ self.new.segments) }
+        ensures operations { IfOk result (λ v. v.operations ≡ length self.old.docs) }
+        ensures note { IfOk result (λ v. IsNoteOf self.old.labels v.labels) }
+        ensures labels { IfOk result (λ v. SeesLabels v.labels) }
+        ensures decodes { IfOk result (λ v. Decodes (labels_of v.labels.seen) self.old.config (map arc_value v.segments.items) self.old.docs) }
+        ensures own { IfOk result (λ v. AreOwn (map arc_value v.segments.items)) }
+    {
+        self.flush()?;
+        let segments = shared(self.alloc, &self.segments)?;
+        Ok(IndexView {
+            segments,
+            operations: self.sessions.len() as u64,
+            labels: chronicle.note(&mut self.labels),
+        })
+    }
+
+    /// The segments of all documents but those that wait.
+    pub fn segments(&self) -> &[Arc<Segment>]
+        ensures segments { map arc_value result.now ≡ self.now.segments }
+        ensures docs { self.now.waiting ≡ 0 → docs_under self.now.labels self.now.segments ≡ self.now.docs }
+        ensures decodes { DecodeUnder self.now.labels self.now.config self.now.segments }
+        ensures few { length (docs_under self.now.labels self.now.segments) ≤ 1000000 }
+        ensures own { AreOwn self.now.segments }
+        ensures labels { SeesLabels self.now.labels }
+    {
+        &self.segments
+    }
+
+    /// The session of each operation, in order. It takes no memory.
+    pub fn into_sessions(self) -> Vec<u32>
+        ensures { result.items ≡ self.sessions }
+    {
+        self.sessions
+    }
+}
