@@ -1,0 +1,40 @@
+use Rattle.std.proofs.Common.{◌≡◌, ◌∙◌, ℕ, List, map, ap, sym, subst}
+use Rattle.std.specs.Arc.{arc_value}
+use mathlib.Core.List.{IsPrefix}
+use Rattle.facet_names.specs.Labels.{IsLabelList, GoesOn}
+use Rattle.facet_names.proofs.LabelLists.{Labels}
+use Rattle.facet_model.specs.Flags.{Config}
+use Rattle.facet_model.specs.Histories.{Operation, docs}
+use Rattle.facet_model.specs.Stored.{Decodes}
+use Rattle.seg_decoding.proofs.Decoded.{decodes_stay}
+use Rattle.chronicle.specs.History.{entries}
+use Rattle.chronicle.proofs.Prefixes.{prefix_trans}
+use Rattle.taxo_cache.specs.Seen.{labels_of}
+use Rattle.taxo_writer.proofs.Growing.{labels_begin, seen_goes_on}
+use Rattle.pair_manager.specs.Published.{Published}
+use Rattle.pair_manager.proofs.manager.Manager.make_pair.Goals as goal
+
+pub renew-requires-clause-last : goal.renew-requires-clause-last
+renew-requires-clause-last g c =
+    let last = c.args.last.now in
+    let is : arc_value c.shared_view.result.now ≡ labels_of last.labels.seen = c.shared_view.ensures ∙ ap (λ (p : Published). labels_of p.labels.seen) (c.deref.ensures ∙ c.last.view_is) in
+    subst (λ (v : Labels). IsPrefix v (labels_of c.meet.new.into.seen)) (sym is)
+    (labels_begin last.labels.seen c.meet.new.into.seen (prefix_trans last.labels.seen c.args.labels.now.seen c.meet.new.into.seen c.requires.last c.meet.ensures.more.0))
+
+pub new-requires-clause-decodes : goal.new-requires-clause-decodes
+new-requires-clause-decodes g c =
+    let config = c.args.last.now.config in
+    let index = c.in_ok-segments.field-0 in
+    let all = map arc_value index.segments.items in
+    let history = c.note.result in
+    let labels = c.note-2.result in
+    let taken = c.renew.new.token in
+    let seen : labels.seen ≡ taken.seen = c.note-2.ensures.note.2 in
+    let list : IsLabelList (labels_of labels.seen) = subst (λ (l : List (ℕ × List (List ℕ))). IsLabelList (labels_of l)) (sym seen) c.renew.ensures.labels in
+    let more : IsPrefix index.labels.seen labels.seen = subst (IsPrefix index.labels.seen) (sym seen) (prefix_trans index.labels.seen c.meet.new.into.seen taken.seen c.meet.ensures.told c.renew.ensures.more.0) in
+    let on : GoesOn (labels_of index.labels.seen) (labels_of labels.seen) = seen_goes_on index.labels.seen labels.seen more in
+    let same : history.seen ≡ c.take_index.new.token.seen = c.note.ensures.note.2 in
+    let decodes : Decodes (labels_of index.labels.seen) config all (docs (entries history.seen)) = subst (λ (l : List (ℕ × Operation)). Decodes (labels_of index.labels.seen) config all (docs (entries l))) (sym same) (c.in_ok-segments.ensures.decodes config c.requires.config) in
+    let shared : arc_value c.in_ok-config.config ≡ config = c.in_ok-config.ensures ∙ c.shared_config.ensures ∙ ap (λ (p : Published). p.config) (c.deref-2.ensures ∙ c.last.view_is) in
+    subst (λ (x : Config). Decodes (labels_of labels.seen) x all (docs (entries history.seen))) (sym shared)
+    (decodes_stay config (labels_of index.labels.seen) (labels_of labels.seen) c.in_ok-segments.ensures.labels list on all (docs (entries history.seen)) decodes)

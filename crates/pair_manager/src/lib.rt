@@ -1,0 +1,19 @@
+//! Published pairs of an index and a taxonomy, which searches hold on to, as Lucene's `SearcherTaxonomyManager`.
+#![tactic(auto)]
+
+mod lease;
+mod manager;
+mod opening;
+mod pair;
+mod pass;
+mod point;
+mod publication;
+mod state;
+
+pub use lease::{Lease, release};
+pub use manager::{Manager, Stats};
+pub use pair::Pair;
+pub use pass::Pass;
+pub use point::CommitPoint;
+pub use publication::Publication;
+pub use state::PairState;

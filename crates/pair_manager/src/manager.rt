@@ -1,0 +1,387 @@
+ghost use Rattle.std.specs.Prelude.{◌≡◌, ◌≤◌, ◌++◌, ◌∷◌, [], false, true, List, IfOk, IfErr, OnOk, OnErr, length, map, take};
+ghost use Rattle.std.specs.Arc.{arc_value};
+ghost use mathlib.Core.List.{IsPrefix};
+ghost use Rattle.facet_model.specs.ConfigTexts.{config_texts};
+ghost use Rattle.facet_model.specs.Flags.{Config};
+ghost use Rattle.facet_model.specs.Histories.{docs};
+ghost use Rattle.facet_model.specs.Stored.{Decodes};
+ghost use Rattle.chronicle.specs.History.{entries};
+ghost use Rattle.chronicle.specs.Shown.{mine, IsNoteOf, MayTake, SameToken, SeesOn, EntersBehind};
+ghost use Rattle.taxo_cache.specs.Seen.{labels_of, SeesLabels};
+ghost use Rattle.index_state.specs.Index.{opened, docs_under, DecodeUnder, AreOwn};
+ghost use Rattle.index_state.specs.Frames.{index_frame};
+ghost use Rattle.pair_manager.specs.Published.{ArePublications, publication_of, frame_of, pair_frame, StandsFor, IsLast, IsNewest, seen_of};
+ghost use Rattle.pair_manager.specs.Kept.{IsPair};
+ghost use Rattle.pair_manager.specs.Passes.{IsOf, IsFirst, SamePass, all_seen};
+
+use crate::lease::Lease;
+use crate::opening::open_index;
+use crate::pair::Pair;
+use crate::pass::Pass;
+use crate::publication::Publication;
+use crate::state::PairState;
+use chronicle::{Chronicle, Token};
+use facet_config::FacetsConfig;
+use facet_names::{NoMemory, Path};
+use index_state::{IndexState, IndexView, Operation};
+use seg_file::Segment;
+use std::alloc::Global;
+use std::marker::Model;
+use std::sync::{Arc, Wait};
+use taxo_cache::Name;
+use taxo_list::TaxoView;
+use taxo_writer::{LabelList, TaxoWriter};
+
+/// How many operations, labels with the root, and documents the last published pair has.
+#[derive(Drop, Clone, Copy, Debug, PartialEq, Eq)]
+pub struct Stats {
+    pub operations: u64,
+    pub labels: u32,
+    pub documents: u32,
+}
+
+/// Publishes pairs, and hands out the last one, to callers on any threads, each with a pass of its own. It has the writer of labels and the chronicles of the
+/// operations and of the pairs.
+///
+/// No call holds two turns but [`refresh`](Manager::refresh), which takes that of the pairs before any other; so no two callers wait for each other.
+#[derive(Drop)]
+pub struct Manager<N: Name> {
+    alloc: Global,
+    writer: TaxoWriter<N>,
+    operations: Chronicle<IndexState>,
+    pairs: Chronicle<PairState>,
+}
+
+impl<N: Name> Model for Manager<N> {
+    ghost use Rattle.pair_manager.specs.Passes.{Managed};
+
+    ghost Value = { Managed };
+
+    ghost view = { λ m. record { writer = m.writer; operations = m.operations; pairs = m.pairs } };
+}
+
+impl<N: Name> Manager<N> {
+    /// Publishes the pair of what was opened, over the writer's labels. Each opened document counts as added by session 0. It answers the first token of the
+    /// operations and that of the pairs.
+    pub fn open(
+        alloc: Global,
+        writer: TaxoWriter<N>,
+        labels: &mut Token<Path>,
+        view: TaxoView,
+        segments: Vec<Arc<Segment>>,
+        config: Arc<FacetsConfig>,
+        max_docs: u32,
+    ) -> Result<(Manager<N>, Token<Operation>, Token<Publication>), NoMemory>
+        requires own { labels.old.identity ≡ writer.labels }
+        requires list { SeesLabels labels.old }
+        requires view { view ≡ labels_of labels.old.seen }
+        requires decodes { DecodeUnder labels.old (arc_value config) (map arc_value segments.items) }
+        requires read { AreOwn (map arc_value segments.items) }
+        requires few { length (docs_under labels.old (map arc_value segments.items)) ≤ 1000000 }
+        requires most { max_docs ≤ 1000000 }
+        ensures labels { labels.new ≡ labels.old }
+        ensures writer { IfOk result (λ r. r.0.writer ≡ writer) }
+        ensures operations { IfOk result (λ r. IsFirst r.1 r.0.operations (opened (docs_under labels.old (map arc_value segments.items)))) }
+        ensures pairs { IfOk result (λ r. IsFirst r.2 r.0.pairs (seen_of r.1 labels.old ∷ [])) }
+        ensures right { IfOk result (λ r. ArePublications labels.old.seen r.1.seen (entries r.2.seen)) }
+        ensures index_frame { IfOk result (λ r. r.1.frame ≡ index_frame (arc_value config) max_docs writer.labels) }
+        ensures pair_frame { IfOk result (λ r. r.2.frame ≡ pair_frame (arc_value config) r.0.operations writer.labels) }
+    {
+        let (index, taken) = open_index(
+            alloc,
+            writer.labels(),
+            labels,
+            segments,
+            &config,
+            max_docs,
+        )?;
+        let view = Arc::new(alloc, view)?;
+        let Ok((operations, mut first)) = Chronicle::open(alloc, index) else {
+            return Err(NoMemory);
+        };
+        let pair = Pair::new(
+            view,
+            taken.segments,
+            config,
+            taken.operations,
+            operations.note(&mut first),
+            writer.note(labels),
+        );
+        let state = PairState::new(
+            alloc,
+            pair,
+            operations.note(&mut first),
+            writer.note(labels),
+        )?;
+        let Ok((pairs, token)) = Chronicle::open(alloc, state) else {
+            return Err(NoMemory);
+        };
+        let manager = Manager {
+            alloc,
+            writer,
+            operations,
+            pairs,
+        };
+        Ok((manager, first, token))
+    }
+
+    /// The writer of labels.
+    pub fn writer(&self) -> &TaxoWriter<N>
+        ensures { result.now ≡ self.now.writer }
+    {
+        &self.writer
+    }
+
+    /// The operations.
+    pub fn operations(&self) -> &Chronicle<IndexState>
+        ensures { result.now ≡ self.now.operations }
+    {
+        &self.operations
+    }
+
+    /// The publications.
+    pub fn pairs(&self) -> &Chronicle<PairState>
+        ensures { result.now ≡ self.now.pairs }
+    {
+        &self.pairs
+    }
+
+    /// The index as it stands, as [`IndexState::snapshot`]. The token has then seen exactly its operations. It waits for the operations' turn, in which the
+    /// documents that wait become a segment.
+    pub fn take_index<R: Wait>(
+        &self,
+        rt: &R,
+        token: &mut Token<Operation>,
+    ) -> Result<IndexView, NoMemory>
+        requires own { token.old.identity ≡ self.now.operations }
+        requires idle { MayTake token.old }
+        requires tied { token.old.frame.identities ≡ self.now.writer.labels ∷ [] }
+        ensures token { SameToken token.old token.new × (token.new.holds_turn ≡ false) }
+        ensures more { SeesOn token.old token.new }
+        ensures own { IfOk result (λ v. v.labels.identity ≡ self.now.writer.labels) }
+        ensures labels { IfOk result (λ v. SeesLabels v.labels) }
+        ensures operations { IfOk result (λ v. v.operations ≡ length token.new.seen) }
+        ensures decodes { IfOk result (λ v. (config : Config) → config_texts config ≡ token.old.frame.texts
+            → Decodes (labels_of v.labels.seen) config (map arc_value v.segments.items) (docs (entries token.new.seen))) }
+        ensures read { IfOk result (λ v. AreOwn (map arc_value v.segments.items)) }
+    {
+        let mut index = self.operations.take(rt, token);
+        let view = index.snapshot(self.writer.labels());
+        self.operations.give(token, index);
+        view
+    }
+
+    // The next pair, with all operations and labels as they then stand. It takes the view of the last one, where no label is new, and its config.
+    fn make_pair<R: Wait>(
+        &self,
+        rt: &R,
+        last: &PairState,
+        labels: &mut Token<Path>,
+        operations: &mut Token<Operation>,
+    ) -> Result<Pair, NoMemory>
+        requires own { (labels.old.identity ≡ self.now.writer.labels) × (operations.old.identity ≡ self.now.operations) }
+        requires idle { MayTake labels.old × MayTake operations.old }
+        requires list { SeesLabels labels.old }
+        requires last { IsPrefix last.now.labels.seen labels.old.seen }
+        requires tied { operations.old.frame.identities ≡ self.now.writer.labels ∷ [] }
+        requires config { config_texts last.now.config ≡ operations.old.frame.texts }
+        ensures labels { SameToken labels.old labels.new × (labels.new.holds_turn ≡ false) }
+        ensures more_labels { SeesOn labels.old labels.new }
+        ensures operations { SameToken operations.old operations.new × (operations.new.holds_turn ≡ false) }
+        ensures more_operations { SeesOn operations.old operations.new }
+        ensures list { SeesLabels labels.new }
+        ensures history { IfOk result (λ p. IsNoteOf operations.new p.history) }
+        ensures known { IfOk result (λ p. IsNoteOf labels.new p.labels) }
+        ensures config { IfOk result (λ p. p.config ≡ last.now.config) }
+        ensures is { IfOk result IsPair }
+    {
+        let IndexView {
+            segments,
+            operations: count,
+            labels: noted,
+        } = self.take_index(rt, operations)?;
+        self.writer.meet(labels, noted);
+        let view = self.writer.renew(rt, labels, last.pair.shared_view())?;
+        let config = Arc::try_clone(last.pair.shared_config())?;
+        Ok(Pair::new(
+            view,
+            segments,
+            config,
+            count,
+            self.operations.note(operations),
+            self.writer.note(labels),
+        ))
+    }
+
+    // The next pair, with its notes once more.
+    fn make_next<R: Wait>(
+        &self,
+        rt: &R,
+        last: &PairState,
+        labels: &mut Token<Path>,
+        operations: &mut Token<Operation>,
+    ) -> Result<PairState, NoMemory>
+        requires own { (labels.old.identity ≡ self.now.writer.labels) × (operations.old.identity ≡ self.now.operations) }
+        requires idle { MayTake labels.old × MayTake operations.old }
+        requires list { SeesLabels labels.old }
+        requires last { IsPrefix last.now.labels.seen labels.old.seen }
+        requires tied { operations.old.frame.identities ≡ self.now.writer.labels ∷ [] }
+        requires config { config_texts last.now.config ≡ operations.old.frame.texts }
+        ensures labels { SameToken labels.old labels.new × (labels.new.holds_turn ≡ false) }
+        ensures more_labels { SeesOn labels.old labels.new }
+        ensures operations { SameToken operations.old operations.new × (operations.new.holds_turn ≡ false) }
+        ensures more_operations { SeesOn operations.old operations.new }
+        ensures list { SeesLabels labels.new }
+        ensures history { IfOk result (λ p. IsNoteOf operations.new p.history) }
+        ensures known { IfOk result (λ p. IsNoteOf labels.new p.labels) }
+        ensures config { IfOk result (λ p. p.config ≡ last.now.config) }
+        ensures is { IfOk result IsPair }
+    {
+        let pair = self.make_pair(rt, last, labels, operations)?;
+        PairState::new(
+            self.alloc,
+            pair,
+            self.operations.note(operations),
+            self.writer.note(labels),
+        )
+    }
+
+    // Tells the tokens what the last pair has.
+    fn tell(
+        &self,
+        state: &mut PairState,
+        labels: &mut Token<Path>,
+        operations: &mut Token<Operation>,
+    )
+        requires own { (labels.old.identity ≡ self.now.writer.labels) × (operations.old.identity ≡ self.now.operations) }
+        requires of { (state.old.labels.identity ≡ self.now.writer.labels) × (state.old.history.identity ≡ self.now.operations) }
+        requires idle { MayTake labels.old × MayTake operations.old }
+        requires list { SeesLabels labels.old }
+        ensures state { state.new ≡ state.old }
+        ensures labels { SameToken labels.old labels.new × (labels.new.holds_turn ≡ false) }
+        ensures more_labels { SeesOn labels.old labels.new }
+        ensures operations { SameToken operations.old operations.new × (operations.new.holds_turn ≡ false) }
+        ensures more_operations { SeesOn operations.old operations.new }
+        ensures told { IsPrefix state.old.history.seen operations.new.seen × IsPrefix state.old.labels.seen labels.new.seen }
+        ensures list { SeesLabels labels.new }
+    {
+        let note = self.operations.note(&mut state.history);
+        self.operations.meet(operations, note);
+        let note = self.writer.note(&mut state.labels);
+        self.writer.meet(labels, note);
+    }
+
+    // The last pair, in its turn. The tokens have then seen what it has.
+    fn take_last<R: Wait>(
+        &self,
+        rt: &R,
+        pairs: &mut Token<Publication>,
+        labels: &mut Token<Path>,
+        operations: &mut Token<Operation>,
+    ) -> PairState
+        requires own { (labels.old.identity ≡ self.now.writer.labels) × (operations.old.identity ≡ self.now.operations) }
+        requires own_pairs { pairs.old.identity ≡ self.now.pairs }
+        requires idle { MayTake labels.old × MayTake operations.old × MayTake pairs.old }
+        requires list { SeesLabels labels.old }
+        requires tied { pairs.old.frame.identities ≡ operations.old.identity ∷ labels.old.identity ∷ [] }
+        ensures pairs { SameToken pairs.old pairs.new × (pairs.new.holds_turn ≡ true) }
+        ensures more_pairs { SeesOn pairs.old pairs.new }
+        ensures labels { SameToken labels.old labels.new × (labels.new.holds_turn ≡ false) }
+        ensures more_labels { SeesOn labels.old labels.new }
+        ensures operations { SameToken operations.old operations.new × (operations.new.holds_turn ≡ false) }
+        ensures more_operations { SeesOn operations.old operations.new }
+        ensures list { SeesLabels labels.new }
+        ensures last { StandsFor result (entries pairs.new.seen) }
+        ensures frame { frame_of result ≡ pairs.new.frame }
+        ensures told { IsPrefix result.history.seen operations.new.seen × IsPrefix result.labels.seen labels.new.seen }
+    {
+        let mut last = self.pairs.take(rt, pairs);
+        self.tell(&mut last, labels, operations);
+        last
+    }
+
+    /// Publishes a pair with all operations and labels as they then stand, and answers how many operations it has. The pass has then seen just these. Without
+    /// memory none is published.
+    ///
+    /// It waits for the pairs' turn, and in it for that of the operations and then for that of the labels: the labels that it takes cover the documents that it
+    /// took. The documents that wait become a segment first, and every label is copied where one is new; where nothing is new it takes eight bytes for each
+    /// segment. Others can add documents while the labels are copied.
+    pub fn refresh<R: Wait>(&self, rt: &R, pass: &mut Pass) -> Result<u64, NoMemory>
+        requires own { IsOf self.now pass.old }
+        ensures same { SamePass pass.old pass.new }
+        ensures labels { SeesOn pass.old.labels pass.new.labels }
+        ensures operations { SeesOn pass.old.operations pass.new.operations }
+        ensures pairs { IsPrefix pass.old.pairs.seen pass.new.pairs.seen }
+        ensures commits { pass.new.commits ≡ pass.old.commits }
+        ensures answer { IfOk result (λ n. n ≡ length pass.new.operations.seen) }
+        ensures fresh { IfOk result (λ n. length pass.old.operations.seen ≤ n) }
+        ensures covers { OnOk result (length (labels_of pass.old.labels.seen) ≤ (all_seen pass.new).labels) }
+        ensures enters { OnOk result (EntersBehind (all_seen pass.new) pass.old.pairs pass.new.pairs) }
+        ensures last { OnOk result (IsLast (all_seen pass.new) (entries pass.new.pairs.seen)) }
+        ensures none { OnErr result (mine pass.new.pairs ≡ mine pass.old.pairs) }
+    {
+        let last = self.take_last(rt, &mut pass.pairs, &mut pass.labels, &mut pass.operations);
+        match self.make_next(rt, &last, &mut pass.labels, &mut pass.operations) {
+            Ok(next) => {
+                let publication = next.publication();
+                self.pairs.enter(&mut pass.pairs, publication);
+                self.pairs.give(&mut pass.pairs, next);
+                Ok(publication.operations)
+            }
+            Err(NoMemory) => {
+                self.pairs.give(&mut pass.pairs, last);
+                Err(NoMemory)
+            }
+        }
+    }
+
+    /// The last published pair, which is no older than any that the pass had seen. The pass has then seen its operations and labels.
+    ///
+    /// It waits for the pairs' turn, so for a refresh that goes on. It copies nothing; for want of memory it is refused where there are too many leases.
+    pub fn acquire<R: Wait>(&self, rt: &R, pass: &mut Pass) -> Result<Lease, NoMemory>
+        requires own { IsOf self.now pass.old }
+        ensures same { SamePass pass.old pass.new }
+        ensures labels { SeesOn pass.old.labels pass.new.labels }
+        ensures operations { SeesOn pass.old.operations pass.new.operations }
+        ensures pairs { SeesOn pass.old.pairs pass.new.pairs }
+        ensures commits { pass.new.commits ≡ pass.old.commits }
+        ensures last { IfOk result (λ lease. IsLast (publication_of lease) (entries pass.new.pairs.seen)) }
+        ensures newest { IfOk result (λ lease. IsNewest (publication_of lease) (entries pass.new.pairs.seen)) }
+        ensures told { IfOk result (λ l. IsPrefix l.history.seen pass.new.operations.seen × IsPrefix l.labels.seen pass.new.labels.seen) }
+        ensures frame { IfOk result (λ lease. frame_of lease ≡ pass.old.pairs.frame) }
+    {
+        let last = self.take_last(rt, &mut pass.pairs, &mut pass.labels, &mut pass.operations);
+        let pair = Arc::try_clone(&last.pair);
+        self.pairs.give(&mut pass.pairs, last);
+        match pair {
+            Ok(pair) => Ok(Lease { pair }),
+            Err(_) => Err(NoMemory),
+        }
+    }
+
+    /// The numbers of the last published pair, without memory. The pass has then seen its operations and labels.
+    ///
+    /// It waits for the pairs' turn.
+    pub fn stats<R: Wait>(&self, rt: &R, pass: &mut Pass) -> Stats
+        requires own { IsOf self.now pass.old }
+        ensures same { SamePass pass.old pass.new }
+        ensures labels { SeesOn pass.old.labels pass.new.labels }
+        ensures operations { SeesOn pass.old.operations pass.new.operations }
+        ensures pairs { SeesOn pass.old.pairs pass.new.pairs }
+        ensures commits { pass.new.commits ≡ pass.old.commits }
+        ensures last { IsLast (record { operations = result.operations; labels = result.labels }) (entries pass.new.pairs.seen) }
+        ensures newest { IsNewest (record { operations = result.operations; labels = result.labels }) (entries pass.new.pairs.seen) }
+        ensures documents { result.documents ≡ length (docs (take result.operations (entries pass.new.operations.seen))) }
+        ensures told { (result.operations ≤ length pass.new.operations.seen) × (result.labels ≤ length (labels_of pass.new.labels.seen)) }
+    {
+        let last = self.take_last(rt, &mut pass.pairs, &mut pass.labels, &mut pass.operations);
+        let Publication { operations, labels } = last.publication();
+        let documents = last.pair.documents();
+        self.pairs.give(&mut pass.pairs, last);
+        Stats {
+            operations,
+            labels,
+            documents,
+        }
+    }
+}

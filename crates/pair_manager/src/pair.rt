@@ -1,0 +1,127 @@
+ghost use Rattle.std.specs.Prelude.{◌≡◌, ◌≤◌, length, map};
+ghost use Rattle.std.specs.Arc.{arc_value};
+ghost use Rattle.facet_model.specs.Histories.{docs};
+ghost use Rattle.facet_model.specs.Stored.{Decodes};
+ghost use Rattle.seg_decoding.specs.Decoding.{records_in};
+ghost use Rattle.chronicle.specs.History.{entries};
+ghost use Rattle.taxo_cache.specs.Seen.{labels_of, SeesLabels};
+ghost use Rattle.pair_manager.specs.Published.{published};
+ghost use Rattle.pair_manager.specs.Kept.{IsNote, IsPair, DecodesTo};
+
+use chronicle::Token;
+use facet_config::FacetsConfig;
+use facet_names::Path;
+use index_state::Operation;
+use seg_file::Segment;
+use std::marker::Model;
+use std::sync::Arc;
+use taxo_list::TaxoView;
+
+/// A published pair of an index and a taxonomy. It never changes, and may be shared by threads. Its segments decode, under its own view, to the documents of
+/// its operations.
+///
+/// It shares its segments and its view with the pairs before it where these are the same.
+#[derive(Drop)]
+pub struct Pair {
+    view: Arc<TaxoView>,
+    segments: Vec<Arc<Segment>>,
+    config: Arc<FacetsConfig>,
+    operations: u64,
+    history: Token<Operation>,
+    labels: Token<Path>,
+}
+
+impl Model for Pair {
+    ghost use Rattle.std.specs.Prelude.{map};
+    ghost use Rattle.std.specs.Arc.{arc_value};
+    ghost use Rattle.pair_manager.specs.Published.{Published, published};
+    ghost use Rattle.pair_manager.specs.Kept.{IsKept};
+
+    ghost Value = { Published };
+
+    ghost view = { λ p. published p.history p.labels (arc_value p.config) (map arc_value p.segments.items) };
+
+    ghost invariant = { λ p. IsKept (published p.history p.labels (arc_value p.config) (map arc_value p.segments.items)) (arc_value p.view) p.operations };
+}
+
+impl Pair {
+    // The pair of this view and of the segments of so many operations, with notes of these operations and of the labels.
+    pub(crate) fn new(
+        view: Arc<TaxoView>,
+        segments: Vec<Arc<Segment>>,
+        config: Arc<FacetsConfig>,
+        operations: u64,
+        history: Token<Operation>,
+        labels: Token<Path>,
+    ) -> Pair
+        requires notes { IsNote history × IsNote labels }
+        requires list { SeesLabels labels }
+        requires view { arc_value view ≡ labels_of labels.seen }
+        requires operations { operations ≡ length history.seen }
+        requires decodes { DecodesTo labels (arc_value config) (map arc_value segments.items) history }
+        requires few { length (records_in (map arc_value segments.items)) ≤ 1000000 }
+        ensures pair { result ≡ published history labels (arc_value config) (map arc_value segments.items) }
+        ensures is { IsPair result }
+    {
+        Pair {
+            view,
+            segments,
+            config,
+            operations,
+            history,
+            labels,
+        }
+    }
+
+    /// How many operations there were.
+    pub fn operations(&self) -> u64
+        ensures { result ≡ length self.now.history.seen }
+    {
+        self.operations
+    }
+
+    /// How many documents there are, at most 1,000,000. Each operation added one.
+    pub fn documents(&self) -> u32
+        ensures { result ≡ length (docs (entries self.now.history.seen)) }
+    {
+        self.operations as u32
+    }
+
+    /// The labels.
+    pub fn view(&self) -> &TaxoView
+        ensures { result.now ≡ labels_of self.now.labels.seen }
+    {
+        &self.view
+    }
+
+    // The view, for the next pair where it has no label more.
+    pub(crate) fn shared_view(&self) -> &Arc<TaxoView>
+        ensures { arc_value result.now ≡ labels_of self.now.labels.seen }
+    {
+        &self.view
+    }
+
+    /// The segments, which have all documents.
+    pub fn segments(&self) -> &[Arc<Segment>]
+        ensures segments { map arc_value result.now ≡ self.now.segments }
+        ensures decodes { DecodesTo self.now.labels self.now.config self.now.segments self.now.history }
+        ensures few { length (records_in self.now.segments) ≤ 1000000 }
+        ensures is { IsPair self.now }
+    {
+        &self.segments
+    }
+
+    /// The config of its documents.
+    pub fn config(&self) -> &FacetsConfig
+        ensures { result.now ≡ self.now.config }
+    {
+        &self.config
+    }
+
+    // The config, for the next pair.
+    pub(crate) fn shared_config(&self) -> &Arc<FacetsConfig>
+        ensures { arc_value result.now ≡ self.now.config }
+    {
+        &self.config
+    }
+}

@@ -1,0 +1,6 @@
+/// An entry of the pairs chronicle: how many operations and labels a published pair has, the root among the labels.
+#[derive(Drop, Clone, Copy, Debug, PartialEq, Eq)]
+pub struct Publication {
+    pub operations: u64,
+    pub labels: u32,
+}
