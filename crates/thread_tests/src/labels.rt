@@ -1,0 +1,179 @@
+ghost use Rattle.std.specs.Prelude.{◌≡◌, true, false};
+ghost use Rattle.chronicle.specs.Frame.{empty_frame};
+ghost use Rattle.chronicle.specs.Shown.{MayGive, MayTake};
+ghost use Rattle.taxo_cache.specs.Seen.{labels_of, SeesLabels};
+
+use chronicle::{Chronicle, Token};
+use facet_names::{Path, PathFault};
+use std::alloc::Global;
+use std::marker::Brand;
+use std::process::Abort;
+use std::sync::Wait;
+use std::sync::atomic::{AtomicBool, Ordering};
+use std::test::Fail;
+use std::thread;
+use std::thread::{Threads, join};
+use std::time::{Clock, Duration};
+use taxo_cache::Name;
+use taxo_list::Taxonomy;
+use taxo_writer::{LabelList, TaxoWriter};
+
+// The chronicle of no labels but the root, with its first token.
+#[derive(Drop)]
+pub(crate) struct Opened {
+    pub(crate) labels: Chronicle<LabelList>,
+    pub(crate) first: Token<Path>,
+    ghost own: { first.identity ≡ labels },
+    ghost rests: { MayTake first },
+    ghost numbers: { (first.number ≡ 0) × (first.made ≡ 0) },
+    ghost sees: { SeesLabels first },
+    ghost framed: { first.frame ≡ empty_frame },
+}
+
+pub(crate) fn open_labels(alloc: Global) -> Option<Opened> {
+    let list = Taxonomy::new(alloc).ok()?;
+    let (labels, first) = Chronicle::open(alloc, LabelList::new(list)).ok()?;
+    Some(Opened { labels, first })
+}
+
+pub(crate) fn path_of(alloc: Global, parts: &[&str]) -> Result<Path, PathFault> {
+    let mut texts = Vec::new(alloc);
+    for part in parts {
+        texts.push(String::from_str(alloc, *part)?)?;
+    }
+    Path::new(alloc, &texts)
+}
+
+// The ordinal of the whole path.
+fn ordinal_of<N: Name, R: Wait>(
+    rt: &R,
+    writer: &TaxoWriter<N>,
+    token: &mut Token<Path>,
+    path: &Path,
+) -> Option<u32>
+    requires own { token.old.identity ≡ writer.now.labels }
+    requires rests { MayTake token.old × SeesLabels token.old }
+    ensures own { token.new.identity ≡ writer.now.labels }
+    ensures rests { MayTake token.new × SeesLabels token.new }
+    ensures frame { token.new.frame ≡ token.old.frame }
+{
+    let resolved = writer.resolve(rt, token, path);
+    resolved.ok()?.prefixes().last().copied()
+}
+
+// The ordinals of two paths and of the first one again, with so many stripes of so much room.
+fn ordinals_of<N: Name, R: Wait>(
+    rt: &R,
+    alloc: Global,
+    opened: Opened,
+    room: (u32, u32),
+    one: &Path,
+    two: &Path,
+) -> Option<(u32, u32, u32)>
+    requires { opened.labels ≡ N.labels }
+{
+    let Opened { labels, mut first } = opened;
+    let (stripes, cache) = room;
+    if stripes == 0 || cache == 0 {
+        return None;
+    }
+    let writer = TaxoWriter::<N>::open(alloc, labels, &mut first, stripes, cache, 1_000_000).ok()?;
+    let before = ordinal_of(rt, &writer, &mut first, one)?;
+    let beside = ordinal_of(rt, &writer, &mut first, two)?;
+    let after = ordinal_of(rt, &writer, &mut first, one)?;
+    Some((before, beside, after))
+}
+
+// Whether the flag is up at one of 10,000 looks, a millisecond apart.
+fn comes_up<R: Clock>(rt: &R, flag: &AtomicBool) -> bool {
+    for _ in 0..10_000u32 {
+        if flag.load(Ordering::SeqCst) {
+            return true;
+        }
+        thread::sleep(rt, Duration::from_millis(1));
+    }
+    false
+}
+
+// Gives the turn back once the flag is up, or after all looks. Whether it was up.
+fn hold<N: Name, R: Clock>(
+    rt: &R,
+    writer: &TaxoWriter<N>,
+    mut holder: Token<Path>,
+    list: LabelList,
+    answered: &AtomicBool,
+) -> bool
+    requires own { holder.identity ≡ writer.now.labels }
+    requires turn { MayGive holder }
+    requires list { list ≡ labels_of holder.seen }
+    requires frame { holder.frame ≡ empty_frame }
+{
+    let was_up = comes_up(rt, answered);
+    writer.labels().give(&mut holder, list);
+    was_up
+}
+
+// The path's ordinal; the flag goes up.
+fn resolve_again<N: Name, R: Wait>(
+    rt: &R,
+    writer: &TaxoWriter<N>,
+    mut token: Token<Path>,
+    path: &Path,
+    answered: &AtomicBool,
+) -> Option<u32>
+    requires own { token.identity ≡ writer.now.labels }
+    requires rests { MayTake token × SeesLabels token }
+{
+    let ordinal = ordinal_of(rt, writer, &mut token, path);
+    answered.store(true, Ordering::SeqCst);
+    ordinal
+}
+
+// The ordinal of a path that was resolved before, where another thread answers it while this one holds the labels' turn.
+fn known_beside<N: Name + Send + Sync, R: Threads + Wait + Clock + Sync>(
+    rt: &R,
+    alloc: Global,
+    opened: Opened,
+    path: &Path,
+) -> Option<u32>
+    requires { opened.labels ≡ N.labels }
+{
+    let Opened { labels, mut first } = opened;
+    let writer = TaxoWriter::<N>::open(alloc, labels, &mut first, 16, 4096, 1_000_000).ok()?;
+    let second = writer.token(&mut first);
+    ordinal_of(rt, &writer, &mut first, path)?;
+    let answered = AtomicBool::new(false);
+    let list = writer.labels().take(rt, &mut first);
+    let (in_turn, ordinal) = join(
+        rt,
+        || -> bool
+            requires { (first.identity ≡ writer.labels) × MayGive first × (list ≡ labels_of first.seen) × (first.frame ≡ empty_frame) }
+        { hold(rt, &writer, first, list, &answered) },
+        || -> Option<u32>
+            requires { (second.identity ≡ writer.labels) × MayTake second × SeesLabels second }
+        { resolve_again(rt, &writer, second, path, &answered) },
+    );
+    if in_turn { ordinal } else { None }
+}
+
+fn in_room_for<R: Wait>(rt: &R, alloc: Global, room: (u32, u32)) -> Option<(u32, u32, u32)> {
+    let one = path_of(alloc, &["Author", "Bob"]).ok()?;
+    let two = path_of(alloc, &["Year", "2010"]).ok()?;
+    let opened = open_labels(alloc)?;
+    ordinals_of::<Brand, R>(rt, alloc, opened, room, &one, &two)
+}
+
+fn while_held<R: Threads + Wait + Clock + Sync>(rt: &R, alloc: Global) -> Option<u32> {
+    let path = path_of(alloc, &["Author", "Bob"]).ok()?;
+    let opened = open_labels(alloc)?;
+    known_beside::<Brand, R>(rt, alloc, opened, &path)
+}
+
+#[test]
+fn a_known_label_keeps_its_ordinal_and_needs_no_turn(rt: HostRuntime) -> Result<(), Fail> {
+    for room in [(16, 4096), (1, 1)] {
+        assert!(rt; in_room_for(&rt, rt.alloc(), room) == Some((2, 4, 2)));
+    }
+    assert!(rt; while_held(&rt, rt.alloc()) == Some(2));
+    Ok(())
+}
