@@ -1,0 +1,83 @@
+-- The value when the chronicle is opened.
+use Rattle.std.proofs.Common.{◌≡◌, List, [], ◌∷◌, length, Some, None, refl, sym, ap, subst, ◌∙◌, arith, All}
+use Rattle.std.proofs.lemmas.List.Elements.{All-push, All-nil}
+use Rattle.facet_disk.specs.Images.{Image, Told}
+use Rattle.facet_disk.specs.declared.disk.Disk.{Ghosts}
+use Rattle.facet_model.specs.Documents.{Doc}
+use Rattle.facet_names.proofs.LabelLists.{Labels}
+use Rattle.seg_decoding.specs.Decoding.{docs_in}
+use Rattle.seg_decoding.proofs.Prefixes.{stays}
+use Rattle.commit_calls.proofs.Runs.{leaves_by}
+use Rattle.commit_store.specs.Committers.{CommitterView}
+use Rattle.commit_store.specs.Committing.{HasFiles}
+use Rattle.store_opening.specs.Quiet.{IsUnchanged}
+use Rattle.commit_turns.specs.Commits.{Keeps, Stands}
+use Rattle.commit_turns.specs.Opening.{IsOpenedAs, WasSettled}
+use Rattle.commit_turns.specs.Points.{made}
+use Rattle.commit_turns.specs.Recovery.{AreFirst, Holds}
+use Rattle.pair_manager.specs.declared.point.CommitPoint.{CommitPoint}
+use Rattle.commit_turns.proofs.Imaged.{holds_found}
+use Rattle.commit_turns.proofs.Pointed.{Below}
+use Rattle.commit_turns.proofs.Prefixed.{first_all}
+
+all_one : (P : CommitPoint → Type 0) (p : CommitPoint) → P p → All P (p ∷ [])
+all_one P p holds = All-push P [] p (All-nil P) holds
+
+module _ {D : Type 0} (disk : Ghosts D) (only_now : (d : D) (c : Image) → disk.left_since d (disk.moment d) c → disk.may_leave d c) (told settled : Type 0) (start : D) (committer : CommitterView D) (labels : Labels) (docs : List Doc)
+    (o : IsOpenedAs disk start committer labels docs) (was_told : told → (s : Told) × (disk.told start ≡ Some s)) (was_settled : settled → WasSettled disk committer.config start) where
+  abbrev point : CommitPoint
+  point = made (length docs) (length labels)
+
+  abbrev Holding : Image → Type 0
+  Holding c = Holds committer.config labels docs point c
+
+  first : AreFirst (docs_in labels o.segments) docs
+  first = subst (λ (d : List Doc). AreFirst d docs) (sym o.documents) (first_all docs)
+
+  has_all : (c : Image) → HasFiles committer.config labels o.segments c → Holding c
+  has_all c has = holds_found committer.config labels labels docs o.segments point c has (stays labels) first (omega arith) (omega (arith, ap length o.documents))
+
+  at_first : settled → (c : Image) → disk.may_leave start c → Holding c
+  at_first is c left = let w = was_settled is in has_all c (w.settled.same c left ∙ o.opened.has w.told w.tells)
+
+  keeps : settled → Keeps disk start committer labels docs (point ∷ [])
+  keeps is = record {
+    moments = leaves_by disk only_now IsUnchanged Holding start committer.disk o.opened.quiet.passes (at_first is) (λ c d left same. subst Holding (sym same) (at_first is c left));
+    now = all_one (λ (p : CommitPoint). (c : Image) → disk.may_leave committer.disk c → Holds committer.config labels docs p c) point
+        (λ c left. let before = o.opened.quiet.passes.now c left in subst Holding (sym before.2) (at_first is before.0 before.1));
+  }
+
+  pub stands_opened : Stands disk told settled start committer.state committer point labels docs (point ∷ [])
+  stands_opened = record {
+    points = record {
+      before = [];
+      ends = refl;
+      unfailed = All-nil (λ (p : CommitPoint). p.failed ≡ None);
+      counts = λ count some. absurd (cc some);
+      most = all_one (Below point) point (omega arith, omega arith);
+      within = (omega arith, omega arith);
+    };
+    closed = sym o.opened.unclosed;
+    counted = omega (arith, o.opened.still);
+    numbers = omega arith;
+    tells = λ is. let w = was_told is in (w.0, o.opened.quiet.same ∙ w.1);
+    followed = λ is. record {
+      told = λ none u now. o.opened.known u (sym o.opened.quiet.same ∙ now);
+      unfailed = λ none. o.opened.unfailed;
+      failed = λ count closed. absurd (cc (o.opened.unclosed, closed));
+    };
+    keeps = keeps;
+    committed = λ is unshut. let w = was_settled is in record {
+      known = labels;
+      segments = o.segments;
+      tells = (w.told, o.opened.quiet.same ∙ w.tells);
+      here = o.opened.committed w.told w.tells w.settled;
+      list = o.opened.list;
+      goes_on = stays labels;
+      many = refl;
+      decodes = o.opened.decodes;
+      some = o.opened.some;
+      first = first;
+      count = ap length o.documents;
+    };
+  }

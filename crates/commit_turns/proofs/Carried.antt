@@ -1,0 +1,235 @@
+-- What the value stands for, carried over a longer note and over a commit.
+use Rattle.std.proofs.Common.{◌≡◌, ℕ, ◌≤◌, ◌+◌, List, [], ◌∷◌, ◌++◌, length, Option, Some, None, Ok, refl, sym, ap, subst, ◌∙◌, arith, inl, inr, All}
+use Rattle.std.proofs.lemmas.List.{length-append}
+use Rattle.std.proofs.lemmas.List.Elements.{All-push, All-weaker}
+use Rattle.facet_disk.specs.Calls.{Rose}
+use Rattle.facet_disk.specs.Images.{Image, Told}
+use Rattle.facet_disk.specs.declared.disk.Disk.{Ghosts}
+use Rattle.facet_model.specs.Documents.{Doc}
+use Rattle.facet_model.specs.Flags.{Config}
+use Rattle.facet_model.specs.Stored.{Records, Decodes}
+use Rattle.facet_names.specs.Labels.{GoesOn, IsLabelList}
+use Rattle.facet_names.proofs.LabelLists.{Labels, goes_further}
+use Rattle.seg_decoding.specs.Decoding.{docs_in}
+use Rattle.seg_decoding.proofs.Decoded.{decoded, decodes_stay}
+use Rattle.seg_decoding.proofs.Prefixes.{stays}
+use Rattle.commit_calls.specs.Held.{Below as NamedBelow}
+use Rattle.commit_calls.specs.Moments.{LeavesOnly}
+use Rattle.commit_calls.proofs.Runs.{leaves_on, leaves_more}
+use Rattle.commit_store.specs.Committed.{Committed}
+use Rattle.commit_store.specs.Committers.{CommitterView}
+use Rattle.commit_store.specs.Committing.{HasOneOfThree}
+use Rattle.commit_store.specs.Promised.{IsHere, OfBoth, PassesThree, LeavesThree, Acknowledges, HasNamed, StaysListed, FailsDevice}
+use Rattle.store_opening.specs.Files.{files}
+use Rattle.store_opening.proofs.Held.{files_stand}
+use Rattle.commit_turns.specs.Commits.{IsLast, Keeps, IsFollowed, Stands}
+use Rattle.commit_turns.specs.Points.{made, failed_after, first_of}
+use Rattle.commit_turns.specs.Recovery.{AreFirst, Holds}
+use Rattle.pair_manager.specs.declared.point.CommitPoint.{CommitPoint}
+use Rattle.commit_turns.proofs.Imaged.{holds_more, holds_less, holds_found}
+use Rattle.commit_turns.proofs.Pointed.{first_below, first_more, points_made, points_failed, Below}
+use Rattle.commit_turns.proofs.Prefixed.{first_all, first_on, none_first}
+
+pub none_unless : (o : Option ℕ) → ((n : ℕ) → o ≡ Some n → ⊥) → o ≡ None
+none_unless None never = refl
+none_unless (Some n) never = absurd (never n refl)
+
+one_longer : (p : CommitPoint) (es : List CommitPoint) → length (es ++ p ∷ []) ≡ length es + 1
+one_longer p es = length-append es (p ∷ [])
+
+module _ {D : Type 0} (disk : Ghosts D) where
+  -- every image has the files of what was committed last
+  pub last_files : (config : Config) (committer : CommitterView D) (labels : Labels) (segments : List Records) → IsHere disk config committer labels segments
+      → (c : Image) → disk.may_leave committer.disk c → files config c ≡ Ok (record { labels = labels; segments = segments })
+  last_files config committer labels segments at c left =
+      files_stand config committer.state.next at.taxonomy at.index c (record { labels = labels; segments = segments }) (at.stands c left) at.known.files
+
+  module _ (told settled : Type 0) (start : D) (begun : Committed) where
+    abbrev pub On : CommitterView D → CommitPoint → Labels → List Doc → List CommitPoint → Type 0
+    On = Stands disk told settled start begun
+
+    -- ---- longer notes
+
+    pub stands_more : (committer : CommitterView D) (last : CommitPoint) (labels more : Labels) (docs docs' : List Doc) (es : List CommitPoint) → GoesOn labels more → AreFirst docs docs'
+        → On committer last labels docs es → On committer last more docs' es
+    stands_more committer last labels more docs docs' es on first st = record {
+      points = record {
+        before = st.points.before;
+        ends = st.points.ends;
+        unfailed = st.points.unfailed;
+        counts = st.points.counts;
+        most = st.points.most;
+        within = (omega (arith, st.points.within.0, on.0), omega (arith, st.points.within.1, first.0));
+      };
+      closed = st.closed;
+      counted = st.counted;
+      numbers = st.numbers;
+      tells = st.tells;
+      followed = st.followed;
+      keeps = λ is. let k = st.keeps is in record {
+        moments = leaves_more disk (Holds committer.config labels docs (first_of es)) (Holds committer.config more docs' (first_of es)) start committer.disk
+            (λ c h. holds_more committer.config labels more docs docs' (first_of es) c on first h) k.moments;
+        now = All-weaker (λ (p : CommitPoint). (c : Image) → disk.may_leave committer.disk c → Holds committer.config labels docs p c)
+            (λ (p : CommitPoint). (c : Image) → disk.may_leave committer.disk c → Holds committer.config more docs' p c)
+            (λ p holds c left. holds_more committer.config labels more docs docs' p c on first (holds c left)) es k.now;
+      };
+      committed = λ is none. let l = st.committed is none in record {
+        known = l.known;
+        segments = l.segments;
+        tells = l.tells;
+        here = l.here;
+        list = l.list;
+        goes_on = goes_further l.known labels more l.goes_on on;
+        many = l.many;
+        decodes = l.decodes;
+        some = l.some;
+        first = first_on (docs_in l.known l.segments) docs docs' l.first first;
+        count = l.count;
+      };
+    }
+
+    -- ---- a commit
+
+    module _ (old new : CommitterView D) (last : CommitPoint) (view : Labels) (docs : List Doc) (segments : List Records) (es : List CommitPoint)
+        (none : old.closed ≡ None) (same : new.config ≡ old.config) (list : IsLabelList view) (all : docs_in view segments ≡ docs) (st : On old last view docs es) where
+      unfailed : last.failed ≡ None
+      unfailed = st.closed ∙ none
+
+      abbrev Holding : CommitPoint → Image → Type 0
+      Holding p c = Holds old.config view docs p c
+
+      module _ (is : settled) where
+        was : IsLast disk old last view docs
+        was = st.committed is none
+
+        longer : docs_in view was.segments ≡ docs_in was.known was.segments
+        longer = decoded view old.config was.segments (docs_in was.known was.segments) (decodes_stay old.config was.known view was.list list was.goes_on was.segments (docs_in was.known was.segments) was.decodes)
+
+        -- where no segments are given none were committed
+        none_before : segments ≡ [] → was.segments ≡ []
+        none_before empty = was.some (none_first (docs_in was.known was.segments) docs was.first (sym all ∙ ap (docs_in view) empty))
+
+        -- each of the three
+        one_of_three : (c : Image) → HasOneOfThree old.config was.known was.segments view segments c → Holding last c
+        one_of_three c (inl before) = holds_found old.config view was.known docs was.segments last c before was.goes_on was.first (omega (arith, was.many)) (omega (arith, was.count))
+        one_of_three c (inr (inl mixed)) =
+            holds_found old.config view view docs was.segments last c mixed (stays view) (subst (λ (d : List Doc). AreFirst d docs) (sym longer) was.first) (omega (arith, was.many, was.goes_on.0)) (omega (arith, was.count, ap length longer))
+        one_of_three c (inr (inr done)) =
+            holds_found old.config view view docs segments last c done (stays view) (subst (λ (d : List Doc). AreFirst d docs) (sym all) (first_all docs)) st.points.within.0 (omega (arith, st.points.within.1, ap length all))
+
+        first_low : Below last (first_of es)
+        first_low = first_below es st.points.before last st.points.ends st.points.most
+
+        -- the images of a commit are among those that there may be
+        moments : (p : CommitPoint) → LeavesOnly disk old.disk new.disk (HasOneOfThree old.config was.known was.segments view segments)
+            → LeavesOnly disk start new.disk (Holds new.config view docs (first_of (es ++ p ∷ [])))
+        moments p leaves =
+            let first : first_of es ≡ first_of (es ++ p ∷ []) = sym (first_more es st.points.before last (p ∷ []) st.points.ends) in
+            let three = leaves_more disk (HasOneOfThree old.config was.known was.segments view segments) (Holding (first_of es)) old.disk new.disk
+            (λ c t. holds_less old.config view docs last (first_of es) c first_low.0 first_low.1 (one_of_three c t)) leaves in
+            let both = leaves_on disk (Holding (first_of es)) start old.disk new.disk (st.keeps is).moments three in
+            subst (λ (T : Type 0). T) (λ i. LeavesOnly disk start new.disk (Holds (sym same i) view docs (first i))) both
+
+        abbrev HasAll : List CommitPoint → Type 0
+        HasAll ps = All (λ (p : CommitPoint). (c : Image) → disk.may_leave new.disk c → Holding p c) ps
+
+        -- so each image holds what it did and the new point
+        keeps_with : (p : CommitPoint) → LeavesOnly disk old.disk new.disk (HasOneOfThree old.config was.known was.segments view segments) → HasAll (es ++ p ∷ [])
+            → Keeps disk start new view docs (es ++ p ∷ [])
+        keeps_with p leaves now = record {
+          moments = moments p leaves;
+          now = subst (λ (k : Config). All (λ (p : CommitPoint). (c : Image) → disk.may_leave new.disk c → Holds k view docs p c) (es ++ p ∷ [])) (sym same) now;
+        }
+
+        -- it failed on the disk
+        has_failed : (count : ℕ) → ((c : Image) → disk.may_leave new.disk c → HasOneOfThree old.config was.known was.segments view segments c) → HasAll (es ++ failed_after last count ∷ [])
+        has_failed count now =
+            let here : (p : CommitPoint) → Below last p → (c : Image) → disk.may_leave new.disk c → Holding p c = λ p low c left. holds_less old.config view docs last p c low.0 low.1 (one_of_three c (now c left)) in
+            All-push (λ (p : CommitPoint). (c : Image) → disk.may_leave new.disk c → Holding p c) es (failed_after last count)
+            (All-weaker (Below last) (λ (p : CommitPoint). (c : Image) → disk.may_leave new.disk c → Holding p c) here es st.points.most) (here (failed_after last count) (omega arith, omega arith))
+
+        -- it was made
+        has_made : ((c : Image) → disk.may_leave new.disk c → files old.config c ≡ Ok (record { labels = view; segments = segments })) → HasAll (es ++ made (length docs) (length view) ∷ [])
+        has_made stand =
+            let q : CommitPoint = made (length docs) (length view) in
+            let here : (p : CommitPoint) → Below q p → (c : Image) → disk.may_leave new.disk c → Holding p c =
+            λ p low c left. holds_found old.config view view docs segments p c (stand c left) (stays view) (subst (λ (d : List Doc). AreFirst d docs) (sym all) (first_all docs)) low.0 (omega (arith, low.1, ap length all)) in
+            All-push (λ (p : CommitPoint). (c : Image) → disk.may_leave new.disk c → Holding p c) es q
+            (All-weaker (Below q) (λ (p : CommitPoint). (c : Image) → disk.may_leave new.disk c → Holding p c) here es
+            (All-weaker (Below last) (Below q) (λ p low. (omega (arith, low.0, st.points.within.0), omega (arith, low.1, st.points.within.1))) es st.points.most)) (here q (omega arith, omega arith))
+
+      -- the files were followed, and the commit failed on the disk
+      follows_failed : (count : ℕ) → new.closed ≡ Some count → FailsDevice disk old new → told → IsFollowed disk start new
+      follows_failed count closed fails is =
+          let known = st.followed is in
+          let tells = st.tells is in
+          let before = known.told none tells.0 tells.1 in
+          record {
+            told = λ unclosed. absurd (cc (closed, unclosed));
+            unfailed = λ unclosed. absurd (cc (closed, unclosed));
+            failed = λ k is. subst (λ (n : ℕ). Rose n (disk.failures new.disk)) (known.unfailed none) (fails tells.0 tells.1 before.listed before.fresh);
+          }
+
+      pub stands_failed : (count : ℕ) → new.closed ≡ Some count → count ≡ disk.faults new.disk → disk.faults old.disk ≤ disk.faults new.disk → new.state ≡ old.state → ((s : Told) → disk.told old.disk ≡ Some s → (u : Told) × (disk.told new.disk ≡ Some u))
+          → FailsDevice disk old new → PassesThree disk old new view segments → LeavesThree disk old new view segments → On new (failed_after last count) view docs (es ++ failed_after last count ∷ [])
+      stands_failed count closed is_count later state tells fails leaves ends = record {
+        points = points_failed (disk.faults old.disk) (length view) (length docs) last es st.points count unfailed (disk.faults new.disk) (omega (arith, is_count));
+        closed = sym closed;
+        counted = omega (arith, st.counted, later);
+        numbers = let n : new.state.next ≡ old.state.next = ap (λ (s : Committed). s.next) state in omega (arith, n, one_longer (failed_after last count) es, st.numbers);
+        tells = λ is. let before = st.tells is in tells before.0 before.1;
+        followed = follows_failed count closed fails;
+        keeps = λ is.
+            let w = was is in
+            keeps_with is (failed_after last count) (leaves w.tells.0 w.known w.segments w.tells.1 w.here w.goes_on) (has_failed is count (ends w.tells.0 w.known w.segments w.tells.1 w.here w.goes_on));
+        committed = λ is unshut. absurd (cc (closed, unshut));
+      }
+
+      -- the files were followed, and the commit was made
+      pub follows_made : new.closed ≡ None → StaysListed disk old new → OfBoth disk old.disk new.disk (λ s u. HasNamed s.files old.state → HasNamed u.files new.state)
+          → OfBoth disk old.disk new.disk (λ s u. NamedBelow old.state.next s.files → NamedBelow new.state.next u.files) → disk.failures new.disk ≡ disk.failures old.disk
+          → told → IsFollowed disk start new
+      follows_made unshut listed named fresh still is =
+          let known = st.followed is in
+          let tells = st.tells is in
+          let before = known.told none tells.0 tells.1 in
+          record {
+            told = λ unclosed u now. record {
+              listed = listed tells.0 u tells.1 now before.named before.listed;
+              named = named tells.0 u tells.1 now before.named;
+              fresh = fresh tells.0 u tells.1 now before.fresh;
+            };
+            unfailed = λ unclosed. still ∙ known.unfailed none;
+            failed = λ k is. absurd (cc (unshut, is));
+          }
+
+      pub stands_made : new.closed ≡ None → Decodes view old.config segments (docs_in view segments) → (docs_in view segments ≡ [] → segments ≡ []) → disk.faults new.disk ≡ disk.faults old.disk → new.state.next ≤ old.state.next + 1000003
+          → ((s : Told) → disk.told old.disk ≡ Some s → (u : Told) × (disk.told new.disk ≡ Some u)) → (told → IsFollowed disk start new) → PassesThree disk old new view segments → Acknowledges disk old new view segments
+          → On new (made (length docs) (length view)) view docs (es ++ made (length docs) (length view) ∷ [])
+      stands_made unclosed decodes some still takes tells followed leaves acknowledges = record {
+        points = points_made (disk.faults old.disk) (length view) (length docs) last es st.points unfailed (disk.faults new.disk);
+        closed = sym unclosed;
+        counted = omega (arith, st.counted, still);
+        numbers = omega (arith, one_longer (made (length docs) (length view)) es, st.numbers, takes);
+        tells = λ is. let before = st.tells is in tells before.0 before.1;
+        followed = followed;
+        keeps = λ is.
+            let w = was is in
+            let here = acknowledges w.tells.0 w.known w.segments w.tells.1 w.here w.goes_on (none_before is) in
+            let stand = subst (λ (k : Config). (c : Image) → disk.may_leave new.disk c → files k c ≡ Ok (record { labels = view; segments = segments })) same (last_files new.config new view segments here) in
+            keeps_with is (made (length docs) (length view)) (leaves w.tells.0 w.known w.segments w.tells.1 w.here w.goes_on) (has_made is stand);
+        committed = λ is unshut.
+            let w = was is in record {
+              known = view;
+              segments = segments;
+              tells = tells w.tells.0 w.tells.1;
+              here = acknowledges w.tells.0 w.known w.segments w.tells.1 w.here w.goes_on (none_before is);
+              list = list;
+              goes_on = stays view;
+              many = refl;
+              decodes = subst (λ (k : Config). Decodes view k segments (docs_in view segments)) (sym same) decodes;
+              some = some;
+              first = subst (λ (d : List Doc). AreFirst d docs) (sym all) (first_all docs);
+              count = ap length all;
+            };
+      }

@@ -1,0 +1,62 @@
+-- What the value says when it is taken for good.
+use Rattle.std.proofs.Common.{◌≡◌, ℕ, ◌≤◌, List, Some, None, sym, ap, subst, ◌∙◌, All}
+use Rattle.std.proofs.lemmas.List.Elements.{All-push, All-weaker}
+use Rattle.facet_disk.specs.Images.{Image, Told}
+use Rattle.facet_disk.specs.declared.disk.Disk.{Ghosts}
+use Rattle.facet_model.specs.Documents.{Doc}
+use Rattle.facet_names.proofs.LabelLists.{Labels}
+use Rattle.commit_store.specs.Committed.{Committed}
+use Rattle.commit_store.specs.Committers.{CommitterView}
+use Rattle.store_opening.specs.Settled.{IsSettled}
+use Rattle.store_opening.proofs.Held.{stands_settled}
+use Rattle.commit_turns.specs.Commits.{IsLast}
+use Rattle.commit_turns.specs.Ending.{Lasts, FailsWith}
+use Rattle.commit_turns.specs.Points.{last_of}
+use Rattle.commit_turns.specs.Recovery.{HoldsJust}
+use Rattle.pair_manager.specs.declared.point.CommitPoint.{CommitPoint}
+use Rattle.commit_turns.proofs.Carried.{On, last_files}
+use Rattle.commit_turns.proofs.Pointed.{last_push}
+
+abbrev Counts : ℕ → CommitPoint → Type 0
+Counts faults p = (count : ℕ) → p.failed ≡ Some count → count ≤ faults
+
+module _ {D : Type 0} (disk : Ghosts D) (told settled : Type 0) (start : D) (begun : Committed) (committer : CommitterView D) (last : CommitPoint) (labels : Labels) (docs : List Doc) (es : List CommitPoint)
+    (st : On disk told settled start begun committer last labels docs es) where
+  pub counts : All (Counts (disk.faults committer.disk)) es
+  counts =
+      let few : ℕ = disk.faults committer.disk in
+      subst (λ (l : List CommitPoint). All (Counts few) l) (sym st.points.ends)
+      (All-push (Counts few) st.points.before last (All-weaker (λ (p : CommitPoint). p.failed ≡ None) (Counts few) (λ p none count some. absurd (cc (sym none ∙ some))) st.points.before st.points.unfailed) st.points.counts)
+
+  ends : last_of es ≡ last
+  ends = ap last_of st.points.ends ∙ last_push st.points.before last
+
+  -- the committer is closed as the last point has failed
+  pub shut : (last_of es).failed ≡ committer.closed
+  shut = ap (λ (p : CommitPoint). p.failed) ends ∙ st.closed
+
+  -- the device failed where a commit failed
+  pub fails_with : told → FailsWith disk (disk.failures start) (last_of es).failed committer.disk
+  fails_with is = let followed = st.followed is in record { unfailed = λ none. followed.unfailed (sym shut ∙ none); rose = λ count some. followed.failed count (sym shut ∙ some) }
+
+  module _ (is : settled) (unfailed : (last_of es).failed ≡ None) where
+    pub kept : IsLast disk committer last labels docs
+    kept = st.committed is (sym shut ∙ unfailed)
+
+    pub exact : (c : Image) → disk.may_leave committer.disk c → HoldsJust committer.config labels docs (last_of es) c
+    exact c left = subst (λ (p : CommitPoint). HoldsJust committer.config labels docs p c) (sym ends) (record {
+      recovers = record { found = record { labels = kept.known; segments = kept.segments }; is = last_files disk committer.config committer kept.known kept.segments kept.here c left; labels_first = kept.goes_on; docs_first = kept.first };
+      labels_many = kept.many;
+      docs_many = kept.count;
+    })
+
+    pub settles : (s : Told) → disk.may_leave committer.disk s.files → IsSettled disk committer.config s committer.disk
+    settles s own = let at = kept.here in stands_settled committer.config committer.state.next at.taxonomy at.index _ at.known.files disk committer.disk s own at.stands
+
+  pub lasts : settled → ((s : Told) → disk.told committer.disk ≡ Some s → disk.may_leave committer.disk s.files) → Lasts disk committer.config (disk.moment start) labels docs es committer.disk
+  lasts is own = record {
+    moments = (st.keeps is).moments.each;
+    exit = (st.keeps is).now;
+    exact = exact is;
+    settled = λ none s tells. settles is none s (own s tells);
+  }

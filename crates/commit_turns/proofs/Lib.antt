@@ -1,0 +1,10 @@
+pub mod Prefixed
+pub mod Imaged
+pub mod Pointed
+pub mod Carried
+pub mod Firsts
+pub mod Entering
+pub mod Ended
+pub mod AtOpening
+pub mod Told
+pub mod Crossing

@@ -1,0 +1,109 @@
+use Rattle.std.proofs.Common.{◌≡◌, ℕ, ◌∙◌, List, [], ◌∷◌, ◌++◌, length, refl, sym, ap}
+use Rattle.std.proofs.Common.{Ok, Err, arith, get_or}
+use Rattle.std.proofs.lemmas.List.{length-map}
+use Rattle.chronicle.specs.Frame.{Frame}
+use Rattle.pair_manager.proofs.Publishing.{still_right}
+use Rattle.chronicle.specs.History.{entries, numbered}
+use Rattle.chronicle.specs.Shown.{mine}
+use Rattle.commit_store.specs.declared.fault.CommitFault.TheVariants.{Disk as OfDisk, Closed, NoMemory, NumbersSpent}
+use Rattle.commit_turns.specs.Points.{made, failed_after}
+use Rattle.taxo_cache.specs.Seen.{labels_of}
+use Rattle.commit_turns.specs.Seen.{docs_of}
+use Rattle.pair_manager.specs.declared.point.CommitPoint.{CommitPoint}
+use Rattle.commit_turns.proofs.Entering.{enters_these, enters_none, closed_by}
+use Rattle.commit_turns.proofs.committing.commit.Goals as goal
+
+pub returns-in-Ok-clause-enters : goal.returns-in-Ok-clause-enters
+returns-in-Ok-clause-enters g c =
+    let d = g.D.Disk in
+    let t = c.take-turn in
+    let st = t.ensures.value.0 in
+    let is : c.commit_in_turn.new.state.last ≡ made c.in-Ok.n (length (labels_of c.commit_in_turn.new.seen_labels.seen)) = c.in-Ok.ensures.ok.1 in
+    let e = c.enter.ensures in
+    let gave = c.give.ensures in
+    enters_these (length (labels_of c.commit_in_turn.new.seen_labels.seen)) c.args.pass.now.commits t.new.token c.give.new.token t.result.committer.closed (Ok c.in-Ok.n) (d.faults t.result.committer.disk) (length (labels_of t.result.labels.seen)) (length (docs_of t.result.operations.seen)) t.result.last t.ensures.more st.points st.closed
+    c.in-Ok.ensures.closed (gave.idle.0.0 ∙ e.turn.0.0) (made c.in-Ok.n (length (labels_of c.commit_in_turn.new.seen_labels.seen)) ∷ []) refl
+    (gave.seen.0 ∙ e.added ∙ ap (λ (p : CommitPoint). t.new.token.seen ++ numbered t.new.token.number (p ∷ [])) is)
+    (gave.seen.1 ∙ e.mine ∙ ap (λ (p : CommitPoint). mine t.new.token ++ numbered t.new.token.number (p ∷ [])) is)
+
+pub returns-in-Err-Disk-clause-enters : goal.returns-in-Err-Disk-clause-enters
+returns-in-Err-Disk-clause-enters g c =
+    let d = g.D.Disk in
+    let t = c.take-turn in
+    let st = t.ensures.value.0 in
+    let is : c.commit_in_turn.new.state.last ≡ failed_after t.result.last c.in-Err-Disk.count = (c.in-Err-Disk.ensures.disk c.in-Err-Disk.count c.in-Err-Disk.field-0-is).0 in
+    let e = c.enter-in-Err-Disk.ensures in
+    let gave = c.give-in-Err-Disk.ensures in
+    enters_these (length (labels_of c.commit_in_turn.new.seen_labels.seen)) c.args.pass.now.commits t.new.token c.give-in-Err-Disk.new.token t.result.committer.closed (Err (OfDisk c.in-Err-Disk.count)) (d.faults t.result.committer.disk) (length (labels_of t.result.labels.seen)) (length (docs_of t.result.operations.seen)) t.result.last t.ensures.more st.points st.closed
+    (closed_by t.result.committer.closed _ _ c.in-Err-Disk.field-0-is c.in-Err-Disk.ensures.closed) (gave.idle.0.0 ∙ e.turn.0.0) (failed_after t.result.last c.in-Err-Disk.count ∷ []) refl
+    (gave.seen.0 ∙ e.added ∙ ap (λ (p : CommitPoint). t.new.token.seen ++ numbered t.new.token.number (p ∷ [])) is)
+    (gave.seen.1 ∙ e.mine ∙ ap (λ (p : CommitPoint). mine t.new.token ++ numbered t.new.token.number (p ∷ [])) is)
+
+pub returns-in-Err-Closed-clause-enters : goal.returns-in-Err-Closed-clause-enters
+returns-in-Err-Closed-clause-enters g c =
+    let d = g.D.Disk in
+    let t = c.take-turn in
+    let st = t.ensures.value.0 in
+    let gave = c.give-in-Err-Closed.ensures in
+    enters_none (length (labels_of c.commit_in_turn.new.seen_labels.seen)) c.args.pass.now.commits t.new.token c.give-in-Err-Closed.new.token t.result.committer.closed (Err (Closed c.in-Err-Closed.count)) (d.faults t.result.committer.disk) (length (labels_of t.result.labels.seen)) (length (docs_of t.result.operations.seen)) t.result.last t.ensures.more st.points st.closed
+    (closed_by t.result.committer.closed _ _ c.in-Err-Closed.field-0-is c.in-Err-Closed.ensures.closed) gave.idle.0.0 refl gave.seen.0 gave.seen.1
+
+pub returns-in-Err-NoMemory-clause-enters : goal.returns-in-Err-NoMemory-clause-enters
+returns-in-Err-NoMemory-clause-enters g c =
+    let d = g.D.Disk in
+    let t = c.take-turn in
+    let st = t.ensures.value.0 in
+    let gave = c.give-in-Err-NoMemory.ensures in
+    enters_none (length (labels_of c.commit_in_turn.new.seen_labels.seen)) c.args.pass.now.commits t.new.token c.give-in-Err-NoMemory.new.token t.result.committer.closed (Err NoMemory) (d.faults t.result.committer.disk) (length (labels_of t.result.labels.seen)) (length (docs_of t.result.operations.seen)) t.result.last t.ensures.more st.points st.closed
+    (closed_by t.result.committer.closed _ _ c.in-Err-NoMemory.field-0-is c.in-Err-NoMemory.ensures.closed) gave.idle.0.0 refl gave.seen.0 gave.seen.1
+
+pub returns-in-Err-NumbersSpent-clause-enters : goal.returns-in-Err-NumbersSpent-clause-enters
+returns-in-Err-NumbersSpent-clause-enters g c =
+    let d = g.D.Disk in
+    let t = c.take-turn in
+    let st = t.ensures.value.0 in
+    let gave = c.give-in-Err-NumbersSpent.ensures in
+    enters_none (length (labels_of c.commit_in_turn.new.seen_labels.seen)) c.args.pass.now.commits t.new.token c.give-in-Err-NumbersSpent.new.token t.result.committer.closed (Err (NumbersSpent c.in-Err-NumbersSpent.number)) (d.faults t.result.committer.disk) (length (labels_of t.result.labels.seen)) (length (docs_of t.result.operations.seen)) t.result.last t.ensures.more st.points st.closed
+    (closed_by t.result.committer.closed _ _ c.in-Err-NumbersSpent.field-0-is c.in-Err-NumbersSpent.ensures.closed) gave.idle.0.0 refl gave.seen.0 gave.seen.1
+
+pub invariant_of-pass-clause-right : goal.invariant_of-pass-clause-right
+invariant_of-pass-clause-right g c =
+    let now = c.commit_in_turn.new in
+    let pass = c.args.pass.now in
+    still_right pass.labels.seen now.seen_labels.seen pass.operations.seen now.seen_operations.seen c.in-Ok.ensures.labels.1.0 c.in-Ok.ensures.operations.1.0 (entries pass.pairs.seen) pass.right
+
+pub invariant_of-pass-in-Err-Disk-clause-right : goal.invariant_of-pass-in-Err-Disk-clause-right
+invariant_of-pass-in-Err-Disk-clause-right g c =
+    let now = c.commit_in_turn.new in
+    let pass = c.args.pass.now in
+    still_right pass.labels.seen now.seen_labels.seen pass.operations.seen now.seen_operations.seen c.in-Err-Disk.ensures.labels.1.0 c.in-Err-Disk.ensures.operations.1.0 (entries pass.pairs.seen) pass.right
+
+pub invariant_of-pass-in-Err-Closed-clause-right : goal.invariant_of-pass-in-Err-Closed-clause-right
+invariant_of-pass-in-Err-Closed-clause-right g c =
+    let now = c.commit_in_turn.new in
+    let pass = c.args.pass.now in
+    still_right pass.labels.seen now.seen_labels.seen pass.operations.seen now.seen_operations.seen c.in-Err-Closed.ensures.labels.1.0 c.in-Err-Closed.ensures.operations.1.0 (entries pass.pairs.seen) pass.right
+
+pub invariant_of-pass-in-Err-NoMemory-clause-right : goal.invariant_of-pass-in-Err-NoMemory-clause-right
+invariant_of-pass-in-Err-NoMemory-clause-right g c =
+    let now = c.commit_in_turn.new in
+    let pass = c.args.pass.now in
+    still_right pass.labels.seen now.seen_labels.seen pass.operations.seen now.seen_operations.seen c.in-Err-NoMemory.ensures.labels.1.0 c.in-Err-NoMemory.ensures.operations.1.0 (entries pass.pairs.seen) pass.right
+
+pub invariant_of-pass-in-Err-NumbersSpent-clause-right : goal.invariant_of-pass-in-Err-NumbersSpent-clause-right
+invariant_of-pass-in-Err-NumbersSpent-clause-right g c =
+    let now = c.commit_in_turn.new in
+    let pass = c.args.pass.now in
+    still_right pass.labels.seen now.seen_labels.seen pass.operations.seen now.seen_operations.seen c.in-Err-NumbersSpent.ensures.labels.1.0 c.in-Err-NumbersSpent.ensures.operations.1.0 (entries pass.pairs.seen) pass.right
+
+pub returns-in-Err-NumbersSpent-clause-spent : goal.returns-in-Err-NumbersSpent-clause-spent
+returns-in-Err-NumbersSpent-clause-spent g c number is first moment faults failures numbers =
+    let t = c.take-turn in
+    let st = t.ensures.value.0 in
+    let said = c.in-Err-NumbersSpent.ensures.spent number (c.in-Err-NumbersSpent.field-0-is ∙ is) in
+    let begun : t.result.begun.value.state.next ≡ first = ap (λ (l : List ℕ). get_or l 0 0) (ap (λ (f : Frame). f.numbers) (t.ensures.value.1 ∙ t.ensures.turn.0.4) ∙ numbers) in
+    let many : length (entries t.new.token.seen) ≡ length c.give-in-Err-NumbersSpent.new.token.seen = length-map t.new.token.seen (λ (x : ℕ × CommitPoint). x.1) ∙ ap length (sym c.give-in-Err-NumbersSpent.ensures.seen.0) in
+    omega (arith, said.1, st.numbers, begun, many)
+
+pub returns-in-Err-NumbersSpent-clause-limit : goal.returns-in-Err-NumbersSpent-clause-limit
+returns-in-Err-NumbersSpent-clause-limit g c number is = (c.in-Err-NumbersSpent.ensures.spent number (c.in-Err-NumbersSpent.field-0-is ∙ is)).0

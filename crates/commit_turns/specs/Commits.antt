@@ -1,0 +1,72 @@
+-- For which points the value of the commits chronicle stands.
+use Rattle.std.specs.Prelude.{◌≡◌, ◌≤◌, ◌+◌, ◌*◌, ℕ, List, [], ◌∷◌, ◌++◌, All, Some, None, length}
+use Rattle.facet_disk.specs.Calls.{Rose}
+use Rattle.facet_disk.specs.Images.{Image, Told}
+use Rattle.facet_disk.specs.declared.disk.Disk.{Ghosts}
+use Rattle.facet_model.specs.Documents.{Doc}
+use Rattle.facet_model.specs.Stored.{Records, Decodes}
+use Rattle.facet_names.specs.Labels.{GoesOn, IsLabelList}
+use Rattle.seg_decoding.specs.Decoding.{docs_in}
+use Rattle.commit_calls.specs.Held.{Below}
+use Rattle.commit_calls.specs.Moments.{LeavesOnly}
+use Rattle.store_opening.specs.Newest.{AreListed}
+use Rattle.commit_store.specs.Committed.{Committed}
+use Rattle.commit_store.specs.Committers.{CommitterView}
+use Rattle.commit_store.specs.Promised.{HasNamed, IsHere}
+use Rattle.commit_turns.specs.Points.{first_of}
+use Rattle.commit_turns.specs.Recovery.{AreFirst, Holds}
+use Rattle.pair_manager.specs.declared.point.CommitPoint.{CommitPoint}
+
+-- Points of commits: no point but the last has failed, no failed count is above the disk's, and no number is above the last point's, nor that above what was
+-- noted.
+pub record ArePoints (faults labels operations : ℕ) (last : CommitPoint) (es : List CommitPoint) : Type 0 where
+  pub before : List CommitPoint
+  pub ends : es ≡ before ++ last ∷ []
+  pub unfailed : All (λ p. p.failed ≡ None) before
+  pub counts : (count : ℕ) → last.failed ≡ Some count → count ≤ faults
+  pub most : All (λ p. (p.labels ≤ last.labels) × (p.operations ≤ last.operations)) es
+  pub within : (last.labels ≤ labels) × (last.operations ≤ operations)
+
+-- what is known of the files is true of these
+pub record IsTrueOf (state : Committed) (files : Image) : Type 0 where
+  pub listed : AreListed files state.listed
+  pub named : HasNamed files state
+  pub fresh : Below state.next files
+
+module _ {D : Type 0} (disk : Ghosts D) where
+  -- What was committed last is the first of the labels and the first of the documents, as many as the point says; every image now has just that.
+  pub record IsLast (committer : CommitterView D) (p : CommitPoint) (labels : List (List (List ℕ))) (docs : List Doc) : Type 0 where
+    pub known : List (List (List ℕ))
+    pub segments : List Records
+    pub tells : (s : Told) × (disk.told committer.disk ≡ Some s)
+    pub here : IsHere disk committer.config committer known segments
+    pub list : IsLabelList known
+    pub goes_on : GoesOn known labels
+    pub many : length known ≡ p.labels
+    pub decodes : Decodes known committer.config segments (docs_in known segments)
+    pub some : docs_in known segments ≡ [] → segments ≡ []
+    pub first : AreFirst (docs_in known segments) docs
+    pub count : length (docs_in known segments) ≡ p.operations
+
+  -- At each moment since opening began every image opens as the first of what was noted, no less than the opened point. Now it holds each point.
+  pub record Keeps (start : D) (committer : CommitterView D) (labels : List (List (List ℕ))) (docs : List Doc) (es : List CommitPoint) : Type 0 where
+    pub moments : LeavesOnly disk start committer.disk (Holds committer.config labels docs (first_of es))
+    pub now : All (λ p. (c : Image) → disk.may_leave committer.disk c → Holds committer.config labels docs p c) es
+
+  -- While no commit has failed on the disk, what is known of the files is true of those that it tells, and the device has not failed. Where one has, the device
+  -- failed.
+  pub record IsFollowed (start : D) (committer : CommitterView D) : Type 0 where
+    pub told : committer.closed ≡ None → (s : Told) → disk.told committer.disk ≡ Some s → IsTrueOf committer.state s.files
+    pub unfailed : committer.closed ≡ None → disk.failures committer.disk ≡ disk.failures start
+    pub failed : (count : ℕ) → committer.closed ≡ Some count → Rose (disk.failures start) (disk.failures committer.disk)
+
+  -- The value stands for these points, of which the first is the opened one. A commit takes at most 1,000,003 file numbers.
+  pub record Stands (told settled : Type 0) (start : D) (begun : Committed) (committer : CommitterView D) (last : CommitPoint) (labels : List (List (List ℕ))) (docs : List Doc) (es : List CommitPoint) : Type 0 where
+    pub points : ArePoints (disk.faults committer.disk) (length labels) (length docs) last es
+    pub closed : last.failed ≡ committer.closed
+    pub counted : disk.faults start ≤ disk.faults committer.disk
+    pub numbers : committer.state.next + 1000003 ≤ begun.next + 1000003 * length es
+    pub tells : told → (s : Told) × (disk.told committer.disk ≡ Some s)
+    pub followed : told → IsFollowed start committer
+    pub keeps : settled → Keeps start committer labels docs es
+    pub committed : settled → committer.closed ≡ None → IsLast committer last labels docs

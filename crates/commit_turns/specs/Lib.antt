@@ -1,0 +1,9 @@
+pub mod Seen
+pub mod Points
+pub mod Frames
+pub mod Recovery
+pub mod Commits
+pub mod Turns
+pub mod Answers
+pub mod Opening
+pub mod Ending

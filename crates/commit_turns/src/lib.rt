@@ -1,0 +1,15 @@
+//! Commits of several sessions: the value of the commits chronicle, a commit in its turn, and the end that hands the disk back.
+#![tactic(auto)]
+
+mod committing;
+mod ending;
+mod noting;
+mod opening;
+mod start;
+mod turn;
+
+pub use committing::commit;
+pub use ending::end_commits;
+pub use opening::{Begun, begin, open_commits};
+pub use start::Start;
+pub use turn::CommitTurn;
