@@ -1,0 +1,358 @@
+-- In the output of one session each number is exact.
+use Rattle.std.proofs.Common.{◌≡◌, ◌⊎◌, inl, inr, ⊎_elim, ℕ, zero, suc, ◌+◌, ◌≤◌, eqb, Bool, true, false, cond, List, [], ◌∷◌, ◌++◌, length, map, Option, Some, None, slice_get, refl, sym, ap, ◌∙◌, subst, arith, append_assoc, length-append, ne_eqb}
+use Rattle.std.specs.Prelude.{◌==◌, ◌&&◌, ◌||◌, not, nat_le, nat_lt, drop, filter, filter_map, unwrap_or}
+use Rattle.std.specs.List.{list_all, list_any, enumerate_from, cons_option}
+use Rattle.std.specs.Option.{option_map_or}
+use Rattle.std.proofs.lemmas.Bool.{and_parts, and_from, or_cases, or_left, or_right, leb-true, ltb-true, eqb-true, eq-eqb, lt-ltb, both_ways}
+use Rattle.std.proofs.lemmas.List.{length-drop, length-take, length-map}
+use Rattle.std.proofs.lemmas.List.Elements.{filter_map-append}
+use Rattle.facet_model.specs.Histories.{Operation}
+use Rattle.facet_model.specs.CoreStates.{is_same_pair}
+use Rattle.facet_words.specs.Commands.{Settings}
+use Rattle.facet_output.specs.Commands.{Command, Order, add, refresh, hold, release, search, document, stats, commit}
+use Rattle.facet_output.specs.Replies.{Reply, placed, numbered, found, shown, stats as numbers, refused}
+use Rattle.facet_output.specs.Answered.{Answered, is_of, of_session, comes_after, may_come_after}
+use Rattle.facet_output.specs.OneSession.{after_placing, AreExact, OneSessionIsExact}
+use Rattle.facet_output.specs.Output.{Opened, IsOutput, is_fresh, has_source, is_newest, is_right_pair}
+use Rattle.facet_output.specs.Sessions.{lines_rise}
+use Rattle.facet_output.specs.Telling.{placed_by, placed_operation, shows, stood, stood_by, refreshed, refreshed_by, is_number, is_up_to, is_no_newer}
+use Rattle.facet_output.proofs.Among.{In, of_all, in_left, in_right, of_append, of_any}
+use Rattle.facet_output.proofs.Fresh.{stood_shown}
+use Rattle.facet_output.proofs.Fronts.{get_there}
+use Rattle.facet_output.proofs.Known.{after_parts}
+use Rattle.facet_output.proofs.Ordered.{Later, IsAfter, phases_rising, of_later_map, later_weaker}
+
+-- ---- lists
+
+pub filter_all : {A : Type 0} (p : A → Bool) (xs : List A) → list_all p xs ≡ true → filter p xs ≡ xs
+filter_all p [] h = refl
+filter_all p (x ∷ xs) h = let both = and_parts (p x) (list_all p xs) h in let e : p x ≡ true = both.0 in rw e (ap (λ (l : List _). x ∷ l) (filter_all p xs both.1))
+
+filter_nothing : {A : Type 0} (p : A → Bool) (xs : List A) → ((x : A) → In x xs → p x ≡ false) → filter p xs ≡ []
+filter_nothing p [] h = refl
+filter_nothing p (x ∷ xs) h = let e : p x ≡ false = h x (inl refl) in rw e (filter_nothing p xs (λ y there. h y (inr there)))
+
+of_filter_map : {A B : Type 0} (f : A → Option B) (xs : List A) (k : ℕ) (y : B) → slice_get (filter_map f xs) k ≡ Some y → (x : A) × In x xs × (f x ≡ Some y)
+of_filter_map f [] k y at = absurd cc
+of_filter_map f (x ∷ xs) k y at = by k (f x) refl (of_filter_map f xs) at
+  where
+    by : (k : ℕ) (o : Option _) → f x ≡ o → ((k : ℕ) (y : _) → slice_get (filter_map f xs) k ≡ Some y → (z : _) × In z xs × (f z ≡ Some y)) → slice_get (cons_option o (filter_map f xs)) k ≡ Some y → (z : _) × In z (x ∷ xs) × (f z ≡ Some y)
+    by k None e rest at = let r = rest k y at in (r.0, inr r.1, r.2)
+    by zero (Some b) e rest at = (x, inl refl, e ∙ at)
+    by (suc k) (Some b) e rest at = let r = rest k y at in (r.0, inr r.1, r.2)
+
+numbered_at : (n : ℕ) (xs : List Operation) (k : ℕ) (e : ℕ × Operation) → slice_get (enumerate_from n xs) k ≡ Some e → e.0 ≡ n + k
+numbered_at n [] k e at = absurd cc
+numbered_at n (x ∷ xs) zero e at = let f : n ≡ e.0 = ap (λ (o : Option (ℕ × Operation)). (unwrap_or o e).0) at in omega arith
+numbered_at n (x ∷ xs) (suc k) e at = let f = numbered_at (n + 1) xs k e at in omega arith
+
+length_numbered : (n : ℕ) (xs : List Operation) → length (enumerate_from n xs) ≡ length xs
+length_numbered n [] = refl
+length_numbered n (x ∷ xs) = ap suc (length_numbered (n + 1) xs)
+
+-- ---- operations of one session
+
+all_numbered : (session n : ℕ) (xs : List Operation) → ((x : Operation) → In x xs → eqb x.session session ≡ true) → filter (λ e. eqb e.1.session session) (enumerate_from n xs) ≡ enumerate_from n xs
+all_numbered session n [] own = refl
+all_numbered session n (x ∷ xs) own = let e : eqb x.session session ≡ true = own x (inl refl) in rw e (ap (λ (l : List (ℕ × Operation)). (n, x) ∷ l) (all_numbered session (n + 1) xs (λ y there. own y (inr there))))
+
+some_numbered : (n : ℕ) (xs : List Operation) (x : Operation) → In x xs → filter (λ e. eqb e.1.session x.session) (enumerate_from n xs) ≡ [] → ⊥
+some_numbered n [] x there none = there
+some_numbered n (y ∷ xs) x there none = ⊎_elim
+    (λ is. let e : eqb y.session x.session ≡ true = eq-eqb y.session x.session (sym (ap (λ (z : Operation). z.session) is)) in let f : (n, y) ∷ filter (λ e. eqb e.1.session x.session) (enumerate_from (n + 1) xs) ≡ [] = rw e at none in cc)
+    (λ later. by (eqb y.session x.session) none (some_numbered (n + 1) xs x later)) there
+  where
+    by : (b : Bool) → cond b ((n, y) ∷ filter (λ e. eqb e.1.session x.session) (enumerate_from (n + 1) xs)) (filter (λ e. eqb e.1.session x.session) (enumerate_from (n + 1) xs)) ≡ []
+        → (filter (λ e. eqb e.1.session x.session) (enumerate_from (n + 1) xs) ≡ [] → ⊥) → ⊥
+    by true none rest = cc
+    by false none rest = rest none
+
+-- a placed operation shows itself and all before it, and stood at its place
+placed_shows : (session : ℕ) (command : Command) (reply : Reply) (p : ℕ × Operation) → placed_by session command reply ≡ Some p → (shows reply ≡ p.0 + 1) × (stood_by command reply ≡ Some p.0)
+placed_shows session (add doc) (placed at) p e = let f : at ≡ p.0 = ap (λ (o : Option (ℕ × Operation)). (unwrap_or o p).0) e in (omega arith, ap Some f)
+placed_shows session (add doc) (numbered n) p e = absurd cc
+placed_shows session (add doc) (found f) p e = absurd cc
+placed_shows session (add doc) (shown s) p e = absurd cc
+placed_shows session (add doc) (numbers s) p e = absurd cc
+placed_shows session (add doc) (refused r) p e = absurd cc
+placed_shows session refresh reply p e = absurd cc
+placed_shows session (hold name) reply p e = absurd cc
+placed_shows session (release name) reply p e = absurd cc
+placed_shows session (search on s) reply p e = absurd cc
+placed_shows session (document on at) reply p e = absurd cc
+placed_shows session (stats on) reply p e = absurd cc
+placed_shows session commit reply p e = absurd cc
+
+refreshed_stood : (command : Command) (reply : Reply) (n : ℕ) → refreshed_by command reply ≡ Some n → stood_by command reply ≡ Some n
+refreshed_stood refresh (numbered k) n e = e
+refreshed_stood refresh (placed at) n e = absurd cc
+refreshed_stood refresh (found f) n e = absurd cc
+refreshed_stood refresh (shown s) n e = absurd cc
+refreshed_stood refresh (numbers s) n e = absurd cc
+refreshed_stood refresh (refused r) n e = absurd cc
+refreshed_stood (add doc) reply n e = absurd cc
+refreshed_stood (hold name) reply n e = absurd cc
+refreshed_stood (release name) reply n e = absurd cc
+refreshed_stood (search on s) reply n e = absurd cc
+refreshed_stood (document on at) reply n e = absurd cc
+refreshed_stood (stats on) reply n e = absurd cc
+refreshed_stood commit reply n e = absurd cc
+
+other_way : (n m : ℕ) → eqb n m ≡ false → eqb m n ≡ false
+other_way n m no_match = ne_eqb m n (λ e. both_ways (eqb n m) no_match (eq-eqb n m (sym e)))
+
+get_behind : {A : Type 0} (xs ys : List A) (x : A) → slice_get ys 0 ≡ Some x → slice_get (xs ++ ys) (length xs) ≡ Some x
+get_behind [] ys x at = at
+get_behind (y ∷ xs) ys x at = get_behind xs ys x at
+
+get_front : {A : Type 0} (xs ys : List A) (k : ℕ) (x : A) → slice_get xs k ≡ Some x → slice_get (xs ++ ys) k ≡ Some x
+get_front [] ys k x there = absurd cc
+get_front (y ∷ xs) ys zero x there = there
+get_front (y ∷ xs) ys (suc k) x there = get_front xs ys k x there
+
+later_cross : {A : Type 0} (R : A → A → Type 0) (xs ys : List A) (x y : A) → Later R (xs ++ ys) → In x xs → In y ys → R x y
+later_cross R [] ys x y l there there' = absurd there
+later_cross R (z ∷ xs) ys x y l there there' = ⊎_elim (λ is. subst (λ w. R w y) (sym is) (l.0 y (in_right xs ys y there'))) (λ later. later_cross R xs ys x y l.1 later there') there
+
+later_right : {A : Type 0} (R : A → A → Type 0) (xs ys : List A) → Later R (xs ++ ys) → Later R ys
+later_right R [] ys l = l
+later_right R (z ∷ xs) ys l = later_right R xs ys l.1
+
+-- a number that a test of an option wants, where there is one
+wanted : {X : Type 0} (p : X → Bool) (o : Option X) (x : X) → option_map_or p o true ≡ true → o ≡ Some x → p x ≡ true
+wanted p None x h e = absurd cc
+wanted p (Some y) x h e = let same : y ≡ x = ap (λ q. unwrap_or q y) e in subst (λ z. p z ≡ true) same h
+
+implied_so : (b c : Bool) → (not b || c) ≡ true → b ≡ true → c ≡ true
+implied_so true c h e = h
+implied_so false c h e = absurd cc
+
+of_number : (n : ℕ) (o : Option ℕ) → is_number n o ≡ true → o ≡ Some n
+of_number n None h = absurd cc
+of_number n (Some k) h = ap Some (eqb-true k n h)
+
+module _ (settings : Settings) (phases : List (List Order)) (opened : Opened) (labels : List (List (List ℕ))) (history : List Operation) (published : List (ℕ × (ℕ × ℕ))) (answered : List Answered) (session : ℕ)
+    (o : IsOutput settings phases opened labels history published answered) (rise : list_all lines_rise phases ≡ true) (one : list_all (is_of session) answered ≡ true) where
+  own : (a : Answered) → In a answered → a.order.session ≡ session
+  own a there = eqb-true a.order.session session (of_all (is_of session) answered a one there)
+
+  abbrev IsLater : Answered → Answered → Type 0
+  IsLater a b = comes_after b a ≡ true
+
+  abbrev key : Answered → ℕ × Order
+  key a = (a.phase, a.order)
+
+  in_order : Later IsLater answered
+  in_order = later_weaker (λ a b. IsAfter (key a) (key b)) IsLater answered (λ a b there there' after.
+      let same : a.order.session ≡ b.order.session = own a there ∙ sym (own b there') in
+      ⊎_elim
+      (λ lt. or_left (nat_lt a.phase b.phase) _ (lt-ltb a.phase b.phase lt))
+      (λ p. or_right (nat_lt a.phase b.phase) _ (and_from _ _ (and_from _ _ (eq-eqb a.phase b.phase p.0) (eq-eqb a.order.session b.order.session same)) (lt-ltb a.order.line b.order.line p.1)))
+      (after same))
+      (of_later_map key IsAfter answered (subst (Later IsAfter) (sym o.asked) (phases_rising 0 phases rise)))
+
+  abbrev first : ℕ
+  first = length opened.docs
+
+  abbrev rest : List Operation
+  rest = drop (length opened.docs) history
+
+  own_rest : (x : Operation) → In x rest → eqb x.session session ≡ true
+  own_rest x there = by (eqb x.session session) refl
+    where
+      nobody : eqb x.session session ≡ false → filter_map placed_operation (of_session x.session answered) ≡ []
+      nobody t = ap (filter_map placed_operation) (filter_nothing (is_of x.session) answered (λ a among.
+          subst (λ (n : ℕ). eqb n x.session ≡ false) (sym (own a among)) (other_way x.session session t)))
+
+      by : (b : Bool) → eqb x.session session ≡ b → eqb x.session session ≡ true
+      by true t = t
+      by false t = absurd (some_numbered first rest x there (o.operations x.session ∙ nobody t))
+
+  -- the placed operations are all behind the opened ones, with their places
+  placed_all : filter_map placed_operation answered ≡ enumerate_from first rest
+  placed_all = ap (filter_map placed_operation) (sym (filter_all (is_of session) answered one)) ∙ sym (o.operations session) ∙ all_numbered session first rest own_rest
+
+  size : length history ≡ first + length rest
+  size =
+      let front = ap length o.opened_docs ∙ length-map opened.docs (λ doc. record { session = 0; doc = doc }) in
+      let t = length-take first history in let d = length-drop first history in omega arith
+
+  abbrev placed_in : List Answered → ℕ
+  placed_in done = length (filter_map placed_operation done)
+
+  fresh_at : (a : Answered) → In a answered → (n : ℕ) → stood a ≡ Some n → (first ≤ n) × (n ≤ length history) × ((b : Answered) → In b answered → comes_after a b ≡ true → shows b.reply ≤ n)
+  fresh_at a there n e =
+      let f = wanted (is_fresh first (length history) answered a) (stood a) n (of_all (λ a. option_map_or (is_fresh first (length history) answered a) (stood a) true) answered a o.fresh there) e in
+      let p = and_parts (nat_le first n && nat_le n (length history)) (list_all (λ b. not (comes_after a b) || nat_le (shows b.reply) n) answered) f in
+      let q = and_parts (nat_le first n) (nat_le n (length history)) p.0 in
+      (leb-true first n q.0, leb-true n (length history) q.1, λ b among after. leb-true (shows b.reply) n (implied_so (comes_after a b) (nat_le (shows b.reply) n) (of_all (λ b. not (comes_after a b) || nat_le (shows b.reply) n) answered b p.1 among) after))
+
+  -- ---- an order, between those before it and those behind it
+
+  module _ (done : List Answered) (a : Answered) (later : List Answered) (e : answered ≡ done ++ a ∷ later) where
+    in_done : (b : Answered) → In b done → In b answered
+    in_done b there = subst (λ (l : List Answered). In b l) (sym e) (in_left done (a ∷ later) b there)
+
+    in_later : (b : Answered) → In b (a ∷ later) → In b answered
+    in_later b there = subst (λ (l : List Answered). In b l) (sym e) (in_right done (a ∷ later) b there)
+
+    split : Later IsLater (done ++ a ∷ later)
+    split = subst (Later IsLater) e in_order
+
+    before : (b : Answered) → In b done → comes_after a b ≡ true
+    before b there = later_cross IsLater done (a ∷ later) b a split there (inl refl)
+
+    behind : (b : Answered) → In b later → comes_after b a ≡ true
+    behind b there = (later_right IsLater done (a ∷ later) split).0 b there
+
+    parts : filter_map placed_operation done ++ filter_map placed_operation (a ∷ later) ≡ enumerate_from first rest
+    parts = sym (filter_map-append placed_operation done (a ∷ later)) ∙ ap (filter_map placed_operation) (sym e) ∙ placed_all
+
+    -- the next operation stands behind all that were placed
+    next_at : (p : ℕ × Operation) → slice_get (filter_map placed_operation (a ∷ later)) 0 ≡ Some p → p.0 ≡ first + placed_in done
+    next_at p at = numbered_at first rest (placed_in done) p (subst (λ (l : List (ℕ × Operation)). slice_get l (placed_in done) ≡ Some p) parts (get_behind (filter_map placed_operation done) (filter_map placed_operation (a ∷ later)) p at))
+
+    -- the last one that was placed has been shown
+    last_shown : (n : ℕ) → stood a ≡ Some n → first + placed_in done ≤ n
+    last_shown n s = let f = fresh_at a (in_later a (inl refl)) n s in by (placed_in done) refl f.0 f.2
+      where
+        by : (k : ℕ) → placed_in done ≡ k → first ≤ n → ((b : Answered) → In b answered → comes_after a b ≡ true → shows b.reply ≤ n) → first + placed_in done ≤ n
+        by zero size low each = omega arith
+        by (suc k) size low each =
+            let r = get_there (filter_map placed_operation done) k (omega arith) in
+            let b = of_filter_map placed_operation done k r.0 r.1 in
+            let at : r.0.0 ≡ first + k = numbered_at first rest k r.0 (subst (λ (l : List (ℕ × Operation)). slice_get l k ≡ Some r.0) parts (get_front (filter_map placed_operation done) (filter_map placed_operation (a ∷ later)) k r.0 r.1)) in
+            let shown = (placed_shows b.0.order.session b.0.order.command b.0.reply r.0 b.2).0 in
+            let l = each b.0 (in_done b.0 b.1) (before b.0 b.1) in omega arith
+
+    not_above : (n : ℕ) → stood a ≡ Some n → n ≤ first + placed_in done
+    not_above n s = let f = fresh_at a (in_later a (inl refl)) n s in by (filter_map placed_operation (a ∷ later)) refl f.1
+      where
+        by : (ps : List (ℕ × Operation)) → filter_map placed_operation (a ∷ later) ≡ ps → n ≤ length history → n ≤ first + placed_in done
+        by [] none le =
+            let all = ap length parts ∙ length_numbered first rest in
+            let both = length-append (filter_map placed_operation done) (filter_map placed_operation (a ∷ later)) in
+            let nothing = ap length none in let s = size in omega arith
+        by (p ∷ ps) some le =
+            let at : slice_get (filter_map placed_operation (a ∷ later)) 0 ≡ Some p = ap (λ (l : List (ℕ × Operation)). slice_get l 0) some in
+            let next = next_at p at in
+            let b = of_filter_map placed_operation (a ∷ later) 0 p at in
+            let placed = placed_shows b.0.order.session b.0.order.command b.0.reply p b.2 in
+            ⊎_elim
+            (λ is. let same : Some n ≡ Some p.0 = sym s ∙ (λ i. stood (sym is i)) ∙ placed.1 in let f : n ≡ p.0 = ap (λ (q : Option ℕ). unwrap_or q n) same in omega arith)
+            (λ there. let f = (fresh_at b.0 (in_later b.0 b.1) p.0 placed.1).2 a (in_later a (inl refl)) (behind b.0 there) in
+            let g = stood_shown a.order.command a.reply n s in omega arith) b.1
+
+    exact_at : (n : ℕ) → stood a ≡ Some n → n ≡ first + placed_in done
+    exact_at n s = let l = last_shown n s in let m = not_above n s in omega arith
+
+  -- what the last refresh before an order has, or what was opened
+  record IsTaken (done : List Answered) (taken : ℕ) : Type 0 where
+    low : first ≤ taken
+    high : taken ≤ first + placed_in done
+    newest : (b : Answered) → In b done → (n : ℕ) → refreshed b ≡ Some n → n ≤ taken
+    source : (taken ≡ first) ⊎ ((b : Answered) × In b done × (refreshed b ≡ Some taken))
+
+  exact_pair : (done : List Answered) (a : Answered) (later : List Answered) → answered ≡ done ++ a ∷ later → (taken : ℕ) → IsTaken done taken → (pair : ℕ × ℕ) → a.took ≡ Some pair → pair.0 ≡ taken
+  exact_pair done a later e taken is pair t =
+      let there = in_later done a later e a (inl refl) in
+      let right = wanted (is_right_pair opened (map (λ e. e.1) published) answered a) a.took pair (of_all (λ a. option_map_or (is_right_pair opened (map (λ e. e.1) published) answered a) a.took true) answered a o.pairs there) t in
+      let p = and_parts (list_any (is_same_pair pair) (map (λ e. e.1) published) && has_source first answered a pair.0) (is_newest answered a pair) right in
+      let source = (and_parts (list_any (is_same_pair pair) (map (λ e. e.1) published)) (has_source first answered a pair.0) p.0).1 in
+      let low_high = ⊎_elim
+      (λ opened_one. let f = eqb-true pair.0 first opened_one in let l = is.low in (let g : (first ≤ pair.0) × (pair.0 ≤ taken) = (omega arith, omega arith) in g))
+      (λ some. from_refresh some)
+      (or_cases (pair.0 == first) (list_any (λ b. is_number pair.0 (refreshed b) && may_come_after a b) answered) source) in
+      let high = low_high.1 in let low = low_high.0 in
+      ⊎_elim
+      (λ none. omega arith)
+      (λ r. let among = in_done done a later e r.0 r.1 in
+      let after = before done a later e r.0 r.1 in
+      let at = implied_so (comes_after a r.0) _ (of_all (λ b. not (comes_after a b) || (is_up_to pair.0 (refreshed b) && option_map_or (λ p. is_no_newer p pair) b.took true)) answered r.0 p.1 among) after in
+      let up = wanted (λ k. nat_le k pair.0) (refreshed r.0) taken (and_parts (is_up_to pair.0 (refreshed r.0)) (option_map_or (λ p. is_no_newer p pair) r.0.took true) at).0 r.2 in
+      let l = leb-true taken pair.0 up in omega arith)
+      is.source
+    where
+      not_later : (b : Answered) → In b answered → may_come_after a b ≡ true → comes_after b a ≡ true → ⊥
+      not_later b among may after = ⊎_elim
+          (λ lt. let l = ltb-true b.phase a.phase lt in ⊎_elim (λ m. omega arith) (λ m. let f = m.0 in omega arith) (after_parts b a after))
+          (λ same. let q = and_parts (b.phase == a.phase) (not (b.order.session == a.order.session) || nat_lt b.order.line a.order.line) same in
+          let session_same : eqb b.order.session a.order.session ≡ true = eq-eqb b.order.session a.order.session (own b among ∙ sym (own a (in_later done a later e a (inl refl)))) in
+          let lt = ltb-true b.order.line a.order.line (implied_so (eqb b.order.session a.order.session) (nat_lt b.order.line a.order.line) q.1 session_same) in
+          let f = eqb-true b.phase a.phase q.0 in
+          ⊎_elim (λ m. omega arith) (λ m. let g = m.2 in omega arith) (after_parts b a after))
+          (or_cases (nat_lt b.phase a.phase) (b.phase == a.phase && (not (b.order.session == a.order.session) || nat_lt b.order.line a.order.line)) may)
+
+      not_itself : may_come_after a a ≡ true → ⊥
+      not_itself may = ⊎_elim
+          (λ lt. let l = ltb-true a.phase a.phase lt in omega arith)
+          (λ same. let q = and_parts (a.phase == a.phase) (not (a.order.session == a.order.session) || nat_lt a.order.line a.order.line) same in
+          let lt = ltb-true a.order.line a.order.line (implied_so (eqb a.order.session a.order.session) (nat_lt a.order.line a.order.line) q.1 (eq-eqb a.order.session a.order.session refl)) in omega arith)
+          (or_cases (nat_lt a.phase a.phase) (a.phase == a.phase && (not (a.order.session == a.order.session) || nat_lt a.order.line a.order.line)) may)
+
+      from_refresh : list_any (λ b. is_number pair.0 (refreshed b) && may_come_after a b) answered ≡ true → (first ≤ pair.0) × (pair.0 ≤ taken)
+      from_refresh some =
+          let r = of_any (λ b. is_number pair.0 (refreshed b) && may_come_after a b) answered some in
+          let q = and_parts (is_number pair.0 (refreshed r.0)) (may_come_after a r.0) r.2 in
+          let is_it = of_number pair.0 (refreshed r.0) q.0 in
+          let low = (fresh_at r.0 r.1 pair.0 (refreshed_stood r.0.order.command r.0.reply pair.0 is_it)).0 in
+          ⊎_elim
+          (λ here. (low, is.newest r.0 here pair.0 is_it))
+          (λ behind_or. ⊎_elim
+          (λ same. absurd (not_itself (subst (λ (b : Answered). may_come_after a b ≡ true) same q.1)))
+          (λ there. absurd (not_later r.0 r.1 q.1 (behind done a later e r.0 there))) behind_or)
+          (of_append done (a ∷ later) r.0 (subst (λ (l : List Answered). In r.0 l) e r.1))
+
+  grown : (done : List Answered) (a : Answered) → placed_in (done ++ a ∷ []) ≡ after_placing (placed_in done) (placed_operation a)
+  grown done a = ap length (filter_map-append placed_operation done (a ∷ [])) ∙ length-append (filter_map placed_operation done) (filter_map placed_operation (a ∷ [])) ∙ by (placed_operation a)
+    where
+      by : (q : Option (ℕ × Operation)) → placed_in done + length (cons_option q []) ≡ after_placing (placed_in done) q
+      by None = omega arith
+      by (Some p) = refl
+
+  added_first : (n k : ℕ) (q : Option (ℕ × Operation)) → n ≡ after_placing k q → first + n ≡ after_placing (first + k) q
+  added_first n k None e = omega arith
+  added_first n k (Some p) e = omega arith
+
+  taken_next : (done : List Answered) (a : Answered) (later : List Answered) → answered ≡ done ++ a ∷ later → (taken : ℕ) → IsTaken done taken → IsTaken (done ++ a ∷ []) (unwrap_or (refreshed a) taken)
+  taken_next done a later e taken is = by (refreshed a) refl
+    where
+      more : placed_in done ≤ placed_in (done ++ a ∷ [])
+      more = let g = grown done a in at_least (placed_operation a) g
+        where
+          at_least : (q : Option (ℕ × Operation)) → placed_in (done ++ a ∷ []) ≡ after_placing (placed_in done) q → placed_in done ≤ placed_in (done ++ a ∷ [])
+          at_least None g = omega arith
+          at_least (Some p) g = omega arith
+
+      by : (q : Option ℕ) → refreshed a ≡ q → IsTaken (done ++ a ∷ []) (unwrap_or q taken)
+      by None r = record {
+        low = is.low;
+        high = (let h = is.high in let m = more in omega arith);
+        newest = λ b there n f. ⊎_elim (λ l. is.newest b l n f) (λ s. ⊎_elim (λ same. let g : None ≡ Some n = sym r ∙ (λ i. refreshed (sym same i)) ∙ f in absurd cc) (λ none. absurd none) s) (of_append done (a ∷ []) b there);
+        source = ⊎_elim (λ s. inl s) (λ s. inr (s.0, in_left done (a ∷ []) s.0 s.1, s.2)) is.source;
+      }
+      by (Some n) r =
+          let at = exact_at done a later e n (refreshed_stood a.order.command a.reply n r) in record {
+            low = (let l = is.low in let h = is.high in omega arith);
+            high = (let m = more in omega arith);
+            newest = λ b there k f. ⊎_elim
+                (λ l. let g = is.newest b l k f in let h = is.high in omega arith)
+                (λ s. ⊎_elim (λ same. let g : Some n ≡ Some k = sym r ∙ (λ i. refreshed (sym same i)) ∙ f in let h : n ≡ k = ap (λ (q : Option ℕ). unwrap_or q n) g in omega arith) (λ none. absurd none) s) (of_append done (a ∷ []) b there);
+            source = inr (a, in_right done (a ∷ []) a (inl refl), r);
+          }
+
+  exact_from : (done later : List Answered) (taken : ℕ) → answered ≡ done ++ later → IsTaken done taken → AreExact (first + placed_in done) taken later
+  exact_from done [] taken e is = tt
+  exact_from done (a ∷ later) taken e is = (
+    exact_at done a later e,
+    exact_pair done a later e taken is,
+    subst (λ (n : ℕ). AreExact n (unwrap_or (refreshed a) taken) later) (added_first (placed_in (done ++ a ∷ [])) (placed_in done) (placed_operation a) (grown done a))
+        (exact_from (done ++ a ∷ []) later (unwrap_or (refreshed a) taken) (e ∙ sym (append_assoc done (a ∷ []) later)) (taken_next done a later e taken is)),
+  )
+
+  exact_whole : AreExact first first answered
+  exact_whole = subst (λ (n : ℕ). AreExact n first answered) (let e : first + 0 ≡ first = omega arith in e)
+      (exact_from [] answered first refl (record { low = omega arith; high = omega arith; newest = λ b none. absurd none; source = inl refl }))
+
+pub one_session_is_exact : OneSessionIsExact
+one_session_is_exact settings phases opened labels history published answered session o rise one = exact_whole settings phases opened labels history published answered session o rise one

@@ -1,0 +1,96 @@
+-- Adds, refreshes and commits come behind all that the session had been shown.
+use Rattle.std.proofs.Common.{◌≡◌, ℕ, ◌≤◌, Bool, true, false, List, length, map, Option, Some, None, refl, sym, subst, arith}
+use Rattle.std.specs.Prelude.{◌||◌, not, nat_le, IfSome, IsTrue}
+use Rattle.std.specs.List.{list_all}
+use Rattle.std.specs.Option.{option_map_or}
+use Rattle.std.proofs.lemmas.Bool.{and_from, le-leb}
+use Rattle.std.proofs.lemmas.List.{length-map}
+use Rattle.facet_words.specs.Commands.{Settings}
+use Rattle.facet_output.specs.Commands.{Command, Order, add, refresh, hold, release, search, document, stats, commit}
+use Rattle.facet_output.specs.Replies.{broken, labels_full, docs_full, not_held, held_already, top_zero, dim_value_not_kept, no_such_document, disk_failed, closed, numbers_spent, no_memory, Reply, placed, numbered, found, shown, stats as numbers, refused}
+use Rattle.facet_output.specs.Answered.{Answered, comes_after}
+use Rattle.facet_output.specs.Output.{Opened, is_fresh}
+use Rattle.facet_output.specs.Telling.{shows, stood, stood_at, stood_by}
+use Rattle.facet_output.specs.Seen.{Seen, opened_seen, history_of}
+use Rattle.facet_output.specs.Steps.{Step}
+use Rattle.facet_output.specs.Sessions.{AllRan, steps_of}
+use Rattle.facet_output.proofs.Among.{In, all_in, of_map}
+use Rattle.facet_output.proofs.Fronts.{prefix_length}
+use Rattle.facet_output.proofs.Known.{facts, after_sees}
+use Rattle.facet_output.proofs.Showing.{shows_seen}
+
+pub if_some : {A : Type 0} (P : A → Type 0) (o : Option A) (x : A) → IfSome o P → o ≡ Some x → P x
+if_some P None x is e = absurd cc
+if_some P (Some y) x is e = let same : y ≡ x = cc in subst P same is
+
+-- a test of the tests before: where the first holds the second does
+pub implied : (b c : Bool) → (b ≡ true → c ≡ true) → (not b || c) ≡ true
+implied true c h = h refl
+implied false c h = refl
+
+stands_shown : (reply : Reply) (n : ℕ) → stood_at reply ≡ Some n → n ≤ shows reply
+stands_shown (placed at) n e = let f : at ≡ n = cc in omega arith
+stands_shown (numbered k) n e = let f : k ≡ n = cc in omega arith
+stands_shown (found f) n e = absurd cc
+stands_shown (shown s) n e = absurd cc
+stands_shown (numbers s) n e = absurd cc
+stands_shown (refused (broken b)) n e = absurd cc
+stands_shown (refused (labels_full k)) n e = absurd cc
+stands_shown (refused (docs_full k)) n e = let f : k ≡ n = cc in omega arith
+stands_shown (refused not_held) n e = absurd cc
+stands_shown (refused held_already) n e = absurd cc
+stands_shown (refused (top_zero k)) n e = absurd cc
+stands_shown (refused (dim_value_not_kept k)) n e = absurd cc
+stands_shown (refused (no_such_document k)) n e = absurd cc
+stands_shown (refused (disk_failed k)) n e = absurd cc
+stands_shown (refused (closed k)) n e = absurd cc
+stands_shown (refused (numbers_spent k)) n e = absurd cc
+stands_shown (refused no_memory) n e = absurd cc
+
+pub stood_shown : (command : Command) (reply : Reply) (n : ℕ) → stood_by command reply ≡ Some n → n ≤ shows reply
+stood_shown (add doc) reply n e = stands_shown reply n e
+stood_shown refresh reply n e = stands_shown reply n e
+stood_shown commit reply n e = stands_shown reply n e
+stood_shown (hold name) reply n e = absurd cc
+stood_shown (release name) reply n e = absurd cc
+stood_shown (search on s) reply n e = absurd cc
+stood_shown (document on at) reply n e = absurd cc
+stood_shown (stats on) reply n e = absurd cc
+
+module _ (settings : Settings) (phases : List (List Order)) (opened : Opened) (ran : List (List Step)) (last : Seen) (all : AllRan settings phases opened ran last) where
+  abbrev pub answers : List Answered
+  answers = map (λ (x : Step). x.answered) (steps_of ran)
+
+  -- what a reply showed was seen before an order that comes after it
+  pub shown_before : (x y : Step) → In x (steps_of ran) → In y (steps_of ran) → comes_after y.answered x.answered ≡ true → shows x.answered.reply ≤ length y.before.operations
+  shown_before x y there there' after =
+      let f = facts settings phases opened ran last all x there in
+      let l = shows_seen settings f.2.0 x f.2.1 f.2.2 in
+      let m = prefix_length x.after.operations y.before.operations (after_sees settings phases opened ran last all x y there there' after).operations in omega arith
+
+  each_fresh : (x : Step) → In x (steps_of ran) → (n : ℕ) → stood x.answered ≡ Some n → is_fresh (length opened.docs) (length (history_of last)) answers x.answered n ≡ true
+  each_fresh x there n e =
+      let f = facts settings phases opened ran last all x there in
+      let since : length x.before.operations ≤ n = if_some (λ n. length x.before.operations ≤ n) (stood x.answered) n f.2.1.fresh e in
+      let first = prefix_length (opened_seen opened).operations x.before.operations f.0.operations in
+      let size : length (opened_seen opened).operations ≡ length opened.docs = length-map opened.docs (λ doc. (0, doc)) in
+      let shown = shows_seen settings f.2.0 x f.2.1 f.2.2 in
+      let most = stood_shown x.answered.order.command x.answered.reply n e in
+      let end = prefix_length x.after.operations last.operations f.1.operations in
+      let whole : length (history_of last) ≡ length last.operations = length-map last.operations (λ e. record { session = e.0; doc = e.1 }) in
+      and_from _ _ (and_from _ _ (le-leb (length opened.docs) n (omega arith)) (le-leb n (length (history_of last)) (omega arith)))
+      (all_in (λ b. not (comes_after x.answered b) || nat_le (shows b.reply) n) answers (λ b among.
+      let y = of_map (λ (x : Step). x.answered) (steps_of ran) b among in
+      subst (λ (b : Answered). (not (comes_after x.answered b) || nat_le (shows b.reply) n) ≡ true) (sym y.2)
+      (implied (comes_after x.answered y.0.answered) (nat_le (shows y.0.answered.reply) n) (λ after.
+      let l = shown_before y.0 x y.1 there after in le-leb (shows y.0.answered.reply) n (omega arith)))))
+
+  pub fresh_so : IsTrue (list_all (λ a. option_map_or (is_fresh (length opened.docs) (length (history_of last)) answers a) (stood a) true) answers)
+  fresh_so = all_in (λ a. option_map_or (is_fresh (length opened.docs) (length (history_of last)) answers a) (stood a) true) answers (λ a among.
+      let x = of_map (λ (x : Step). x.answered) (steps_of ran) a among in
+      subst (λ (a : Answered). option_map_or (is_fresh (length opened.docs) (length (history_of last)) answers a) (stood a) true ≡ true) (sym x.2)
+      (by x.0.answered (stood x.0.answered) (each_fresh x.0 x.1)))
+    where
+      by : (a : Answered) (o : Option ℕ) → ((n : ℕ) → o ≡ Some n → is_fresh (length opened.docs) (length (history_of last)) answers a n ≡ true) → option_map_or (is_fresh (length opened.docs) (length (history_of last)) answers a) o true ≡ true
+      by a None each = refl
+      by a (Some n) each = each n refl

@@ -1,0 +1,126 @@
+-- A reply that is right of what a session had seen is right of what there is at the end.
+use Rattle.std.proofs.Common.{◌≡◌, inl, inr, ⊎_elim, ℕ, ◌≤◌, Bool, true, false, List, [], ◌∷◌, ◌++◌, length, map, Option, Some, None, slice_get, refl, sym, ap, ◌∙◌, subst, arith}
+use Rattle.std.specs.Prelude.{drop, unwrap_or}
+use Rattle.std.specs.List.{list_all}
+use Rattle.std.proofs.lemmas.Bool.{or_left}
+use Rattle.std.proofs.lemmas.List.{length-map}
+use Rattle.std.proofs.lemmas.List.Folds.{list_any-append}
+use mathlib.Core.List.{IsPrefix}
+use Rattle.facet_names.specs.Labels.{IsLabelList, stands, place, prefixes}
+use Rattle.facet_names.specs.Paths.{path_eq}
+use Rattle.facet_names.proofs.LabelLists.{place_at, label_at}
+use Rattle.facet_model.specs.Accepts.{Broken, first_broken}
+use Rattle.facet_model.specs.Documents.{Doc}
+use Rattle.facet_model.specs.Histories.{Operation, docs, knows}
+use Rattle.facet_model.proofs.Fronts.{weaker}
+use Rattle.facet_words.specs.Commands.{Settings}
+use Rattle.facet_output.specs.Commands.{Command, Order, add, refresh, hold, release, search, document, stats, commit}
+use Rattle.facet_output.specs.Replies.{Reply, stats as numbers}
+use Rattle.facet_output.specs.Answered.{Answered, of_session}
+use Rattle.facet_output.specs.Held.{Held, held_after}
+use Rattle.facet_output.specs.Output.{Opened}
+use Rattle.facet_output.specs.Replying.{IsAdded, IsResolved, IsOf, IsFound, IsShown, IsRight, RightReply, RightReplies, IsCommitted, Counts, pair_seen, docs_of, first_refused, numbers_of}
+use Rattle.facet_output.specs.Seen.{Seen, Sees, opened_seen, labels_of, history_of}
+use Rattle.facet_output.specs.Steps.{Step, IsStep}
+use Rattle.facet_output.specs.Sessions.{SessionRan, AllRan, steps_of, own_steps, is_by}
+use Rattle.facet_output.proofs.Among.{In, of_filter}
+use Rattle.facet_output.proofs.Answers.{answers}
+use Rattle.facet_output.proofs.Bringing.{full_last, labels_begin}
+use Rattle.facet_output.proofs.Chain.{sees_last}
+use Rattle.facet_output.proofs.Fronts.{prefix_length, prefix_get, map_prefix, take_prefix}
+use Rattle.facet_output.proofs.HeldPairs.{HeldIn, held_more, held_step, pair_in}
+use Rattle.facet_output.proofs.Placing.{own_answers}
+
+-- ---- labels that go on
+
+still_stands : (labels more : List (List (List ℕ))) (path : List (List ℕ)) → stands labels path ≡ true → stands (labels ++ more) path ≡ true
+still_stands labels more path h = list_any-append (path_eq path) labels more ∙ or_left (stands labels path) (stands more path) h
+
+pub still_knows : (labels all : List (List (List ℕ))) (doc : Doc) → IsPrefix labels all → knows labels doc ≡ true → knows all doc ≡ true
+still_knows labels all doc begins h = subst (λ (l : List (List (List ℕ))). knows l doc ≡ true) begins.1
+    (weaker (λ label. list_all (stands labels) (prefixes label)) (λ label. list_all (stands (labels ++ begins.0)) (prefixes label))
+    (λ label each. weaker (stands labels) (stands (labels ++ begins.0)) (still_stands labels begins.0) (prefixes label) each) doc.labels h)
+
+still_place : (labels all : List (List (List ℕ))) (path : List (List ℕ)) (k : ℕ) → IsPrefix labels all → IsLabelList all → place labels path ≡ Some k → place all path ≡ Some k
+still_place labels all path k begins is e = place_at all is k path (prefix_get labels all k path begins (label_at labels k path e))
+
+still_places : (labels all : List (List (List ℕ))) (paths : List (List (List ℕ))) (ordinals : List ℕ) → IsPrefix labels all → IsLabelList all → map (place labels) paths ≡ map Some ordinals → map (place all) paths ≡ map Some ordinals
+still_places labels all [] [] begins is e = refl
+still_places labels all [] (k ∷ ordinals) begins is e = absurd cc
+still_places labels all (p ∷ paths) [] begins is e = absurd cc
+still_places labels all (p ∷ paths) (k ∷ ordinals) begins is e =
+    let first : place labels p ≡ Some k = ap (λ (l : List (Option ℕ)). unwrap_or (slice_get l 0) None) e in
+    let rest : map (place labels) paths ≡ map Some ordinals = ap (λ (l : List (Option ℕ)). drop 1 l) e in
+    λ i. still_place labels all p k begins is first i ∷ still_places labels all paths ordinals begins is rest i
+
+-- ---- a reply
+
+module _ (settings : Settings) (labels all : List (List (List ℕ))) (history whole : List Operation) (held : Held) (session : ℕ) (took : Option (ℕ × ℕ)) (reply : Reply)
+    (begins : IsPrefix labels all) (grows : IsPrefix history whole) (is : IsLabelList all) (full : settings.max_labels ≤ length labels → labels ≡ all) where
+  lifted_resolved : (doc : Doc) (b : Bool) → knows labels doc ≡ b → IsResolved settings labels history session doc b reply → IsResolved settings all whole session doc (knows all doc) reply
+  lifted_resolved doc false e r = subst (λ (l : List (List (List ℕ))). IsResolved settings l whole session doc (knows l doc) reply) (full r.0) (rw e r)
+  lifted_resolved doc true e r = let k : knows all doc ≡ true = still_knows labels all doc begins e in rw k (⊎_elim
+      (λ p. inl (p.0, prefix_get history whole p.0 (record { session = session; doc = doc }) grows p.1, p.2, p.3))
+      (λ n. inr (n.0, (let l = prefix_length history whole grows in let m = n.1 in omega arith), n.2, n.3)) r)
+
+  lifted_added : (doc : Doc) (o : Option Broken) → IsAdded settings labels history session doc o reply → IsAdded settings all whole session doc o reply
+  lifted_added doc (Some b) r = r
+  lifted_added doc None r = lifted_resolved doc (knows labels doc) refl r
+
+  lifted_counts : Counts history reply → Counts whole reply
+  lifted_counts c = (c.0, (let l = prefix_length history whole grows in let m = c.1 in omega arith), c.2)
+
+  lifted_of : (R S : ℕ × ℕ → Reply → Type 0) (o : Option (ℕ × ℕ)) (on : Option (List ℕ)) → ((pair : ℕ × ℕ) → o ≡ Some pair → R pair reply → S pair reply) → IsOf R o on reply → IsOf S o on reply
+  lifted_of R S (Some pair) on by r = by pair refl r
+  lifted_of R S None (Some name) by r = r
+  lifted_of R S None None by r = r
+
+  same_docs : (pair : ℕ × ℕ) → pair.0 ≤ length history → docs_of history pair ≡ docs_of whole pair
+  same_docs pair le = sym (ap docs (take_prefix history whole pair.0 grows le))
+
+  lifted_shown : (n at : ℕ) (ds : List Doc) (o : Option Doc) → IsShown labels n ds at o reply → IsShown all n ds at o reply
+  lifted_shown n at ds None r = r
+  lifted_shown n at ds (Some doc) r = (r.0, still_places labels all doc.labels r.0 begins is r.1, r.2)
+
+  lifted_committed : IsCommitted history reply → IsCommitted whole reply
+  lifted_committed r = ⊎_elim (λ c. inl (lifted_counts c)) (λ r. inr r) r
+
+  lifted : (command : Command) → ((on : Option (List ℕ)) (pair : ℕ × ℕ) → pair_seen held took on ≡ Some pair → pair.0 ≤ length history) → IsRight settings labels history held session command took reply → IsRight settings all whole held session command took reply
+  lifted (add doc) seen right = lifted_added doc (first_broken settings.config doc) right
+  lifted refresh seen right = lifted_counts right
+  lifted (hold name) seen right = right
+  lifted (release name) seen right = right
+  lifted (search on s) seen right = lifted_of
+      (λ pair r. IsFound settings.config s (first_refused settings.config s.asks) pair.0 (docs_of history pair) r) (λ pair r. IsFound settings.config s (first_refused settings.config s.asks) pair.0 (docs_of whole pair) r)
+      (pair_seen held took on) on (λ pair e r. subst (λ (ds : List Doc). IsFound settings.config s (first_refused settings.config s.asks) pair.0 ds reply) (same_docs pair (seen on pair e)) r) right
+  lifted (document on at) seen right = lifted_of
+      (λ pair r. IsShown labels pair.0 (docs_of history pair) at (slice_get (docs_of history pair) at) r) (λ pair r. IsShown all pair.0 (docs_of whole pair) at (slice_get (docs_of whole pair) at) r)
+      (pair_seen held took on) on (λ pair e r. subst (λ (ds : List Doc). IsShown all pair.0 ds at (slice_get ds at) reply) (same_docs pair (seen on pair e)) (lifted_shown pair.0 at (docs_of history pair) (slice_get (docs_of history pair) at) r)) right
+  lifted (stats on) seen right = lifted_of (λ pair r. r ≡ numbers_of history pair) (λ pair r. r ≡ numbers_of whole pair)
+      (pair_seen held took on) on (λ pair e r. r ∙ ap (λ ds. numbers (record { operations = pair.0; labels = pair.1; documents = length ds })) (same_docs pair (seen on pair e))) right
+  lifted commit seen right = lifted_committed right
+
+-- ---- the replies of a session
+
+module _ (settings : Settings) (phases : List (List Order)) (opened : Opened) (ran : List (List Step)) (last : Seen) (all : AllRan settings phases opened ran last) where
+  right_at_last : (held : Held) (x : Step) → In x (steps_of ran) → Sees x.after last → IsStep settings held x → HeldIn held x.before → RightReply settings (labels_of last) (history_of last) held x.answered
+  right_at_last held x there sees step within = ⊎_elim
+      (λ right. inl (lifted settings (labels_of x.after) (labels_of last) (history_of x.after) (history_of last) held x.answered.order.session x.answered.took x.answered.reply
+      (labels_begin settings phases opened ran last all x.after last sees)
+      (map_prefix (λ e. record { session = e.0; doc = e.1 }) x.after.operations last.operations sees.operations) all.label_list
+      (full_last settings phases opened ran last all x there) x.answered.order.command
+      (λ on pair e. let l = (pair_in settings held x on pair step within e).0 in let s : length (history_of x.after) ≡ length x.after.operations = length-map x.after.operations (λ e. record { session = e.0; doc = e.1 }) in omega arith) right))
+      (λ lacks. inr lacks) step.right
+
+  replies_of : (session : ℕ) (held : Held) (seen : Seen) (xs : List Step) → ((x : Step) → In x xs → In x (steps_of ran)) → SessionRan settings session held seen xs last → HeldIn held seen
+      → RightReplies settings (labels_of last) (history_of last) held (map (λ (x : Step). x.answered) xs)
+  replies_of session held seen [] among goes within = tt
+  replies_of session held seen (x ∷ xs) among goes within =
+      let within' = held_more held seen x.before goes.0.sees within in (
+        right_at_last held x (among x (inl refl)) (sees_last settings session (held_after held x.answered) x.after xs last goes.2) goes.1 within',
+        replies_of session (held_after held x.answered) x.after xs (λ y there. among y (inr there)) goes.2 (held_step settings held x goes.1 within'),
+      )
+
+  pub replies_so : (session : ℕ) → RightReplies settings (labels_of last) (history_of last) [] (of_session session (answers (steps_of ran)))
+  replies_so session = subst (λ (l : List Answered). RightReplies settings (labels_of last) (history_of last) [] l) (own_answers settings phases opened ran last all session)
+      (replies_of session [] (opened_seen opened) (own_steps session (steps_of ran)) (λ x there. (of_filter (is_by session) (steps_of ran) x there).0) (all.sessions session) (λ h none. absurd none))

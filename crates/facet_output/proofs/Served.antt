@@ -1,0 +1,676 @@
+-- One session that ran alone was served on the shelf that `facet_words` speaks of.
+use Rattle.std.proofs.Common.{◌≡◌, ◌⊎◌, inl, inr, ⊎_elim, ℕ, ◌+◌, ◌≤◌, ◌<◌, ◌^◌, Bool, true, false, List, [], ◌∷◌, ◌++◌, length, map, Option, Some, None, slice_get, refl, sym, ap, ◌∙◌, subst, arith, length-append}
+use Rattle.std.specs.Prelude.{take, drop, flat_map, filter_map, if◌then◌else◌, nat_lt, nat_le, option_to_list, option_map, unwrap_or, IfSome, IsTrue}
+use Rattle.std.specs.List.{list_all, enumerate_from, cons_option}
+use Rattle.std.proofs.lemmas.Bool.{both_ways, cases_lt, lt-ltb, le-ltb, le-leb, lt-leb}
+use Rattle.std.proofs.lemmas.List.{length-map, map-append, take-map, take_all}
+use Rattle.std.proofs.lemmas.List.Elements.{filter_map-append}
+use mathlib.Core.List.{IsPrefix}
+use Rattle.facet_names.specs.Labels.{stands, prefixes}
+use Rattle.facet_model.specs.Accepts.{Broken, first_broken}
+use Rattle.facet_model.specs.Asks.{Asked, AskFault, top_of_none, value_not_kept, ask_fault}
+use Rattle.facet_model.specs.Documents.{Doc}
+use Rattle.facet_model.specs.Flags.{Config}
+use Rattle.facet_model.specs.Histories.{Operation, docs, knows}
+use Rattle.facet_replies.specs.Replies as replies
+use Rattle.facet_replies.specs.ReplyLines.{reply_line as line_of, reply_data}
+use Rattle.facet_words.specs.Answers as words_answers
+use Rattle.facet_words.specs.Answers.{Store, Shelf, with_labels, flushed, hits_of, first_hits}
+use Rattle.facet_words.specs.Commands as words
+use Rattle.facet_words.specs.Commands.{Settings, Search}
+use Rattle.facet_output.specs.Answered.{Answered}
+use Rattle.facet_output.specs.Commands.{Command, Order, add, refresh, search, document, stats, commit}
+use Rattle.facet_output.specs.Held.{Held, held_after}
+use Rattle.facet_output.specs.OneSession.{AddLeaves, Leaves, LeavesFirst, room, is_resolved}
+use Rattle.facet_output.specs.OneShelf.{command_of, order_of, reply_of, IsServed, AreServed, EndsCommit, Served, OneSessionIsServed, RightIsServed}
+use Rattle.facet_output.specs.Output.{Opened}
+use Rattle.facet_output.specs.OutputLines.{reply_line, reply_lines}
+use Rattle.facet_output.specs.Replies.{Reply, placed, numbered, stats as numbers, refused, labels_full, docs_full, disk_failed, closed, numbers_spent, no_memory}
+use Rattle.facet_output.specs.Replying.{IsAdded, IsResolved, IsOf, IsFound, IsShown, IsRight, IsCommitted, Counts, docs_of, ask_refusal, first_refused, numbers_of, takes_memory}
+use Rattle.facet_output.specs.Seen.{CommitPoint, Entries, Seen, Sees, IsTold, EntersNone, opened_seen, labels_of, history_of, failures}
+use Rattle.facet_output.specs.Sessions.{SessionRan, AllRan, steps_of, own_steps, is_by}
+use Rattle.facet_output.specs.Steps.{Step, IsStep, IsLastPair, EntersOperation, EntersPair, EntersPoint, EntersPoints, EntersCommit}
+use Rattle.facet_output.specs.Telling.{placed_by, refreshed_by, stood_by, says_full}
+use Rattle.facet_output.proofs.Alone.{nothing_between, own, step_leaves}
+use Rattle.facet_output.proofs.Among.{In, all_in, in_left, in_right}
+use Rattle.facet_output.proofs.Bringing.{opened_first}
+use Rattle.facet_output.proofs.Chain.{sees_self, sees_trans, sees_last}
+use Rattle.facet_output.proofs.Exact.{filter_all}
+use Rattle.facet_output.proofs.Fresh.{if_some}
+use Rattle.facet_output.proofs.Fronts.{prefix_trans, prefix_self, get_last}
+use Rattle.facet_output.proofs.Growing.{all_stand}
+
+-- ---- lines
+
+lines_agree : (session line : ℕ) (r : replies.Reply) → reply_line session line (reply_of r) ≡ line_of session line r
+unfolding reply_line line_of reply_data
+lines_agree session line (replies.placed at) = refl
+lines_agree session line (replies.numbered n) = refl
+lines_agree session line (replies.found f) = refl
+lines_agree session line (replies.shown s) = refl
+lines_agree session line (replies.stats n) = refl
+lines_agree session line (replies.refused (replies.broken b)) = refl
+lines_agree session line (replies.refused (replies.labels_full size)) = refl
+lines_agree session line (replies.refused (replies.docs_full count)) = refl
+lines_agree session line (replies.refused (replies.top_zero ask)) = refl
+lines_agree session line (replies.refused (replies.dim_value_not_kept ask)) = refl
+lines_agree session line (replies.refused (replies.no_such_document count)) = refl
+lines_agree session line (replies.refused (replies.disk_failed count)) = refl
+lines_agree session line (replies.refused (replies.closed count)) = refl
+lines_agree session line (replies.refused (replies.numbers_spent number)) = refl
+lines_agree session line (replies.refused replies.no_memory) = refl
+
+-- ---- the first refused ask
+
+abbrev named : ℕ × AskFault → replies.Refusal
+named r = words_answers.ask_refusal r.0 r.1
+
+named_same : (r : ℕ × AskFault) → reply_of (replies.refused (named r)) ≡ refused (ask_refusal r.0 r.1)
+named_same r = by r.1
+  where
+    by : (fault : AskFault) → reply_of (replies.refused (words_answers.ask_refusal r.0 fault)) ≡ refused (ask_refusal r.0 fault)
+    by top_of_none = refl
+    by value_not_kept = refl
+
+first_named : (config : Config) (xs : List (ℕ × Asked)) → slice_get (filter_map (λ e. option_map (words_answers.ask_refusal e.0) (ask_fault config e.1)) xs) 0
+    ≡ option_map named (slice_get (filter_map (λ e. option_map (λ fault. (e.0, fault)) (ask_fault config e.1)) xs) 0)
+first_named config [] = refl
+first_named config (e ∷ xs) = by (ask_fault config e.1) (first_named config xs)
+  where
+    by : (o : Option AskFault) → slice_get (filter_map (λ e. option_map (words_answers.ask_refusal e.0) (ask_fault config e.1)) xs) 0 ≡ option_map named (slice_get (filter_map (λ e. option_map (λ fault. (e.0, fault)) (ask_fault config e.1)) xs) 0)
+        → slice_get (cons_option (option_map (words_answers.ask_refusal e.0) o) (filter_map (λ e. option_map (words_answers.ask_refusal e.0) (ask_fault config e.1)) xs)) 0
+        ≡ option_map named (slice_get (cons_option (option_map (λ fault. (e.0, fault)) o) (filter_map (λ e. option_map (λ fault. (e.0, fault)) (ask_fault config e.1)) xs)) 0)
+    by None rest = rest
+    by (Some fault) rest = refl
+
+-- ---- numbers and options
+
+of_none : (o : Option ℕ) → option_to_list o ≡ [] → o ≡ None
+of_none None e = refl
+of_none (Some c) e = absurd cc
+
+of_one : (o : Option ℕ) (c : ℕ) → option_to_list o ≡ c ∷ [] → o ≡ Some c
+of_one None c e = absurd cc
+of_one (Some d) c e = ap Some (ap (λ (l : List ℕ). unwrap_or (slice_get l 0) d) e)
+
+-- ---- shelves
+
+-- a shelf of these parts
+abbrev shelf_with : List (List (List ℕ)) → List Doc → ℕ × ℕ → ℕ → ℕ → Store → Shelf
+shelf_with labels documents pair segments waiting store = record { labels = labels; docs = documents; taken = pair.0; taken_labels = pair.1; segments = segments; waiting = waiting; store = store }
+
+shelf_same : (labels labels' : List (List (List ℕ))) (ds ds' : List Doc) (pair : ℕ × ℕ) (segments waiting : ℕ) (store : Store) → labels ≡ labels' → ds ≡ ds' → shelf_with labels ds pair segments waiting store ≡ shelf_with labels' ds' pair segments waiting store
+shelf_same labels labels' ds ds' pair segments waiting store l d = λ i. shelf_with (l i) (d i) pair segments waiting store
+
+-- the documents of operations
+abbrev documents_in : Entries Doc → List Doc
+documents_in operations = docs (map (λ (e : ℕ × Doc). record { session = e.0; doc = e.1 }) operations)
+
+abbrev operation_of : ℕ × Doc → Operation
+operation_of e = record { session = e.0; doc = e.1 }
+
+documents_size : (operations : Entries Doc) → length (documents_in operations) ≡ length operations
+documents_size operations = length-map (map operation_of operations) (λ (o : Operation). o.doc) ∙ length-map operations operation_of
+
+history_size : (operations : Entries Doc) → length (map operation_of operations) ≡ length operations
+history_size operations = length-map operations operation_of
+
+one_more : (operations : Entries Doc) (n : ℕ) (doc : Doc) → documents_in (operations ++ (n, doc) ∷ []) ≡ documents_in operations ++ doc ∷ []
+one_more operations n doc = ap docs (map-append operation_of operations ((n, doc) ∷ [])) ∙ map-append (λ (o : Operation). o.doc) (map operation_of operations) (operation_of (n, doc) ∷ [])
+
+-- the last pair that was published
+abbrev EndsWith : Entries (ℕ × ℕ) → ℕ × ℕ → Type 0
+EndsWith pairs pair = (front : Entries (ℕ × ℕ)) × (n : ℕ) × (pairs ≡ front ++ (n, pair) ∷ [])
+
+same_end : (pairs : Entries (ℕ × ℕ)) (pair : ℕ × ℕ) → EndsWith pairs pair → (front : Entries (ℕ × ℕ)) (n : ℕ) (other : ℕ × ℕ) → pairs ≡ front ++ (n, other) ∷ [] → other ≡ pair
+same_end pairs pair ends front n other e =
+    let here : ℕ × (ℕ × ℕ) = (ends.1, pair) in
+    let there : ℕ × (ℕ × ℕ) = (n, other) in
+    let size : length front ≡ length ends.0 = (let a = ap length e ∙ length-append front (there ∷ []) in let b = ap length ends.2 ∙ length-append ends.0 (here ∷ []) in omega arith) in
+    let at : slice_get pairs (length ends.0) ≡ Some here = subst (λ (ps : Entries (ℕ × ℕ)). slice_get ps (length ends.0) ≡ Some here) (sym ends.2) (get_last ends.0 here) in
+    let at' : slice_get pairs (length front) ≡ Some there = subst (λ (ps : Entries (ℕ × ℕ)). slice_get ps (length front) ≡ Some there) (sym e) (get_last front there) in
+    let same : Some there ≡ Some here = sym at' ∙ ap (slice_get pairs) size ∙ at in
+    ap (λ (o : Option (ℕ × (ℕ × ℕ))). (unwrap_or o there).1) same
+
+-- the shelf is of what was seen
+record Fits (seen : Seen) (shelf : Shelf) : Type 0 where
+  pair : ℕ × ℕ
+  segments : ℕ
+  waiting : ℕ
+  store : Store
+  is : shelf ≡ shelf_with (labels_of seen) (documents_in seen.operations) pair segments waiting store
+  ends : EndsWith seen.pairs pair
+  closed_so : failures seen.commits ≡ option_to_list store.closed
+
+-- what is known of the reply to a command, and of what was entered beside it
+record Facts (settings : Settings) (before after : Seen) (held : Held) (session : ℕ) (command : Command) (took : Option (ℕ × ℕ)) (reply : Reply) : Type 0 where
+  right : IsRight settings (labels_of after) (history_of after) held session command took reply ⊎ (IsTrue (takes_memory command) × (reply ≡ refused no_memory))
+  leaves : Leaves settings (labels_of before) command reply (labels_of after)
+  operations : EntersOperation session (placed_by session command reply) before.operations after.operations
+  pairs : EntersPair session (length (labels_of before)) (length (labels_of after)) (refreshed_by command reply) before.pairs after.pairs
+  commits : EntersPoints session command reply before.commits after.commits
+  fresh : IfSome (stood_by command reply) (λ n. length before.operations ≤ n)
+  taken : IfSome took (λ pair. IsLastPair after pair × (refreshed_by command reply ≡ None))
+
+-- the reply on the shelf, and the next shelf
+record Goes (settings : Settings) (command : words.Command) (reply : Reply) (shelf : Shelf) (after : Seen) : Type 0 where
+  told : replies.Reply
+  next : Shelf
+  same : reply_of told ≡ reply
+  served : IsServed settings shelf command told next
+  fits : Fits after next
+
+-- ---- one step, where nobody else enters anything
+
+module _ (settings : Settings) (before after : Seen) (held : Held) (session : ℕ)
+    (operations_so : (ops : Entries Doc) → EntersNone session before.operations ops → IsPrefix ops after.operations → before.operations ≡ ops)
+    (pairs_so : (ps : Entries (ℕ × ℕ)) → EntersNone session before.pairs ps → IsPrefix ps after.pairs → before.pairs ≡ ps)
+    (commits_so : (cs : Entries CommitPoint) → EntersNone session before.commits cs → IsPrefix cs after.commits → before.commits ≡ cs)
+    (pair : ℕ × ℕ) (segments waiting : ℕ) (store : Store) (ends : EndsWith before.pairs pair) (closed_so : failures before.commits ≡ option_to_list store.closed) where
+  abbrev S : Shelf
+  S = shelf_with (labels_of before) (documents_in before.operations) pair segments waiting store
+
+  abbrev D : List Doc
+  D = documents_in before.operations
+
+  no_operation : EntersNone session before.operations after.operations → before.operations ≡ after.operations
+  no_operation none = operations_so after.operations none (prefix_self after.operations)
+
+  no_pair : EntersNone session before.pairs after.pairs → before.pairs ≡ after.pairs
+  no_pair none = pairs_so after.pairs none (prefix_self after.pairs)
+
+  no_commit : EntersNone session before.commits after.commits → before.commits ≡ after.commits
+  no_commit none = commits_so after.commits none (prefix_self after.commits)
+
+  still_ends : EntersNone session before.pairs after.pairs → EndsWith after.pairs pair
+  still_ends none = subst (λ (ps : Entries (ℕ × ℕ)). EndsWith ps pair) (no_pair none) ends
+
+  still_closed : EntersNone session before.commits after.commits → failures after.commits ≡ option_to_list store.closed
+  still_closed none = subst (λ (cs : Entries CommitPoint). failures cs ≡ option_to_list store.closed) (no_commit none) closed_so
+
+  still_documents : EntersNone session before.operations after.operations → D ≡ documents_in after.operations
+  still_documents none = ap documents_in (no_operation none)
+
+  -- the shelf after a command that enters no pair and no commit
+  fits_with : (labels : List (List (List ℕ))) (ds : List Doc) (more : ℕ) → labels ≡ labels_of after → ds ≡ documents_in after.operations → EntersNone session before.pairs after.pairs → EntersNone session before.commits after.commits
+      → Fits after (shelf_with labels ds pair segments more store)
+  fits_with labels ds more l d pairs commits = record { pair = pair; segments = segments; waiting = more; store = store; is = shelf_same labels (labels_of after) ds (documents_in after.operations) pair segments more store l d; ends = still_ends pairs; closed_so = still_closed commits }
+
+  -- ---- add
+
+  module _ (doc : Doc) (reply : Reply) (facts : (commits : EntersNone session before.commits after.commits) × EntersNone session before.pairs after.pairs)
+      (fresh : IfSome (stood_by (add doc) reply) (λ n. length before.operations ≤ n)) (enters : EntersOperation session (placed_by session (add doc) reply) before.operations after.operations) where
+    abbrev all : List (List (List ℕ))
+    all = with_labels (labels_of before) doc
+
+    abbrev IsAnswer : Option Broken → replies.Reply → Shelf → Type 0
+    IsAnswer o told next = ((told ≡ (words_answers.added settings S doc o).0) × (next ≡ (words_answers.added settings S doc o).1)) ⊎ ((told ≡ replies.refused replies.no_memory) × words_answers.LeavesSome settings S doc o next)
+
+    record Answers (o : Option Broken) : Type 0 where
+      told : replies.Reply
+      next : Shelf
+      same : reply_of told ≡ reply
+      answer : IsAnswer o told next
+      fits : Fits after next
+
+    enters_none : (reply' : Reply) → reply ≡ reply' → placed_by session (add doc) reply' ≡ None → EntersNone session before.operations after.operations
+    enters_none reply' e none = subst (λ (q : Option (ℕ × Operation)). EntersOperation session q before.operations after.operations) (ap (placed_by session (add doc)) e ∙ none) enters
+
+    knows_all : knows all doc ≡ true
+    knows_all = all_in (λ label. list_all (stands all) (prefixes label)) doc.labels (λ label there. all_in (stands all) (prefixes label) (λ p among. all_stand (flat_map prefixes doc.labels) (labels_of before) p (among_all doc.labels label p there among)))
+      where
+        among_all : (paths : List (List (List ℕ))) (label p : List (List ℕ)) → In label paths → In p (prefixes label) → In p (flat_map prefixes paths)
+        among_all [] label p there among = absurd there
+        among_all (q ∷ paths) label p there among = ⊎_elim
+            (λ is. in_left (prefixes q) (flat_map prefixes paths) p (subst (λ (l : List (List ℕ)). In p (prefixes l)) is among))
+            (λ later. in_right (prefixes q) (flat_map prefixes paths) p (among_all paths label p later among)) there
+
+    abbrev fits_in : ℕ
+    fits_in = room settings (labels_of before)
+
+    -- no room for all the labels
+    no_labels : LeavesFirst settings (labels_of before) doc reply (labels_of after) → settings.max_labels ≤ length (labels_of after) → knows (labels_of after) doc ≡ false → reply ≡ refused (labels_full (length (labels_of after))) → Answers None
+    no_labels first enough lacks e =
+        let full : length (labels_of after) ≡ fits_in = first.full (subst (λ (q : Reply). IsTrue (says_full q)) (sym e) refl) in
+        let longer : fits_in < length all = ⊎_elim (λ lt. lt)
+        (λ le. let whole : labels_of after ≡ all = first.first ∙ take_all (length (labels_of after)) all (omega arith) in
+        absurd (both_ways (knows all doc) (subst (λ l. knows l doc ≡ false) whole lacks) knows_all)) (cases_lt fits_in (length all)) in
+        let test : nat_lt fits_in (length all) ≡ true = lt-ltb fits_in (length all) longer in
+        let cut : labels_of after ≡ take fits_in all = first.first ∙ ap (λ n. take n all) full in
+        record {
+          told = replies.refused (replies.labels_full (length (labels_of after)));
+          next = shelf_with (labels_of after) D pair segments waiting store;
+          same = sym e;
+          answer = inl (rw test (ap (λ n. replies.refused (replies.labels_full n)) full, shelf_same (labels_of after) (take fits_in all) D D pair segments waiting store cut refl));
+          fits = fits_with (labels_of after) D waiting refl (still_documents (enters_none (refused (labels_full (length (labels_of after)))) e refl)) facts.1 facts.0;
+        }
+
+    -- all the labels fit, and are there
+    fits_all : LeavesFirst settings (labels_of before) doc reply (labels_of after) → IsTrue (is_resolved reply) → (labels_of after ≡ all) × (nat_lt fits_in (length all) ≡ false)
+    fits_all first is =
+        let whole = first.whole is in
+        let size = ap length whole in
+        let high = first.high in (whole, le-ltb fits_in (length all) (omega arith))
+
+    is_placed : LeavesFirst settings (labels_of before) doc reply (labels_of after) → (at : ℕ) → at < settings.max_docs → reply ≡ placed at → Answers None
+    is_placed first at lt e =
+        let labels = fits_all first (subst (λ (q : Reply). IsTrue (is_resolved q)) (sym e) refl) in
+        let entered = subst (λ (q : Option (ℕ × Operation)). EntersOperation session q before.operations after.operations) (ap (placed_by session (add doc)) e) enters in
+        let between = entered.0 in
+        let same = operations_so between entered.1.0 ((session, doc) ∷ [], sym entered.1.1) in
+        let grown : after.operations ≡ before.operations ++ (session, doc) ∷ [] = entered.1.1 ∙ ap (λ (l : Entries Doc). l ++ (session, doc) ∷ []) (sym same) in
+        let size = documents_size before.operations in
+        let place : at ≡ length D = entered.2 ∙ ap length (sym same) ∙ sym size in
+        let room_left : nat_le settings.max_docs (length D) ≡ false = lt-leb settings.max_docs (length D) (omega arith) in
+        let documents : documents_in after.operations ≡ D ++ doc ∷ [] = ap documents_in grown ∙ one_more before.operations session doc in
+        let test = labels.1 in
+        record {
+          told = replies.placed at;
+          next = shelf_with (labels_of after) (documents_in after.operations) pair segments (waiting + 1) store;
+          same = sym e;
+          answer = inl (rw (test, room_left) (ap replies.placed place, shelf_same (labels_of after) all (documents_in after.operations) (D ++ doc ∷ []) pair segments (waiting + 1) store labels.0 documents));
+          fits = fits_with (labels_of after) (documents_in after.operations) (waiting + 1) refl refl facts.1 facts.0;
+        }
+
+    no_documents : LeavesFirst settings (labels_of before) doc reply (labels_of after) → (n : ℕ) → n ≤ length (history_of after) → settings.max_docs ≤ n → reply ≡ refused (docs_full n) → Answers None
+    no_documents first n high full e =
+        let labels = fits_all first (subst (λ (q : Reply). IsTrue (is_resolved q)) (sym e) refl) in
+        let none = enters_none (refused (docs_full n)) e refl in
+        let low : length before.operations ≤ n = subst (λ (q : Option ℕ). IfSome q (λ n. length before.operations ≤ n)) (ap (stood_by (add doc)) e) fresh in
+        let size = documents_size before.operations in
+        let size' = history_size after.operations in
+        let same = ap length (no_operation none) in
+        let count : n ≡ length D = omega arith in
+        let test = labels.1 in
+        let none_left : nat_le settings.max_docs (length D) ≡ true = le-leb settings.max_docs (length D) (omega arith) in
+        record {
+          told = replies.refused (replies.docs_full n);
+          next = shelf_with (labels_of after) D pair segments waiting store;
+          same = sym e;
+          answer = inl (rw (test, none_left) (ap (λ k. replies.refused (replies.docs_full k)) count, shelf_same (labels_of after) all D D pair segments waiting store labels.0 refl));
+          fits = fits_with (labels_of after) D waiting refl (still_documents none) facts.1 facts.0;
+        }
+
+    lacks_memory : LeavesFirst settings (labels_of before) doc reply (labels_of after) → reply ≡ refused no_memory → Answers None
+    lacks_memory first e = record {
+      told = replies.refused replies.no_memory;
+      next = shelf_with (labels_of after) D pair segments waiting store;
+      same = sym e;
+      answer = inr (refl, (length (labels_of after), first.low, first.high, shelf_same (labels_of after) (take (length (labels_of after)) all) D D pair segments waiting store first.first refl));
+      fits = fits_with (labels_of after) D waiting refl (still_documents (enters_none (refused no_memory) e refl)) facts.1 facts.0;
+    }
+
+    stays_so : (r : replies.Reply) (o : Option Broken) → reply ≡ reply_of r → placed_by session (add doc) (reply_of r) ≡ None → labels_of after ≡ labels_of before → IsAnswer o r S → Answers o
+    stays_so r o e none labels answer = record {
+      told = r;
+      next = S;
+      same = sym e;
+      answer = answer;
+      fits = fits_with (labels_of before) D waiting (sym labels) (still_documents (enters_none (reply_of r) e none)) facts.1 facts.0;
+    }
+
+    resolved : LeavesFirst settings (labels_of before) doc reply (labels_of after) → (b : Bool) → knows (labels_of after) doc ≡ b → IsResolved settings (labels_of after) (history_of after) session doc b reply → Answers None
+    resolved first false e r = no_labels first r.0 e r.1
+    resolved first true e r = ⊎_elim (λ p. is_placed first p.0 p.2 p.3) (λ n. no_documents first n.0 n.1 n.2 n.3) r
+
+    added : (o : Option Broken) → AddLeaves settings (labels_of before) doc o reply (labels_of after) → IsAdded settings (labels_of after) (history_of after) session doc o reply ⊎ (IsTrue true × (reply ≡ refused no_memory)) → Answers o
+    added (Some b) leaves right = ⊎_elim
+        (λ r. stays_so (replies.refused (replies.broken b)) (Some b) r refl leaves (inl (refl, refl)))
+        (λ lacks. stays_so (replies.refused replies.no_memory) (Some b) lacks.1 refl leaves (inr (refl, refl))) right
+    added None leaves right = ⊎_elim (resolved leaves (knows (labels_of after) doc) refl) (λ lacks. lacks_memory leaves lacks.1) right
+
+    add_goes : AddLeaves settings (labels_of before) doc (first_broken settings.config doc) reply (labels_of after)
+        → IsAdded settings (labels_of after) (history_of after) session doc (first_broken settings.config doc) reply ⊎ (IsTrue true × (reply ≡ refused no_memory)) → Goes settings (words.add doc) reply S after
+    add_goes leaves right = let a = added (first_broken settings.config doc) leaves right in record { told = a.told; next = a.next; same = a.same; served = a.answer; fits = a.fits }
+
+  -- ---- what enters nothing
+
+  stays : labels_of after ≡ labels_of before → EntersNone session before.operations after.operations → EntersNone session before.pairs after.pairs → EntersNone session before.commits after.commits → Fits after S
+  stays l o p c = fits_with (labels_of before) D waiting (sym l) (still_documents o) p c
+
+  -- all operations are counted
+  counted : (n : ℕ) → EntersNone session before.operations after.operations → n ≤ length (history_of after) → length before.operations ≤ n → n ≡ length D
+  counted n none high low =
+      let size = documents_size before.operations in
+      let size' = history_size after.operations in
+      let same = ap length (no_operation none) in omega arith
+
+  -- ---- refresh
+
+  refresh_goes : (took : Option (ℕ × ℕ)) (reply : Reply) → Facts settings before after held session refresh took reply → Goes settings words.refresh reply S after
+  refresh_goes took reply f = ⊎_elim refreshed_so lacks f.right
+    where
+      refreshed_so : Counts (history_of after) reply → Goes settings words.refresh reply S after
+      refreshed_so c =
+          let low : length before.operations ≤ c.0 = subst (λ (q : Option ℕ). IfSome q (λ n. length before.operations ≤ n)) (ap (stood_by refresh) c.2) f.fresh in
+          let count = counted c.0 f.operations c.1 low in
+          let entered = subst (λ (q : Option ℕ). EntersPair session (length (labels_of before)) (length (labels_of after)) q before.pairs after.pairs) (ap (refreshed_by refresh) c.2) f.pairs in
+          let sizes = ap length f.leaves in
+          let least = entered.3 in let most = entered.4 in
+          let size : entered.1 ≡ length (labels_of before) = omega arith in
+          record {
+            told = replies.numbered c.0;
+            next = shelf_with (labels_of before) D (length D, length (labels_of before)) (segments + (if nat_lt 0 waiting then 1 else 0)) 0 store;
+            same = sym c.2;
+            served = inl (ap replies.numbered count, refl);
+            fits = record {
+              pair = (length D, length (labels_of before));
+              segments = segments + (if nat_lt 0 waiting then 1 else 0);
+              waiting = 0;
+              store = store;
+              is = shelf_same (labels_of before) (labels_of after) D (documents_in after.operations) (length D, length (labels_of before)) (segments + (if nat_lt 0 waiting then 1 else 0)) 0 store (sym f.leaves) (still_documents f.operations);
+              ends = (entered.0, session, entered.2.1 ∙ (λ i. entered.0 ++ (session, (count i, size i)) ∷ []));
+              closed_so = still_closed f.commits;
+            };
+          }
+
+      lacks : IsTrue true × (reply ≡ refused no_memory) → Goes settings words.refresh reply S after
+      lacks l = record {
+        told = replies.refused replies.no_memory;
+        next = S;
+        same = sym l.1;
+        served = inr (refl, refl);
+        fits = stays f.leaves f.operations (subst (λ (q : Option ℕ). EntersPair session (length (labels_of before)) (length (labels_of after)) q before.pairs after.pairs) (ap (refreshed_by refresh) l.1) f.pairs) f.commits;
+      }
+
+  -- ---- the pair that is seen
+
+  -- a pair that was taken is the last one
+  is_last : (p : ℕ × ℕ) → IsLastPair after p → EntersNone session before.pairs after.pairs → p ≡ pair
+  is_last p last none = same_end after.pairs pair (still_ends none) last.last.0 last.last.1 p last.last.2
+
+  seen_docs : (p : ℕ × ℕ) → p ≡ pair → EntersNone session before.operations after.operations → docs_of (history_of after) p ≡ take pair.0 D
+  seen_docs p is none = sym (take-map (λ (o : Operation). o.doc) p.0 (history_of after)) ∙ (λ i. take (is i).0 (documents_in (sym (no_operation none) i)))
+
+  -- ---- search
+
+  search_goes : (s : Search) (took : Option (ℕ × ℕ)) (reply : Reply) → Facts settings before after held session (search None s) took reply → Goes settings (words.search s) reply S after
+  search_goes s took reply f = ⊎_elim (seen took refl) lacks f.right
+    where
+      fits : Fits after S
+      fits = stays f.leaves f.operations f.pairs f.commits
+
+      found_so : (o : Option (ℕ × AskFault)) → first_refused settings.config s.asks ≡ o → IsFound settings.config s o pair.0 (take pair.0 D) reply → Goes settings (words.search s) reply S after
+      found_so (Some r) e is =
+          let first : words_answers.first_refused settings.config s.asks ≡ Some (named r) = first_named settings.config (enumerate_from 0 s.asks) ∙ ap (option_map named) e in
+          record { told = replies.refused (named r); next = S; same = named_same r ∙ sym is; served = inl (rw first refl, refl); fits = fits }
+      found_so None e is =
+          let first : words_answers.first_refused settings.config s.asks ≡ None = first_named settings.config (enumerate_from 0 s.asks) ∙ ap (option_map named) e in
+          record { told = replies.found (record { operations = pair.0; hit_count = length (hits_of (take pair.0 D) s); hits = first_hits (take pair.0 D) s; answers = is.0 }); next = S; same = sym is.2; served = inl (rw first (is.0, is.1, refl), refl); fits = fits }
+
+      seen : (t : Option (ℕ × ℕ)) → took ≡ t → IsOf (λ pair r. IsFound settings.config s (first_refused settings.config s.asks) pair.0 (docs_of (history_of after) pair) r) t None reply → Goes settings (words.search s) reply S after
+      seen None e r = absurd r
+      seen (Some p) e r =
+          let t = if_some (λ pair. IsLastPair after pair × (refreshed_by (search None s) reply ≡ None)) took p f.taken e in
+          let is = is_last p t.0 f.pairs in
+          let there = subst (λ (ds : List Doc). IsFound settings.config s (first_refused settings.config s.asks) p.0 ds reply) (seen_docs p is f.operations) r in
+          found_so (first_refused settings.config s.asks) refl (subst (λ (q : ℕ × ℕ). IsFound settings.config s (first_refused settings.config s.asks) q.0 (take pair.0 D) reply) is there)
+
+      lacks : IsTrue true × (reply ≡ refused no_memory) → Goes settings (words.search s) reply S after
+      lacks l = record { told = replies.refused replies.no_memory; next = S; same = sym l.1; served = inr (refl, refl); fits = fits }
+
+  -- ---- document
+
+  document_goes : (at : ℕ) (took : Option (ℕ × ℕ)) (reply : Reply) → Facts settings before after held session (document None at) took reply → Goes settings (words.document at) reply S after
+  document_goes at took reply f = ⊎_elim (seen took refl) lacks f.right
+    where
+      fits : Fits after S
+      fits = stays f.leaves f.operations f.pairs f.commits
+
+      shown_so : (o : Option Doc) → slice_get (take pair.0 D) at ≡ o → IsShown (labels_of before) pair.0 (take pair.0 D) at o reply → Goes settings (words.document at) reply S after
+      shown_so None e is = record { told = replies.refused (replies.no_such_document (length (take pair.0 D))); next = S; same = sym is; served = inl (rw e refl, refl); fits = fits }
+      shown_so (Some doc) e is = record { told = replies.shown (record { operations = pair.0; at = at; doc = doc; ordinals = is.0 }); next = S; same = sym is.2; served = inl (rw e (is.0, is.1, refl), refl); fits = fits }
+
+      seen : (t : Option (ℕ × ℕ)) → took ≡ t → IsOf (λ pair r. IsShown (labels_of after) pair.0 (docs_of (history_of after) pair) at (slice_get (docs_of (history_of after) pair) at) r) t None reply → Goes settings (words.document at) reply S after
+      seen None e r = absurd r
+      seen (Some p) e r =
+          let t = if_some (λ pair. IsLastPair after pair × (refreshed_by (document None at) reply ≡ None)) took p f.taken e in
+          let is = is_last p t.0 f.pairs in
+          let one = subst (λ (ds : List Doc). IsShown (labels_of after) p.0 ds at (slice_get ds at) reply) (seen_docs p is f.operations) r in
+          let two = subst (λ (q : ℕ × ℕ). IsShown (labels_of after) q.0 (take pair.0 D) at (slice_get (take pair.0 D) at) reply) is one in
+          shown_so (slice_get (take pair.0 D) at) refl (subst (λ l. IsShown l pair.0 (take pair.0 D) at (slice_get (take pair.0 D) at) reply) f.leaves two)
+
+      lacks : IsTrue true × (reply ≡ refused no_memory) → Goes settings (words.document at) reply S after
+      lacks l = record { told = replies.refused replies.no_memory; next = S; same = sym l.1; served = inr (refl, refl); fits = fits }
+
+  -- ---- stats
+
+  stats_goes : (took : Option (ℕ × ℕ)) (reply : Reply) → Facts settings before after held session (stats None) took reply → Goes settings words.stats reply S after
+  stats_goes took reply f = ⊎_elim (seen took refl) (λ l. absurd (both_ways false refl l.0)) f.right
+    where
+      seen : (t : Option (ℕ × ℕ)) → took ≡ t → IsOf (λ pair r. r ≡ numbers_of (history_of after) pair) t None reply → Goes settings words.stats reply S after
+      seen None e r = absurd r
+      seen (Some p) e r =
+          let t = if_some (λ pair. IsLastPair after pair × (refreshed_by (stats None) reply ≡ None)) took p f.taken e in
+          let is = is_last p t.0 f.pairs in
+          let documents = seen_docs p is f.operations in
+          record {
+            told = words_answers.numbers_of S;
+            next = S;
+            same = sym (r ∙ (λ i. numbers (record { operations = (is i).0; labels = (is i).1; documents = length (documents i) })));
+            served = inl (refl, refl);
+            fits = stays f.leaves f.operations f.pairs f.commits;
+          }
+
+  -- ---- commit
+
+  abbrev more : ℕ
+  more = segments + (if nat_lt 0 waiting then 1 else 0)
+
+  -- the shelf after a commit that leaves this store
+  abbrev flushed_with : Store → Shelf
+  flushed_with now = shelf_with (labels_of before) D pair more 0 now
+
+  ends_so : (o : Option ℕ) (told : replies.Reply) (next : Shelf) → store.closed ≡ o → EndsCommit (flushed_with store) o told next → EndsCommit (flushed_with store) store.closed told next
+  ends_so o told next e ends = subst (λ (o : Option ℕ). EndsCommit (flushed_with store) o told next) (sym e) ends
+
+  commit_goes : (took : Option (ℕ × ℕ)) (reply : Reply) → Facts settings before after held session commit took reply → Goes settings words.commit reply S after
+  commit_goes took reply f = ⊎_elim answered_so lacks f.right
+    where
+      fits_so : (now : Store) → failures after.commits ≡ option_to_list now.closed → Fits after (flushed_with now)
+      fits_so now c = record {
+        pair = pair;
+        segments = more;
+        waiting = 0;
+        store = now;
+        is = shelf_same (labels_of before) (labels_of after) D (documents_in after.operations) pair more 0 now (sym f.leaves) (still_documents f.operations);
+        ends = still_ends f.pairs;
+        closed_so = c;
+      }
+
+      enters : (r : Reply) → reply ≡ r → EntersCommit session r before.commits after.commits
+      enters r e = subst (λ (q : Reply). EntersCommit session q before.commits after.commits) e f.commits
+
+      -- a point behind those before, none of which has failed
+      pointed : (o : Option ℕ) → EntersPoint session o before.commits after.commits → (store.closed ≡ None) × (failures after.commits ≡ option_to_list o)
+      pointed o p =
+          let same = commits_so p.0 p.2.0 ((session, p.1) ∷ [], sym p.2.1) in (
+            of_none store.closed (sym closed_so ∙ ap failures same ∙ p.3),
+            ap failures p.2.1 ∙ filter_map-append (λ (e : ℕ × CommitPoint). e.1.failed) p.0 ((session, p.1) ∷ []) ∙ (λ i. p.3 i ++ cons_option (p.4 i) []) ∙ list_of o,
+          )
+        where
+          list_of : (o : Option ℕ) → cons_option o [] ≡ option_to_list o
+          list_of None = refl
+          list_of (Some c) = refl
+
+      durable_so : Counts (history_of after) reply → Goes settings words.commit reply S after
+      durable_so c =
+          let low : length before.operations ≤ c.0 = subst (λ (q : Option ℕ). IfSome q (λ n. length before.operations ≤ n)) (ap (stood_by commit) c.2) f.fresh in
+          let p = pointed None (enters (numbered c.0) c.2).0 in
+          let unclosed = p.0 in
+          record {
+            told = replies.numbered c.0;
+            next = flushed_with store;
+            same = sym c.2;
+            served = inl (ends_so None (replies.numbered c.0) (flushed_with store) unclosed (store, refl, inl (unclosed, inl (ap replies.numbered (counted c.0 f.operations c.1 low)))));
+            fits = fits_so store (p.1 ∙ ap option_to_list (sym unclosed));
+          }
+
+      failed_so : (c : (count : ℕ) × (reply ≡ refused (disk_failed count))) → Goes settings words.commit reply S after
+      failed_so c =
+          let p = pointed (Some c.0) (enters (refused (disk_failed c.0)) c.1) in
+          let unclosed = p.0 in
+          let now : Store = record store { closed = Some c.0 } in
+          record { told = replies.refused (replies.disk_failed c.0); next = flushed_with now; same = sym c.1; served = inl (ends_so None (replies.refused (replies.disk_failed c.0)) (flushed_with now) unclosed (now, refl, inr (c.0, refl, refl))); fits = fits_so now p.1 }
+
+      told_so : (c : (count : ℕ) × (reply ≡ refused (closed count))) → Goes settings words.commit reply S after
+      told_so c =
+          let p = enters (refused (closed c.0)) c.1 in
+          let shut = of_one store.closed c.0 (sym closed_so ∙ ap failures (no_commit p.0) ∙ p.1) in
+          record { told = replies.refused (replies.closed c.0); next = flushed_with store; same = sym c.1; served = inl (ends_so (Some c.0) (replies.refused (replies.closed c.0)) (flushed_with store) shut (refl, refl)); fits = fits_so store (p.1 ∙ ap option_to_list (sym shut)) }
+
+      spent_so : (c : (number : ℕ) × (2 ^ 63 ≤ number) × (reply ≡ refused (numbers_spent number))) → Goes settings words.commit reply S after
+      spent_so c =
+          let p = enters (refused (numbers_spent c.0)) c.2 in
+          let unclosed = of_none store.closed (sym closed_so ∙ ap failures (no_commit p.0) ∙ p.1) in
+          record { told = replies.refused (replies.numbers_spent c.0); next = flushed_with store; same = sym c.2; served = inl (ends_so None (replies.refused (replies.numbers_spent c.0)) (flushed_with store) unclosed (store, refl, inl (unclosed, inr (c.0, c.1, refl)))); fits = fits_so store (p.1 ∙ ap option_to_list (sym unclosed)) }
+
+      answered_so : IsCommitted (history_of after) reply → Goes settings words.commit reply S after
+      answered_so c = ⊎_elim durable_so (λ c. ⊎_elim failed_so (λ c. ⊎_elim told_so spent_so c) c) c
+
+      lacks : IsTrue true × (reply ≡ refused no_memory) → Goes settings words.commit reply S after
+      lacks l = record { told = replies.refused replies.no_memory; next = S; same = sym l.1; served = inr (refl, inl refl); fits = stays f.leaves f.operations f.pairs (enters (refused no_memory) l.1) }
+
+  -- ---- each command
+
+  goes : (c : words.Command) (took : Option (ℕ × ℕ)) (reply : Reply) → Facts settings before after held session (command_of c) took reply → Goes settings c reply S after
+  goes (words.add doc) took reply f = add_goes doc reply (f.commits, f.pairs) f.fresh f.operations f.leaves f.right
+  goes words.refresh took reply f = refresh_goes took reply f
+  goes (words.search s) took reply f = search_goes s took reply f
+  goes (words.document at) took reply f = document_goes at took reply f
+  goes words.stats took reply f = stats_goes took reply f
+  goes words.commit took reply f = commit_goes took reply f
+
+-- ---- all steps
+
+module _ (settings : Settings) (phases : List (List Order)) (opened : Opened) (ran : List (List Step)) (last : Seen) (session : ℕ) (all : AllRan settings phases opened ran last)
+    (one : list_all (is_by session) (steps_of ran) ≡ true) where
+  abbrev start : Seen
+  start = opened_seen opened
+
+  same_labels : (a b : Seen) → Sees start a → Sees b last → IsTold session a b → a.labels ≡ b.labels
+  same_labels a b since until told = nothing_between settings phases opened ran last session all one (λ s. s.labels) (λ a b sees. sees.labels) (λ n a b told. told.labels) a.labels b.labels since.labels told.sees.labels until.labels told.labels
+
+  same_operations : (a : Seen) (ops : Entries Doc) → Sees start a → EntersNone session a.operations ops → IsPrefix ops last.operations → a.operations ≡ ops
+  same_operations a ops since none until = nothing_between settings phases opened ran last session all one (λ s. s.operations) (λ a b sees. sees.operations) (λ n a b told. told.operations) a.operations ops since.operations none.0 until none.1
+
+  same_pairs : (a : Seen) (ps : Entries (ℕ × ℕ)) → Sees start a → EntersNone session a.pairs ps → IsPrefix ps last.pairs → a.pairs ≡ ps
+  same_pairs a ps since none until = nothing_between settings phases opened ran last session all one (λ s. s.pairs) (λ a b sees. sees.pairs) (λ n a b told. told.pairs) a.pairs ps since.pairs none.0 until none.1
+
+  same_commits : (a : Seen) (cs : Entries CommitPoint) → Sees start a → EntersNone session a.commits cs → IsPrefix cs last.commits → a.commits ≡ cs
+  same_commits a cs since none until = nothing_between settings phases opened ran last session all one (λ s. s.commits) (λ a b sees. sees.commits) (λ n a b told. told.commits) a.commits cs since.commits none.0 until none.1
+
+  -- who is told of nothing new sees the same
+  fits_on : (a b : Seen) (shelf : Shelf) → Sees start a → Sees b last → IsTold session a b → Fits a shelf → Fits b shelf
+  fits_on a b shelf since until told fits =
+      let labels = same_labels a b since until told in
+      let operations = same_operations a b.operations since (told.sees.operations, told.operations) until.operations in
+      let pairs = same_pairs a b.pairs since (told.sees.pairs, told.pairs) until.pairs in
+      let commits = same_commits a b.commits since (told.sees.commits, told.commits) until.commits in
+      record {
+        pair = fits.pair;
+        segments = fits.segments;
+        waiting = fits.waiting;
+        store = fits.store;
+        is = fits.is ∙ shelf_same (labels_of a) (labels_of b) (documents_in a.operations) (documents_in b.operations) fits.pair fits.segments fits.waiting fits.store (ap (λ (l : Entries (List (List ℕ))). [] ∷ map (λ e. e.1) l) labels) (ap documents_in operations);
+        ends = subst (λ (ps : Entries (ℕ × ℕ)). EndsWith ps fits.pair) pairs fits.ends;
+        closed_so = subst (λ (cs : Entries CommitPoint). failures cs ≡ option_to_list fits.store.closed) commits fits.closed_so;
+      }
+
+  -- one step on a shelf of what was seen before it
+  step_goes : (held : Held) (x : Step) → In x (steps_of ran) → Sees start x.before → Sees x.after last → IsStep settings held x → (c : words.Command) → x.answered.order.command ≡ command_of c → (shelf : Shelf) → Fits x.before shelf → Goes settings c x.answered.reply shelf x.after
+  step_goes held x there since until step c is shelf fits =
+      let mine = own settings phases opened ran last session all one x there in
+      let facts : Facts settings x.before x.after held session x.answered.order.command x.answered.took x.answered.reply = record {
+        right = subst (λ (n : ℕ). IsRight settings (labels_of x.after) (history_of x.after) held n x.answered.order.command x.answered.took x.answered.reply ⊎ (IsTrue (takes_memory x.answered.order.command) × (x.answered.reply ≡ refused no_memory))) mine step.right;
+        leaves = step_leaves settings phases opened ran last session all one held x there since until step;
+        operations = subst (λ (n : ℕ). EntersOperation n (placed_by n x.answered.order.command x.answered.reply) x.before.operations x.after.operations) mine step.operations;
+        pairs = subst (λ (n : ℕ). EntersPair n (length (labels_of x.before)) (length (labels_of x.after)) (refreshed_by x.answered.order.command x.answered.reply) x.before.pairs x.after.pairs) mine step.pairs;
+        commits = subst (λ (n : ℕ). EntersPoints n x.answered.order.command x.answered.reply x.before.commits x.after.commits) mine step.commits;
+        fresh = step.fresh;
+        taken = step.took;
+      } in
+      subst (λ (s : Shelf). Goes settings c x.answered.reply s x.after) (sym fits.is)
+      (goes settings x.before x.after held session
+      (λ ops none begins. same_operations x.before ops since none (prefix_trans ops x.after.operations last.operations begins until.operations))
+      (λ ps none begins. same_pairs x.before ps since none (prefix_trans ps x.after.pairs last.pairs begins until.pairs))
+      (λ cs none begins. same_commits x.before cs since none (prefix_trans cs x.after.commits last.commits begins until.commits))
+      fits.pair fits.segments fits.waiting fits.store fits.ends fits.closed_so c x.answered.took x.answered.reply
+      (subst (λ (k : Command). Facts settings x.before x.after held session k x.answered.took x.answered.reply) is facts))
+
+  -- the replies from a shelf on
+  record Rest (orders : List words.Order) (answered : List Answered) (shelf : Shelf) : Type 0 where
+    replies_to : List replies.Reply
+    end : Shelf
+    right : AreServed settings shelf orders replies_to end
+    labels : end.labels ≡ labels_of last
+    documents : end.docs ≡ docs (history_of last)
+    lines : reply_lines answered ≡ words_answers.reply_lines orders replies_to
+
+  serve : (held : Held) (seen : Seen) (xs : List Step) (orders : List words.Order) → ((x : Step) → In x xs → In x (steps_of ran)) → SessionRan settings session held seen xs last → Sees start seen
+      → map (λ (x : Step). x.answered.order) xs ≡ map order_of orders → (shelf : Shelf) → Fits seen shelf → Rest orders (map (λ (x : Step). x.answered) xs) shelf
+  serve held seen [] [] among goes_on since are shelf fits =
+      let at_end = fits_on seen last shelf since (sees_self last) goes_on fits in
+      record { replies_to = []; end = shelf; right = refl; labels = ap (λ (s : Shelf). s.labels) at_end.is; documents = ap (λ (s : Shelf). s.docs) at_end.is; lines = refl }
+  serve held seen [] (o ∷ orders) among goes_on since are shelf fits = absurd cc
+  serve held seen (x ∷ xs) [] among goes_on since are shelf fits = absurd cc
+  serve held seen (x ∷ xs) (o ∷ orders) among goes_on since are shelf fits =
+      let step = goes_on.1 in
+      let until = sees_last settings session (held_after held x.answered) x.after xs last goes_on.2 in
+      let from = sees_trans start seen x.before since goes_on.0.sees in
+      let to_last = sees_trans x.before x.after last step.sees until in
+      let order : x.answered.order ≡ order_of o = ap (λ (l : List Order). unwrap_or (slice_get l 0) x.answered.order) are in
+      let first = step_goes held x (among x (inl refl)) from until step o.command (ap (λ (q : Order). q.command) order) shelf (fits_on seen x.before shelf since to_last goes_on.0 fits) in
+      let rest = serve (held_after held x.answered) x.after xs orders (λ y later. among y (inr later)) goes_on.2 (sees_trans start x.before x.after from step.sees) (ap (λ (l : List Order). drop 1 l) are) first.next first.fits in
+      record {
+        replies_to = first.told ∷ rest.replies_to;
+        end = rest.end;
+        right = (first.next, first.served, rest.right);
+        labels = rest.labels;
+        documents = rest.documents;
+        lines = λ i. (line_so x o order first.told first.same i) ++ rest.lines i;
+      }
+    where
+      line_so : (x : Step) (o : words.Order) → x.answered.order ≡ order_of o → (told : replies.Reply) → reply_of told ≡ x.answered.reply → reply_line x.answered.order.session x.answered.order.line x.answered.reply ≡ line_of o.session o.line told
+      line_so x o order told same = (λ i. reply_line (order i).session (order i).line (sym same i)) ∙ lines_agree o.session o.line told
+
+  opened_documents : (ds : List Doc) → documents_in (map (λ doc. (0, doc)) ds) ≡ ds
+  opened_documents [] = refl
+  opened_documents (d ∷ ds) = ap (λ (l : List Doc). d ∷ l) (opened_documents ds)
+
+  served : (store : Store) (orders : List words.Order) → map (λ (x : Step). x.answered.order) (steps_of ran) ≡ map order_of orders → store.closed ≡ None → Served settings opened store orders (map (λ (x : Step). x.answered) (steps_of ran)) last
+  served store orders are unclosed =
+      let whole : own_steps session (steps_of ran) ≡ steps_of ran = filter_all (is_by session) (steps_of ran) one in
+      let goes_on : SessionRan settings session [] start (steps_of ran) last = subst (λ (xs : List Step). SessionRan settings session [] start xs last) whole (all.sessions session) in
+      let fits : Fits start (words_answers.opened_shelf opened.labels opened.docs store) = record {
+        pair = (length opened.docs, length opened.labels);
+        segments = store.segments;
+        waiting = 0;
+        store = store;
+        is = shelf_same opened.labels (labels_of start) opened.docs (documents_in start.operations) (length opened.docs, length opened.labels) store.segments 0 store (sym (opened_first settings phases opened ran last all)) (sym (opened_documents opened.docs));
+        ends = ([], 0, refl);
+        closed_so = ap option_to_list (sym unclosed);
+      } in
+      let r = serve [] start (steps_of ran) orders (λ x there. there) goes_on (sees_self start) are (words_answers.opened_shelf opened.labels opened.docs store) fits in
+      record { replies = r.replies_to; shelf = r.end; right = r.right; labels = r.labels; docs = r.documents; lines = r.lines }
+
+pub one_session_is_served : OneSessionIsServed
+one_session_is_served settings phases opened ran last session store orders all one are unclosed = served settings phases opened ran last session all one store orders are unclosed
+
+-- ---- a right reply is so much
+
+ends_commit : (shelf : Shelf) (o : Option ℕ) → shelf.store.closed ≡ o → (reply : replies.Reply) (next : Shelf) → words_answers.IsCommitted shelf o reply next → EndsCommit shelf o reply next
+ends_commit shelf (Some count) e reply next is = is
+ends_commit shelf None e reply next is = ⊎_elim
+    (λ d. (words_answers.committed_store shelf, d.3, inl (refl, inl d.2)))
+    (λ is. ⊎_elim
+    (λ s. (shelf.store, s.3, inl (e, inr (words_answers.last_taken shelf, s.0, s.2))))
+    (λ f. (record shelf.store { closed = Some f.0; faults = f.0 }, f.4, inr (f.0, refl, f.3))) is) is
+
+pub right_is_served : RightIsServed
+right_is_served settings shelf (words.add doc) reply next right = right
+right_is_served settings shelf words.refresh reply next right = right
+right_is_served settings shelf (words.search s) reply next right = right
+right_is_served settings shelf (words.document at) reply next right = right
+right_is_served settings shelf words.stats reply next right = right
+right_is_served settings shelf words.commit reply next right = ⊎_elim (λ is. inl (ends_commit (flushed shelf) shelf.store.closed refl reply next is)) (λ lacks. inr lacks) right

@@ -1,0 +1,15 @@
+pub mod Commands
+pub mod Replies
+pub mod Answered
+pub mod Held
+pub mod Replying
+pub mod Telling
+pub mod Output
+pub mod OutputLines
+pub mod Seen
+pub mod Steps
+pub mod Sessions
+pub mod OneSession
+pub mod OneShelf
+pub mod Commits
+pub mod Outputs
