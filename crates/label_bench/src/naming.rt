@@ -1,0 +1,22 @@
+use facet_names::Path;
+use std::alloc::Global;
+
+/// A label of two components: of this owner and number, under one of so many dimensions.
+pub fn path_of(alloc: Global, owner: u32, number: u32, dimensions: u32) -> Option<Path> {
+    let dim = number.checked_rem(dimensions)?;
+    let mut parts = Vec::new(alloc);
+    parts.push(format!(in alloc; "dimension-{dim}").ok()?).ok()?;
+    parts
+        .push(format!(in alloc; "label-{owner}-{number}").ok()?)
+        .ok()?;
+    Path::new(alloc, &parts).ok()
+}
+
+/// So many labels of this owner.
+pub fn paths_of(alloc: Global, owner: u32, count: u32, dimensions: u32) -> Option<Vec<Path>> {
+    let mut paths = Vec::new(alloc);
+    for number in 0..count {
+        paths.push(path_of(alloc, owner, number, dimensions)?).ok()?;
+    }
+    Some(paths)
+}
