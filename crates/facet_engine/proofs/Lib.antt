@@ -1,0 +1,11 @@
+pub mod Seeing
+pub mod Refreshed
+pub mod Committed
+pub mod Naming
+pub mod SeenPairs
+pub mod Taking
+pub mod PairReplies
+pub mod Found
+pub mod Searched
+pub mod Stored
+pub mod Carried

@@ -1,0 +1,84 @@
+-- A refresh is a step.
+use Rattle.std.proofs.Common.{◌≡◌, ◌∙◌, inl, inr, ◌+◌, ◌-◌, ◌≤◌, ℕ, List, [], ◌∷◌, length, refl, sym, ap, subst, arith, Result, Ok, Err}
+use Rattle.std.specs.Prelude.{IfOk, OnOk, OnErr}
+use Rattle.std.proofs.lemmas.List.{length-map, length-append}
+use mathlib.Core.List.{IsPrefix}
+use Rattle.chronicle.specs.Shown.{mine, SeesOn, EntersBehind}
+use Rattle.facet_model.specs.Documents.{Doc}
+use Rattle.facet_model.specs.Histories.{Operation}
+use Rattle.facet_words.specs.Commands.{Settings}
+use Rattle.taxo_cache.specs.Seen.{labels_of}
+use Rattle.pair_manager.specs.declared.pass.Pass.{Pass}
+use Rattle.pair_manager.specs.declared.publication.Publication.{Publication}
+use Rattle.pair_manager.specs.Published.{numbers}
+use Rattle.pair_manager.specs.Passes.{SamePass}
+use Rattle.facet_output.specs.Held.{Held}
+use Rattle.facet_output.specs.Seen.{Sees, EntersNone, EntersBehind as Behind, history_of}
+use Rattle.facet_output.specs.Steps.{IsStep}
+use Rattle.facet_output.proofs.TwoRan.{no_new}
+use Rattle.facet_engine.specs.Sessions.{HaveOneNumber}
+use Rattle.facet_engine.specs.Steps.{seen_of, refreshed}
+use Rattle.facet_engine.proofs.Seeing.{enters_behind, told, told_begins, told_behind, labels_none, operations_none, pairs_none, commits_none, same_sees_on}
+
+pub many_operations : (seen : List (ℕ × Operation)) → length (told (λ (o : Operation). o.doc) seen) ≡ length seen
+many_operations seen = let doc : ℕ × Operation → ℕ × Doc = λ e. (e.0, e.1.doc) in length-map seen doc
+
+pub many_in_history : (pass : Pass) → length (history_of (seen_of pass)) ≡ length pass.operations.seen
+many_in_history pass = length-map (seen_of pass).operations (λ (e : ℕ × Doc). record { session = e.0; doc = e.1 }) ∙ many_operations pass.operations.seen
+
+module _ (settings : Settings) (held : Held) (phase line number : ℕ) (old new : Pass) (have : HaveOneNumber number old) (same : SamePass old new) (labels : SeesOn old.labels new.labels) (operations : SeesOn old.operations new.operations)
+    (pairs : IsPrefix old.pairs.seen new.pairs.seen) (commits : new.commits ≡ old.commits) where
+  abbrev n : ℕ
+  n = old.labels.number
+
+  no_labels : EntersNone n (seen_of old).labels (seen_of new).labels
+  no_labels = labels_none number old new have same labels
+
+  no_operations : EntersNone n (seen_of old).operations (seen_of new).operations
+  no_operations = operations_none number old new have same operations
+
+  no_commits : EntersNone n (seen_of old).commits (seen_of new).commits
+  no_commits = commits_none number old new have same (same_sees_on old.commits new.commits commits)
+
+  sees_all : Sees (seen_of old) (seen_of new)
+  sees_all = record { labels = no_labels.0; operations = no_operations.0; pairs = told_begins numbers old.pairs.seen new.pairs.seen pairs; commits = no_commits.0 }
+
+  pub refresh_step : {E : Type 0} (result : Result ℕ E) → IfOk result (λ k. k ≡ length new.operations.seen) → IfOk result (λ k. length old.operations.seen ≤ k)
+      → OnOk result (EntersBehind (record { operations = length new.operations.seen; labels = length (labels_of new.labels.seen) }) old.pairs new.pairs) → OnErr result (mine new.pairs ≡ mine old.pairs)
+      → IsStep settings held (refreshed old new result phase line)
+  refresh_step (Ok k) answer fresh enters none =
+      let all : Publication = record { operations = length new.operations.seen; labels = length (labels_of new.labels.seen) } in
+      let own = told_behind numbers n all old.pairs.seen enters.between new.pairs.seen (enters_behind all old.pairs new.pairs n old.pairs_rest.0 (have.2 ∙ sym have.0) enters) in
+      let size : length new.pairs.seen ≡ length enters.between + 1 = ap length enters.seen ∙ length-append enters.between ((old.pairs.number, all) ∷ []) in
+      let number : ℕ × Publication → ℕ × (ℕ × ℕ) = λ e. (e.0, numbers e.1) in
+      let pairs_told : length (told numbers new.pairs.seen) ≡ length new.pairs.seen = length-map new.pairs.seen number in
+      let grown : length (labels_of old.labels.seen) ≤ length (labels_of new.labels.seen) = omega (arith, length-map old.labels.seen (λ (x : ℕ × List (List ℕ)). x.1), length-map new.labels.seen (λ (x : ℕ × List (List ℕ)). x.1), ap length (sym labels.0.1) ∙ length-append old.labels.seen labels.0.0) in
+      record {
+        sees = sees_all;
+        right = inl (k, omega (arith, answer, many_in_history new), refl);
+        labels = no_new n _ old.labels.seen new.labels.seen no_labels;
+        operations = no_operations;
+        pairs = (
+          told numbers enters.between,
+          length (labels_of new.labels.seen),
+          subst (λ (j : ℕ). Behind n (j, length (labels_of new.labels.seen)) (seen_of old).pairs (told numbers enters.between) (seen_of new).pairs) (sym answer) own,
+          grown,
+          omega arith,
+        );
+        commits = no_commits;
+        fresh = omega (arith, fresh, many_operations old.operations.seen);
+        took = tt;
+        place = (length new.pairs.seen - 1, refl, omega (arith, size, pairs_told));
+      }
+  refresh_step (Err fault) answer fresh enters none =
+      record {
+        sees = sees_all;
+        right = inr (refl, refl);
+        labels = no_new n _ old.labels.seen new.labels.seen no_labels;
+        operations = no_operations;
+        pairs = pairs_none number old new have same (pairs, none);
+        commits = no_commits;
+        fresh = tt;
+        took = tt;
+        place = refl;
+      }

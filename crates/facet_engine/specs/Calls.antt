@@ -1,0 +1,32 @@
+-- What each call of a session says.
+use Rattle.std.specs.Prelude.{◌≡◌, ℕ, Option}
+use Rattle.facet_output.specs.Commands.{Command}
+use Rattle.facet_output.specs.Held.{held_after}
+use Rattle.facet_output.specs.Replies.{Reply}
+use Rattle.facet_output.specs.Steps.{Step, IsStep}
+use Rattle.facet_words.specs.Commands.{Settings}
+use Rattle.pair_manager.specs.Passes.{SamePass}
+use Rattle.facet_engine.specs.declared.session.Session.{Session}
+use Rattle.facet_engine.specs.HeldPairs.{numbers_held}
+use Rattle.facet_engine.specs.Steps.{step_of}
+use Rattle.facet_engine.specs.Systems.{Engine, HasSettings}
+
+-- the same session, whose tokens may have seen more
+abbrev pub SameSession : Session → Session → Type 0
+SameSession old new = (new.number ≡ old.number) × SamePass old.pass new.pass
+
+-- In whatever phase and line it is called, it is this step of the session, given what that held.
+abbrev pub IsCall : Engine → Session → (ℕ → ℕ → Step) → Type 0
+IsCall engine old step = (settings : Settings) (phase line : ℕ) → HasSettings engine old.pass settings → IsStep settings (numbers_held old.held) (step phase line)
+
+-- the session then holds what it holds after such a step
+abbrev pub HoldsAfter : Session → Session → (ℕ → ℕ → Step) → Type 0
+HoldsAfter old new step = (phase line : ℕ) → numbers_held new.held ≡ held_after (numbers_held old.held) (step phase line).answered
+
+-- A command was carried out with this reply: with the pair that it took and its place, it is a step of the same session, which then holds what it has to.
+pub record IsCarriedOut (engine : Engine) (old new : Session) (command : Command) (reply : Reply) : Type 0 where
+  pub same : SameSession old new
+  pub took : Option (ℕ × ℕ)
+  pub place : Option ℕ
+  pub step : IsCall engine old (step_of command took place reply old.pass new.pass)
+  pub holds : HoldsAfter old new (step_of command took place reply old.pass new.pass)

@@ -1,0 +1,11 @@
+pub mod HeldPairs
+pub mod Leases
+pub mod Sessions
+pub mod Systems
+pub mod Steps
+pub mod Calls
+pub mod Names
+pub mod Searches
+pub mod Showing
+pub mod Replies
+pub mod CallViews

@@ -1,0 +1,27 @@
+ghost use Rattle.std.specs.Prelude.{◌≡◌};
+ghost use Rattle.facet_engine.specs.Systems.{BelongsTo};
+ghost use Rattle.facet_engine.specs.Calls.{IsCall, SameSession};
+ghost use Rattle.facet_engine.specs.Steps.{committed};
+
+use crate::session::Session;
+use crate::system::System;
+use commit_store::CommitFault;
+use commit_turns::{Start, commit};
+use facet_disk::Disk;
+use std::sync::Wait;
+use taxo_cache::Name;
+
+impl<D: Disk, N: Name + Start> System<D, N> {
+    /// Makes all operations and labels durable that are there when it takes them, and answers how many operations these are. It publishes no pair.
+    ///
+    /// It waits for the turn of the commits and holds it for the whole call. Within it, it waits for the turn of the operations and then for that of the
+    /// labels; neither is held while the disk is written.
+    pub fn commit<R: Wait>(&self, rt: &R, session: &mut Session) -> Result<u64, CommitFault>
+        requires own { BelongsTo self.now session.old.pass }
+        ensures same { SameSession session.old session.new }
+        ensures held { session.new.held ≡ session.old.held }
+        ensures step { IsCall self.now session.old (committed session.old.pass session.new.pass result) }
+    {
+        commit(rt, &self.commits, &self.manager, &mut session.pass)
+    }
+}

@@ -1,0 +1,77 @@
+ghost use Rattle.std.specs.Prelude.{◌≡◌, ◌++◌, ◌∷◌, [], None, Some, OnOk, OnErr, MatchOption, length, string_bytes};
+ghost use Rattle.pair_manager.specs.Published.{Published};
+ghost use Rattle.facet_engine.specs.HeldPairs.{pair_under, without};
+
+use facet_names::NoMemory;
+use pair_manager::Lease;
+use std::alloc::Global;
+use std::marker::Model;
+
+/// A pair that a session holds, under its name.
+#[derive(Drop)]
+pub struct Held {
+    pub name: String,
+    pub lease: Lease,
+}
+
+/// The pairs that a session holds, each under a name of its own, in the order of holding. A name is looked up by going through them.
+#[derive(Drop)]
+pub struct HeldPairs {
+    items: Vec<Held>,
+}
+
+impl Model for HeldPairs {
+    ghost use Rattle.std.specs.Prelude.{List};
+    ghost use Rattle.facet_engine.specs.HeldPairs.{HeldPair, AreNamedApart};
+    ghost use Rattle.facet_engine.specs.Leases.{pairs_in};
+
+    ghost Value = { List HeldPair };
+
+    ghost view = { λ h. pairs_in h.items.items };
+
+    ghost invariant = { λ h. AreNamedApart (pairs_in h.items.items) };
+}
+
+impl HeldPairs {
+    /// No pair is held. It takes no memory.
+    pub fn new(alloc: Global) -> HeldPairs
+        ensures { result ≡ [] }
+    {
+        HeldPairs {
+            items: Vec::new(alloc),
+        }
+    }
+
+    /// The pair that is held under a name.
+    pub fn find(&self, name: &str) -> Option<&Lease>
+        ensures { MatchOption result (pair_under self.now name.now ≡ None) (λ lease. pair_under self.now name.now ≡ Some lease.now) }
+    {
+        for held in &self.items {
+            if held.name.as_str() == name {
+                return Some(&held.lease);
+            }
+        }
+        None
+    }
+
+    /// Holds a pair under a name under which none is held.
+    pub(crate) fn push(&mut self, name: String, lease: Lease) -> Result<(), NoMemory>
+        requires apart { pair_under self.old (string_bytes name) ≡ None }
+        ensures ok { OnOk result (self.new ≡ self.old ++ record { name = string_bytes name; pair = lease } ∷ []) }
+        ensures err { OnErr result (self.new ≡ self.old) }
+    {
+        self.items.push(Held { name, lease })?;
+        Ok(())
+    }
+
+    /// Lets the pair go that is held under a name, and answers how many operations it has. It takes no memory.
+    pub(crate) fn release(&mut self, name: &str) -> Option<u64>
+        ensures pair { MatchOption result (pair_under self.old name.now ≡ None)
+            (λ n. (p : Published) × (pair_under self.old name.now ≡ Some p) × (n ≡ length p.history.seen)) }
+        ensures rest { MatchOption result (self.new ≡ self.old) (λ n. self.new ≡ without self.old name.now) }
+    {
+        let operations = self.find(name)?.pair().operations();
+        self.items.retain(|held| held.name.as_str() != name);
+        Some(operations)
+    }
+}

@@ -1,0 +1,21 @@
+//! Sessions over one store. Each call of a session is one step of four histories: those of the labels, the operations, the published pairs and the commits.
+#![tactic(auto)]
+
+mod carrying;
+mod committing;
+mod held;
+mod holding;
+mod refreshing;
+mod searching;
+mod session;
+mod showing;
+mod stats;
+mod system;
+
+pub use carrying::{Answer, Call, Refusal, carry_out};
+pub use held::{Held, HeldPairs};
+pub use holding::{HoldFault, NotHeld};
+pub use searching::{SearchAnswer, SearchFault, search_pair};
+pub use session::Session;
+pub use showing::{DocumentFault, Shown};
+pub use system::System;
