@@ -98,8 +98,8 @@ COMMANDS = {
 }
 
 
-def is_order(value):
-    return any(is_object(value, {"cmd": is_command(name), "s": is_whole, **due}, free) for name, (due, free) in COMMANDS.items())
+def is_order(value, commands=COMMANDS):
+    return any(is_object(value, {"cmd": is_command(name), "s": is_whole, **due}, free) for name, (due, free) in commands.items())
 
 
 def nested(value):
@@ -108,7 +108,8 @@ def nested(value):
     return 0 if inside is None else 1 + max(map(nested, inside), default=0)
 
 
-def first_fault(values):
+def first_fault(values, is_line=is_order, sessions=1):
+    """Of a script whose lines behind the first are such, with so many sessions. `scripts` has those of several sessions."""
     for line, value in enumerate(values, 1):
         if value is NOT_JSON or nested(value) > 127:
             return {"fault": "not_json", "line": line}
@@ -117,8 +118,8 @@ def first_fault(values):
                 return {"fault": "no_config_first"}
             if not is_config(value):
                 return {"fault": "bad_shape", "line": 1}
-        elif not is_order(value):
+        elif not is_line(value):
             return {"fault": "bad_shape", "line": line}
-        elif value["s"] != 1:
+        elif not 1 <= value.get("s", 1) <= sessions:
             return {"fault": "bad_session", "line": line}
     return None if values else {"fault": "no_config_first"}

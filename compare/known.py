@@ -1,0 +1,282 @@
+"""Scripts of several sessions with outputs that are known to be right, or wrong by one clause, and scripts with their first fault.
+
+The program runs one session today; `compare/selftest` alone uses this, until the program has sessions."""
+
+from __future__ import annotations
+
+# The lines of a script, and its first fault, or None.
+BOB = '{"s":1,"cmd":"add","id":"b1","facets":[["Author","Bob"]]}'
+LISA = '{"s":1,"cmd":"add","id":"b2","facets":[["Author","Lisa"]]}'
+CONFIG = '{"cmd":"config"}'
+REFRESH = '{"s":1,"cmd":"refresh"}'
+COMMIT = '{"s":1,"cmd":"commit"}'
+STATS = '{"s":1,"cmd":"stats"}'
+
+READ: list[tuple[str, dict | None]] = [
+    ('{"cmd":"phase"}', None),
+    ('{"s":64,"cmd":"hold","name":"a"}', None),
+    ('{"s":2,"cmd":"release","name":"a"}', None),
+    ('{"s":1,"cmd":"hold","name":"' + "é" * 32 + '"}', None),
+    ('{"s":1,"cmd":"search","on":"a"}', None),
+    ('{"s":1,"cmd":"document","on":"a","at":0}', None),
+    ('{"s":1,"cmd":"stats","on":"a"}', None),
+    ('{"s":1,"cmd":"stats","on":"' + "a" * 64 + '"}', None),
+    ('{"s":1,"cmd":"phase"}', {"fault": "bad_shape", "line": 2}),
+    ('{"cmd":"phase","name":"a"}', {"fault": "bad_shape", "line": 2}),
+    ('{"cmd":"config"}', {"fault": "bad_shape", "line": 2}),
+    ('{"cmd":"refresh"}', {"fault": "bad_shape", "line": 2}),
+    ('{"s":1,"cmd":"hold"}', {"fault": "bad_shape", "line": 2}),
+    ('{"s":1,"cmd":"hold","name":""}', {"fault": "bad_shape", "line": 2}),
+    ('{"s":1,"cmd":"hold","name":null}', {"fault": "bad_shape", "line": 2}),
+    ('{"s":1,"cmd":"hold","name":"a","on":"a"}', {"fault": "bad_shape", "line": 2}),
+    ('{"s":1,"cmd":"hold","name":"' + "a" * 65 + '"}', {"fault": "bad_shape", "line": 2}),
+    ('{"s":1,"cmd":"release","name":"' + "é" * 33 + '"}', {"fault": "bad_shape", "line": 2}),
+    ('{"s":1,"cmd":"stats","on":""}', {"fault": "bad_shape", "line": 2}),
+    ('{"s":1,"cmd":"stats","on":"' + "a" * 65 + '"}', {"fault": "bad_shape", "line": 2}),
+    ('{"s":1,"cmd":"stats","name":"a"}', {"fault": "bad_shape", "line": 2}),
+    ('{"s":1,"cmd":"refresh","on":"a"}', {"fault": "bad_shape", "line": 2}),
+    ('{"s":1,"cmd":"commit","on":"a"}', {"fault": "bad_shape", "line": 2}),
+    ('{"s":1,"cmd":"add","id":"b","on":"a"}', {"fault": "bad_shape", "line": 2}),
+    ('{"s":0,"cmd":"stats"}', {"fault": "bad_session", "line": 2}),
+    ('{"s":65,"cmd":"stats"}', {"fault": "bad_session", "line": 2}),
+    ('{"s":18446744073709551615,"cmd":"stats"}', {"fault": "bad_session", "line": 2}),
+    ('{"s":18446744073709551616,"cmd":"stats"}', {"fault": "bad_shape", "line": 2}),
+    ('{"s":-1,"cmd":"stats"}', {"fault": "bad_shape", "line": 2}),
+    ('{"s":65,"cmd":"hold","name":""}', {"fault": "bad_shape", "line": 2}),
+]
+
+# The lines behind the config line of a script on an empty store whose output is the only right one, and that output.
+ALONE: list[tuple[str, list[str], list[str]]] = [
+    (CONFIG, [], ['{"labels":[],"opened":[0,1],"order":[]}']),
+    (CONFIG, ['{"cmd":"phase"}'] * 2, ['{"labels":[],"opened":[0,1],"order":[]}']),
+    (
+        CONFIG,
+        [BOB, REFRESH, '{"s":1,"cmd":"hold","name":"a"}', LISA, REFRESH, '{"s":1,"cmd":"search","on":"a"}', '{"s":1,"cmd":"search"}']
+        + ['{"s":1,"cmd":"release","name":"a"}', '{"s":1,"cmd":"search","on":"a"}'],
+        [
+            '{"at":0,"line":2,"s":1}',
+            '{"line":3,"n":1,"s":1}',
+            '{"line":4,"n":1,"s":1}',
+            '{"at":1,"line":5,"s":1}',
+            '{"line":6,"n":2,"s":1}',
+            '{"hit_count":1,"hits":[{"at":0,"id":"b1"}],"line":7,"n":1,"results":[],"s":1}',
+            '{"hit_count":2,"hits":[{"at":0,"id":"b1"},{"at":1,"id":"b2"}],"line":8,"n":2,"results":[],"s":1}',
+            '{"line":9,"n":1,"s":1}',
+            '{"line":10,"refused":"not_held","s":1}',
+            '{"labels":[[0,"Author"],[1,"Bob"],[1,"Lisa"]],"opened":[0,1],"order":[1,1]}',
+        ],
+    ),
+    (
+        CONFIG,
+        ['{"s":1,"cmd":"hold","name":"a"}', '{"s":1,"cmd":"hold","name":"a"}', '{"cmd":"phase"}', '{"s":2,"cmd":"release","name":"a"}', '{"cmd":"phase"}']
+        + ['{"s":1,"cmd":"stats","on":"a"}', '{"s":1,"cmd":"document","on":"a","at":0}'],
+        [
+            '{"line":2,"n":0,"s":1}',
+            '{"line":3,"refused":"held_already","s":1}',
+            '{"line":5,"refused":"not_held","s":2}',
+            '{"documents":0,"labels":1,"line":7,"n":0,"s":1}',
+            '{"count":0,"line":8,"refused":"no_such_document","s":1}',
+            '{"labels":[],"opened":[0,1],"order":[]}',
+        ],
+    ),
+    (
+        '{"cmd":"config","max_labels":3}',
+        ['{"s":1,"cmd":"add","id":"b","facets":[["Author","Bob"],["Year","2010"]]}', BOB],
+        [
+            '{"line":2,"refused":"labels_full","s":1,"size":3}',
+            '{"at":0,"line":3,"s":1}',
+            '{"labels":[[0,"Author"],[1,"Bob"]],"opened":[0,1],"order":[1]}',
+        ],
+    ),
+    (
+        '{"cmd":"config","max_docs":1}',
+        [BOB, BOB],
+        ['{"at":0,"line":2,"s":1}', '{"count":1,"line":3,"refused":"docs_full","s":1}', '{"labels":[[0,"Author"],[1,"Bob"]],"opened":[0,1],"order":[1]}'],
+    ),
+]
+
+FAILED = [BOB, COMMIT, LISA, COMMIT, COMMIT, REFRESH, STATS]
+A = '{"s":%d,"cmd":"add","id":"a","facets":[["A","x"]]}'
+B = '{"s":%d,"cmd":"add","id":"b","facets":[["B","y"]]}'
+C = '{"s":%d,"cmd":"add","id":"c","facets":[["C","z"]]}'
+SEES = '{"s":%d,"cmd":"document","at":9}'
+CIRCLE = [A % 1, SEES % 1, REFRESH, A % 2, SEES % 2, '{"s":2,"cmd":"refresh"}']
+
+
+def circle(first: int, second: int) -> list[str]:
+    """Two sessions add, look at the last pair, of so many documents, and refresh."""
+    return [
+        '{"at":0,"line":2,"s":1}',
+        '{"count":%d,"line":3,"refused":"no_such_document","s":1}' % first,
+        '{"line":4,"n":2,"s":1}',
+        '{"at":1,"line":5,"s":2}',
+        '{"count":%d,"line":6,"refused":"no_such_document","s":2}' % second,
+        '{"line":7,"n":2,"s":2}',
+        '{"labels":[[0,"A"],[1,"x"]],"opened":[0,1],"order":[1,2]}',
+    ]
+
+
+TIED = [REFRESH, STATS, '{"s":2,"cmd":"refresh"}', '{"s":2,"cmd":"stats"}', A % 3, B % 3]
+
+
+def tied(first: int, second: int) -> list[str]:
+    """Two sessions refresh before a third one has placed a document, and see so many labels."""
+    return [
+        '{"line":2,"n":0,"s":1}',
+        '{"documents":0,"labels":%d,"line":3,"n":0,"s":1}' % first,
+        '{"line":4,"n":0,"s":2}',
+        '{"documents":0,"labels":%d,"line":5,"n":0,"s":2}' % second,
+        '{"at":0,"line":6,"s":3}',
+        '{"at":1,"line":7,"s":3}',
+        '{"labels":[[0,"A"],[1,"x"],[0,"B"],[3,"y"]],"opened":[0,1],"order":[3,3]}',
+    ]
+
+
+def entered_later(labels: int) -> list[str]:
+    """Session 1 refreshes and adds; session 2 adds before that and sees the pair, of so many labels."""
+    return [
+        '{"line":2,"n":1,"s":1}',
+        '{"at":1,"line":3,"s":1}',
+        '{"at":0,"line":4,"s":2}',
+        '{"documents":1,"labels":%d,"line":5,"n":1,"s":2}' % labels,
+        '{"labels":[[0,"A"],[1,"x"],[0,"C"],[3,"z"]],"opened":[0,1],"order":[2,1]}',
+    ]
+
+
+def seen_by_two(labels: int) -> list[str]:
+    """Sessions 1 and 3 bring a label, each behind a pair that session 2 sees with so many labels."""
+    return [
+        '{"line":2,"n":1,"s":1}',
+        '{"at":1,"line":3,"s":1}',
+        '{"at":0,"line":4,"s":2}',
+        '{"documents":1,"labels":%d,"line":5,"n":1,"s":2}' % labels,
+        '{"count":1,"line":6,"refused":"no_such_document","s":3}',
+        '{"at":2,"line":7,"s":3}',
+        '{"labels":[[0,"A"],[1,"x"],[0,"C"],[3,"z"]],"opened":[0,1],"order":[2,1,3]}',
+    ]
+
+
+TWO_BRING = [REFRESH, C % 1, '{"s":2,"cmd":"refresh"}', C % 2, A % 3, '{"s":3,"cmd":"stats"}']
+
+
+def two_bring(labels: int) -> list[str]:
+    """Sessions 1 and 2 refresh and bring a label, and session 3 sees one of their pairs."""
+    return [
+        '{"line":2,"n":0,"s":1}',
+        '{"at":1,"line":3,"s":1}',
+        '{"line":4,"n":0,"s":2}',
+        '{"at":2,"line":5,"s":2}',
+        '{"at":0,"line":6,"s":3}',
+        '{"documents":0,"labels":%d,"line":7,"n":0,"s":3}' % labels,
+        '{"labels":[[0,"A"],[1,"x"],[0,"C"],[3,"z"]],"opened":[0,1],"order":[3,1,2]}',
+    ]
+
+
+NEXT_PHASE = [REFRESH, A % 2, '{"cmd":"phase"}', STATS, C % 2]
+
+
+def next_phase(labels: int) -> list[str]:
+    """Session 1 sees in the next phase what it has published in this one; session 2 adds in both."""
+    return [
+        '{"line":2,"n":0,"s":1}',
+        '{"at":0,"line":3,"s":2}',
+        '{"documents":0,"labels":%d,"line":5,"n":0,"s":1}' % labels,
+        '{"at":1,"line":6,"s":2}',
+        '{"labels":[[0,"A"],[1,"x"],[0,"C"],[3,"z"]],"opened":[0,1],"order":[2,2]}',
+    ]
+
+
+def grown(labels: int) -> list[str]:
+    """One session adds, refreshes, sees so many labels and adds again."""
+    return [
+        '{"at":0,"line":2,"s":1}',
+        '{"line":3,"n":1,"s":1}',
+        '{"documents":1,"labels":%d,"line":4,"n":1,"s":1}' % labels,
+        '{"at":1,"line":5,"s":1}',
+        '{"labels":[[0,"A"],[1,"x"],[0,"B"],[3,"y"]],"opened":[0,1],"order":[1,1]}',
+    ]
+
+
+def refreshed(labels: int) -> list[str]:
+    """A refresh of a session whose labels are four beside the root."""
+    return [
+        '{"at":0,"line":2,"s":1}',
+        '{"count":1,"line":3,"refused":"docs_full","s":1}',
+        '{"line":4,"n":1,"s":1}',
+        '{"documents":1,"labels":%d,"line":5,"n":1,"s":1}' % labels,
+        '{"labels":[[0,"A"],[1,"x"],[0,"B"],[3,"y"]],"opened":[0,1],"order":[1]}',
+    ]
+
+
+def committed(last: str) -> list[str]:
+    return [
+        '{"at":0,"line":2,"s":1}',
+        '{"line":3,"n":1,"s":1}',
+        '{"at":1,"line":4,"s":1}',
+        '{"count":1,"line":5,"refused":"disk","s":1}',
+        last,
+        '{"line":7,"n":2,"s":1}',
+        '{"documents":2,"labels":4,"line":8,"n":2,"s":1}',
+        '{"labels":[[0,"Author"],[1,"Bob"],[1,"Lisa"]],"opened":[0,1],"order":[1,1]}',
+    ]
+
+
+def told(last: str) -> list[str]:
+    """Session 1 fails to commit, and session 2 is told so, and then that."""
+    return ['{"count":1,"line":2,"refused":"disk","s":1}', '{"count":1,"line":3,"refused":"closed","s":2}', last, '{"labels":[],"opened":[0,1],"order":[]}']
+
+
+def filled(labels: str) -> list[str]:
+    """An add is refused for labels, of which there are these, and in the next phase another one fits."""
+    return ['{"line":2,"refused":"labels_full","s":1,"size":3}', '{"at":0,"line":4,"s":1}', '{"labels":%s,"opened":[0,1],"order":[1]}' % labels]
+
+
+TOLD = [COMMIT, '{"s":2,"cmd":"commit"}', '{"s":2,"cmd":"commit"}']
+
+# The config line and the others of a script on an empty store, an output, and the clause that it breaks, or None.
+JUDGED: list[tuple[str, list[str], list[str], str | None]] = [
+    (CONFIG, FAILED, committed('{"count":1,"line":6,"refused":"closed","s":1}'), None),
+    (CONFIG, FAILED, committed('{"line":6,"refused":"no_memory","s":1}'), None),
+    (CONFIG, FAILED, committed('{"line":6,"n":2,"s":1}'), "last_commit"),
+    (CONFIG, FAILED, committed('{"count":2,"line":6,"refused":"closed","s":1}'), "closed"),
+    (CONFIG, FAILED, committed('{"count":2,"line":6,"refused":"disk","s":1}'), "one_failure"),
+    (CONFIG, TOLD, told('{"count":1,"line":4,"refused":"closed","s":2}'), None),
+    (CONFIG, TOLD, told('{"line":4,"n":0,"s":2}'), "stays_closed"),
+    # each session saw the pair that the other one published only later
+    (CONFIG, CIRCLE, circle(2, 0), None),
+    (CONFIG, CIRCLE, circle(0, 2), None),
+    (CONFIG, CIRCLE, circle(2, 2), "places"),
+    # of two refreshes with equal numbers, the one that a session saw with fewer labels came first
+    (CONFIG, TIED, tied(4, 2), None),
+    (CONFIG, TIED, tied(2, 4), None),
+    (CONFIG, TIED, tied(4, 6), "publications"),
+    # a refresh has the labels that its session had been shown
+    ('{"cmd":"config","max_docs":1}', [A % 1, B % 1, REFRESH, STATS], refreshed(5), None),
+    ('{"cmd":"config","max_docs":1}', [A % 1, B % 1, REFRESH, STATS], refreshed(3), "places"),
+    ('{"cmd":"config","max_docs":1}', [A % 1, B % 1, REFRESH, STATS], refreshed(2), "publications"),
+    # and none that its session added only later
+    (CONFIG, [A % 1, REFRESH, STATS, B % 1], grown(3), None),
+    (CONFIG, [A % 1, REFRESH, STATS, B % 1], grown(4), "entered"),
+    (CONFIG, [REFRESH, C % 1, A % 2, '{"s":2,"cmd":"stats"}'], entered_later(3), None),
+    (CONFIG, [REFRESH, C % 1, A % 2, '{"s":2,"cmd":"stats"}'], entered_later(5), "entered"),
+    (CONFIG, [REFRESH, C % 1, A % 2, '{"s":2,"cmd":"stats"}', SEES % 3, C % 3], seen_by_two(3), None),
+    (CONFIG, [REFRESH, C % 1, A % 2, '{"s":2,"cmd":"stats"}', SEES % 3, C % 3], seen_by_two(5), "entered"),
+    (CONFIG, TWO_BRING, two_bring(1), None),
+    (CONFIG, TWO_BRING, two_bring(5), None),
+    (CONFIG, NEXT_PHASE, next_phase(1), None),
+    (CONFIG, NEXT_PHASE, next_phase(3), None),
+    (CONFIG, NEXT_PHASE, next_phase(4), "entered"),
+    # an add is refused for labels only where all of them may be there
+    ('{"cmd":"config","max_labels":3}', [A % 1, '{"cmd":"phase"}', C % 1], filled('[[0,"C"],[1,"z"]]'), "full"),
+    (CONFIG, [STATS], ['{"line":2,"refused":"no_memory","s":1}', '{"labels":[],"opened":[0,1],"order":[]}'], "replies"),
+    (CONFIG, [COMMIT], ['{"line":2,"number":9223372036854775808,"refused":"numbers_spent","s":1}', '{"labels":[],"opened":[0,1],"order":[]}'], None),
+    (CONFIG, [COMMIT], ['{"line":2,"number":9223372036854775807,"refused":"numbers_spent","s":1}', '{"labels":[],"opened":[0,1],"order":[]}'], "replies"),
+    (CONFIG, [COMMIT], ['{"line":2, "n":0,"s":1}', '{"labels":[],"opened":[0,1],"order":[]}'], "bytes"),
+    (CONFIG, [COMMIT], ['{"line":2,"n":0,"s":1}', '{"labels":[],"opened":[0,1]}'], "bytes"),
+    (CONFIG, [COMMIT], ['{"line":2,"n":0,"s":1}', '{"labels":[],"opened":[0,1],"order":[1]}'], "operations"),
+    ('{"cmd":"config","max_labels":1}', [A % 1], ['{"at":0,"line":2,"s":1}', '{"labels":[[0,"A"],[1,"x"]],"opened":[0,1],"order":[1]}'], "label_limit"),
+]
+
+
+def lines(texts: list[str]) -> bytes:
+    return "".join(text + "\n" for text in texts).encode()
