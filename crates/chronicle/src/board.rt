@@ -12,6 +12,7 @@ use crate::rule::{
 use crate::standing::Standing;
 use atomic_table::{Seat, Shared};
 use std::snapshot::Snapshot;
+use std::hint;
 use std::sync::Wait;
 
 pub(crate) type Board<V, E> = Shared<Option<V>, Knowledge<E>, Snapshot<V>, TurnRule>;
@@ -26,6 +27,9 @@ const SERVING: usize = 1;
 const ENTERED: usize = 2;
 
 const VALUE: usize = 0;
+
+// How often a thread looks before it sleeps: some microseconds.
+const LOOKS: u32 = 100;
 
 // Draws a ticket. The last number is never drawn, so tickets do not wrap: who finds it sleeps for ever.
 pub(crate) fn draw_ticket<V: Standing, R: Wait>(
@@ -49,7 +53,19 @@ pub(crate) fn draw_ticket<V: Standing, R: Wait>(
     unreachable!()
 }
 
-// Sleeps until the ticket is served, and takes the value out.
+// Looks a while whether the ticket is served: a turn is often passed on sooner than a thread sleeps and wakes.
+fn look_for<V: Standing>(board: &Board<V, V::Entry>, ticket: u64)
+    requires board { board.now.table_id.words ≡ 3 }
+{
+    for _ in 0..LOOKS {
+        if board.peek(SERVING) == ticket {
+            return;
+        }
+        hint::spin_loop();
+    }
+}
+
+// Waits until the ticket is served, and takes the value out.
 pub(crate) fn await_turn<V: Standing, R: Wait>(
     rt: &R,
     board: &Board<V, V::Entry>,
@@ -64,6 +80,7 @@ pub(crate) fn await_turn<V: Standing, R: Wait>(
     ensures learns { Learns seat.old.me.0 seat.new.me.0.seen }
 {
     for _ in rt.forever() {
+        look_for(board, ticket);
         let served = board.load::<Look>(seat, SERVING);
         if served == ticket {
             let value = board.exchange(seat, VALUE, None);
@@ -75,7 +92,8 @@ pub(crate) fn await_turn<V: Standing, R: Wait>(
     unreachable!()
 }
 
-// Puts the value back, passes the turn on, and wakes those who wait.
+// Puts the value back, passes the turn on, and wakes those who wait. Where no ticket is drawn behind this one nobody waits: whoever draws one later finds it
+// served.
 pub(crate) fn pass_turn<V: Standing>(
     board: &Board<V, V::Entry>,
     seat: &mut Holder<V, V::Entry>,
@@ -92,8 +110,10 @@ pub(crate) fn pass_turn<V: Standing>(
         None => {}
         Some(_) => unreachable!(),
     }
-    board.fetch_add::<Pass>(seat, SERVING, 1);
-    board.wake_all(SERVING);
+    let passed = board.fetch_add::<Pass>(seat, SERVING, 1);
+    if board.peek(NEXT) != passed.wrapping_add(1) {
+        board.wake_all(SERVING);
+    }
 }
 
 // Adds the entry to the history. `W` is how the call says in the proofs which entry that is.

@@ -14,6 +14,12 @@ use resolving::resolve_by;
 use std::time::Duration;
 use std::{env, io};
 
+// What a word says, and 100 where there is none.
+fn number(word: Option<String>) -> u32 {
+    word.and_then(|word| word.parse::<u32>().ok())
+        .unwrap_or(100)
+}
+
 fn nanos(took: Duration, count: u64) -> u128 {
     took.as_nanos() / (count.max(1) as u128)
 }
@@ -21,14 +27,8 @@ fn nanos(took: Duration, count: u64) -> u128 {
 fn main(rt: HostRuntime) -> io::Result<()> {
     let mut args = env::args(&rt)?;
     let _name = args.next();
-    let labels = args
-        .next()
-        .and_then(|word| word.parse::<u32>().ok())
-        .unwrap_or(100);
-    let documents = args
-        .next()
-        .and_then(|word| word.parse::<u32>().ok())
-        .unwrap_or(100);
+    let labels = number(args.next());
+    let documents = number(args.next());
     let timed = args.next().is_some();
     for threads in [1u32, 4] {
         let Some(took) = resolve_by(&rt, rt.alloc(), threads, labels) else {
