@@ -4,7 +4,7 @@ use Rattle.std.specs.Borrow.{Bor}
 use Rattle.std.specs.Cmp.Lexicographic.{slice_cmp}
 use Rattle.std.proofs.Common.{Ordering, Less, Equal, Greater}
 use Rattle.std.specs.Ordering.{nat_cmp, match_ordering}
-use Rattle.std.specs.Prelude.{◌||◌, ℤ, pos, negsuc, codes}
+use Rattle.std.specs.Prelude.{◌||◌, ℤ, pos, negsuc, codes, drop}
 use Rattle.hex.specs.Hex.{encode_lower}
 use Rattle.serde_json.specs.Data.{Data, string, Members, no_members, member, put}
 use Rattle.serde_json.specs.Find.{of_integer, is_float}
@@ -15,8 +15,9 @@ use Rattle.facet_model.specs.Results.{Listed, Answer, top_answer, value_answer, 
 use Rattle.facet_model.specs.Accepts.{no_component, not_hierarchical, not_multi_valued}
 use Rattle.facet_replies.specs.declared.fault.ScriptFault.{ScriptFault}
 use Rattle.facet_replies.specs.declared.fault.ScriptFault.TheVariants as faults
-use Rattle.facet_replies.specs.Replies.{broken, labels_full, docs_full, top_zero, dim_value_not_kept, no_such_document, disk_failed, closed, numbers_spent, no_memory, Reply, placed, numbered, found, shown, stats, refused}
+use Rattle.facet_replies.specs.Replies.{broken, labels_full, docs_full, not_held, held_already, top_zero, dim_value_not_kept, no_such_document, disk_failed, closed, numbers_spent, no_memory, Reply, placed, numbered, found, shown, stats, refused}
 use Rattle.facet_replies.specs.ReplyLines.{with_fields, whole_data, path_data, child_data, listed_data, value_data, dims_data, answer_data, hit_data, reply_data, fault_data}
+use Rattle.facet_replies.specs.LastLine.{label_data, last_data}
 use Rattle.facet_replies.specs.NamedFaults.{detail_field, named_fault_data}
 use Rattle.facet_replies.specs.declared.named_fault.Detail.{Detail}
 use Rattle.facet_replies.specs.declared.named_fault.Detail.TheVariants.{Text, Number, Digest}
@@ -80,6 +81,8 @@ reply_plain session line (refused (broken (not_hierarchical facet len))) = refl
 reply_plain session line (refused (broken (not_multi_valued facet))) = refl
 reply_plain session line (refused (labels_full size)) = refl
 reply_plain session line (refused (docs_full count)) = refl
+reply_plain session line (refused not_held) = refl
+reply_plain session line (refused held_already) = refl
 reply_plain session line (refused (top_zero ask)) = refl
 reply_plain session line (refused (dim_value_not_kept ask)) = refl
 reply_plain session line (refused (no_such_document count)) = refl
@@ -88,6 +91,14 @@ reply_plain session line (refused (closed count)) = refl
 reply_plain session line (refused (numbers_spent number)) = refl
 reply_plain session line (refused no_memory) = refl
 reply_plain session line (stats s) = refl
+
+labels_plain : (labels paths : List (List (List ℕ))) → items_have_float (items_of (map (label_data labels) paths)) ≡ false
+labels_plain labels [] = refl
+labels_plain labels (p ∷ ps) = labels_plain labels ps
+
+pub last_plain : (documents opened : ℕ) (labels : List (List (List ℕ))) (sessions : List ℕ) → has_float (last_data documents opened labels sessions) ≡ false
+unfolding last_data
+last_plain documents opened labels sessions = rw (labels_plain labels (drop opened labels), wholes_plain sessions) refl
 
 pub fault_plain : (fault : ScriptFault) → has_float (fault_data fault) ≡ false
 unfolding fault_data

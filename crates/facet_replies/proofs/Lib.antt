@@ -1,1 +1,2 @@
 pub mod Floats
+mod Roots

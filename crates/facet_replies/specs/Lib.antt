@@ -2,3 +2,4 @@ pub mod Replies
 pub mod ReplyViews
 pub mod ReplyLines
 pub mod NamedFaults
+pub mod LastLine

@@ -4,11 +4,15 @@ use Rattle.facet_model.specs.Accepts.{Broken}
 use Rattle.facet_model.specs.Documents.{Doc}
 use Rattle.facet_model.specs.Results.{Answer}
 
--- A facet is broken. The label list has this size, or there are so many documents, and no more fit. The ask at this place asks for no child, or for a value that is not kept. There are only so many documents. The disk failed at this count of faults, now or at an earlier commit. The last file number would be this one.
+-- A facet is broken. The label list has this size, or there are so many documents, and no more fit. The name is not held, or is held already. The ask at this
+-- place asks for no child, or for a value that is not kept. There are only so many documents. The disk failed at this count of faults, now or at an earlier
+-- commit. The last file number would be this one.
 pub data Refusal : Type 0 where
   broken : Broken → Refusal
   labels_full : ℕ → Refusal
   docs_full : ℕ → Refusal
+  not_held : Refusal
+  held_already : Refusal
   top_zero : ℕ → Refusal
   dim_value_not_kept : ℕ → Refusal
   no_such_document : ℕ → Refusal

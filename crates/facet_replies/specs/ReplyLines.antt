@@ -10,7 +10,7 @@ use Rattle.facet_model.specs.Listing.{PartCount}
 use Rattle.facet_model.specs.Results.{Listed, Answer, top_answer, value_answer, dims_answer}
 use Rattle.facet_replies.specs.declared.fault.ScriptFault.{ScriptFault}
 use Rattle.facet_replies.specs.declared.fault.ScriptFault.TheVariants as faults
-use Rattle.facet_replies.specs.Replies.{Refusal, broken, labels_full, docs_full, top_zero, dim_value_not_kept, no_such_document, disk_failed, closed, numbers_spent, no_memory, Reply, placed, numbered, found, shown, stats, refused}
+use Rattle.facet_replies.specs.Replies.{Refusal, broken, labels_full, docs_full, not_held, held_already, top_zero, dim_value_not_kept, no_such_document, disk_failed, closed, numbers_spent, no_memory, Reply, placed, numbered, found, shown, stats, refused}
 
 -- keys with their values, in any order
 abbrev pub Fields : Type 0
@@ -73,6 +73,8 @@ abbrev pub refusal_fields : Refusal → Fields
 refusal_fields (broken b) = broken_fields b
 refusal_fields (labels_full size) = (codes "refused", string (codes "labels_full")) ∷ (codes "size", whole_data size) ∷ []
 refusal_fields (docs_full count) = (codes "refused", string (codes "docs_full")) ∷ (codes "count", whole_data count) ∷ []
+refusal_fields not_held = (codes "refused", string (codes "not_held")) ∷ []
+refusal_fields held_already = (codes "refused", string (codes "held_already")) ∷ []
 refusal_fields (top_zero ask) = (codes "refused", string (codes "top_zero")) ∷ (codes "ask", whole_data ask) ∷ []
 refusal_fields (dim_value_not_kept ask) = (codes "refused", string (codes "dim_value_not_kept")) ∷ (codes "ask", whole_data ask) ∷ []
 refusal_fields (no_such_document count) = (codes "refused", string (codes "no_such_document")) ∷ (codes "count", whole_data count) ∷ []

@@ -3,6 +3,7 @@
 
 mod answering;
 mod fault;
+mod last_line;
 mod named_fault;
 mod refusing;
 mod reply;
@@ -10,6 +11,7 @@ mod values;
 mod writing;
 
 pub use fault::ScriptFault;
+pub use last_line::write_last_line;
 pub use named_fault::{Detail, write_named_fault};
 pub use reply::{HitLine, Refusal, Reply};
 pub use writing::{write_fault, write_reply};

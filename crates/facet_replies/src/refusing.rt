@@ -68,6 +68,8 @@ pub fn put_refusal(
         }
         Refusal::LabelsFull { size } => put_reason(alloc, fields, "labels_full", "size", size),
         Refusal::DocsFull { count } => put_reason(alloc, fields, "docs_full", "count", count),
+        Refusal::NotHeld => put_text(alloc, fields, "refused", "not_held"),
+        Refusal::HeldAlready => put_text(alloc, fields, "refused", "held_already"),
         Refusal::TopZero { ask } => put_reason(alloc, fields, "top_zero", "ask", ask),
         Refusal::DimValueNotKept { ask } => {
             put_reason(alloc, fields, "dim_value_not_kept", "ask", ask)

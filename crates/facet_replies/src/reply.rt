@@ -20,6 +20,10 @@ pub enum Refusal {
     LabelsFull { size: u64 },
     /// There are this many documents, and there may be no more.
     DocsFull { count: u64 },
+    /// The session holds no pair under the name.
+    NotHeld,
+    /// The session holds a pair under the name already.
+    HeldAlready,
     /// The ask at this place, from 0, asks for no child.
     TopZero { ask: u64 },
     /// The ask at this place asks for the value of a dimension alone, which is not kept.
