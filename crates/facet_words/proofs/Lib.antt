@@ -3,5 +3,10 @@ pub mod FirstLines
 pub mod Members
 pub mod Orders
 pub mod Levels
+pub mod PlainLines
+pub mod Phases
+pub mod Rising
+mod Names
+mod SearchLines
 mod Limits
 mod Dimensions

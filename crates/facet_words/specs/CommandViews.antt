@@ -8,6 +8,10 @@ use Rattle.facet_words.specs.declared.command.Command.TheVariants as commands
 use Rattle.facet_words.specs.declared.command.Order.{Order}
 use Rattle.facet_words.specs.declared.command.Script.{Script}
 use Rattle.facet_words.specs.declared.command.Settings.{Settings}
+use Rattle.facet_words.specs.declared.parts.SearchLine.{SearchLine}
+
+abbrev pub search_view : SearchLine → plain.Search
+search_view s = record { query = query_view s.query; drill = s.drill; sideways = s.sideways; asks = map ask_view s.asks.items; hits = s.hits }
 
 abbrev pub command_view : Command → plain.Command
 command_view (commands.Add doc) = plain.add doc

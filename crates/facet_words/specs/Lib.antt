@@ -5,4 +5,5 @@ pub mod Queries
 pub mod Orders
 pub mod Scripts
 pub mod CommandViews
+pub mod Sessions
 pub mod Answers

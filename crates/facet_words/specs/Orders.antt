@@ -1,15 +1,16 @@
 -- What the value of a line is: the settings, or a command with its session.
-use Rattle.std.specs.Prelude.{ℕ, not, if◌then◌else◌, Bool, false, List, [], ◌∷◌, codes, map, take, Option, Some, None}
+use Rattle.std.specs.Prelude.{ℕ, not, if◌then◌else◌, Bool, false, List, [], ◌∷◌, codes, map, take, Option, Some, None, option_map}
 use Rattle.std.specs.List.{list_any, list_all, enumerate_from}
 use Rattle.std.specs.Option.{option_or}
 use Rattle.std.specs.Str.{bytes_eq}
 use Rattle.serde_json.specs.Data.{Data}
 use Rattle.serde_json.specs.Find.{as_str, as_bool}
 use Rattle.facet_model.specs.declared.flags.DimFlags.{DimFlags}
+use Rattle.facet_model.specs.Documents.{Doc}
 use Rattle.facet_model.specs.Flags.{Config}
 use Rattle.facet_model.specs.Asks.{Asked, top, one_value, all_dims}
 use Rattle.facet_model.specs.Queries.{all}
-use Rattle.facet_words.specs.Commands.{Settings, Command, add, refresh, search, document, stats, commit}
+use Rattle.facet_words.specs.Commands.{Settings, Search, Command, add, refresh, search, document, stats, commit}
 use Rattle.facet_words.specs.Queries.{query_of}
 use Rattle.facet_words.specs.Shapes.{◌>>=◌, when, whole, text_within, whole_within, list_of, list_within, path, key, key_or, keys_among}
 
@@ -63,36 +64,54 @@ dims_ask d = do
 unfoldable pub ask_of : Data → Option Asked
 ask_of d = option_or (top_ask d) (option_or (value_ask d) (dims_ask d))
 
--- ---- the commands
+-- ---- the parts of commands
 
-unfoldable pub add_of : Data → Option Command
-add_of d = do
+-- the document of an add
+unfoldable pub added_of : Data → Option Doc
+added_of d = do
   id ← key (codes "id") (text_within 1 256) d
   text ← key_or (codes "text") [] (text_within 0 65536) d
   facets ← key_or (codes "facets") [] (list_within 0 256 path) d
-  when (keys_among (codes "cmd" ∷ codes "s" ∷ codes "id" ∷ codes "text" ∷ codes "facets" ∷ []) d) (add (record { id = id; text = text; labels = facets }))
+  when (keys_among (codes "cmd" ∷ codes "s" ∷ codes "id" ∷ codes "text" ∷ codes "facets" ∷ []) d) (record { id = id; text = text; labels = facets })
 
--- a command without further keys
-unfoldable pub plain_of : Command → Data → Option Command
-plain_of command d = when (keys_among (codes "cmd" ∷ codes "s" ∷ []) d) command
-
-unfoldable pub search_of : Data → Option Command
-search_of d = do
+-- a search that has no other keys than these
+unfoldable pub search_with : List (List ℕ) → Data → Option Search
+search_with keys d = do
   query ← key_or (codes "query") all query_of d
   drill ← key_or (codes "drill") [] (list_within 0 256 path) d
   sideways ← key_or (codes "sideways") false as_bool d
   asks ← key_or (codes "ask") [] (list_within 0 64 ask_of) d
   hits ← key_or (codes "hits") 10 (whole_within 0 1000000) d
-  when (keys_among (codes "cmd" ∷ codes "s" ∷ codes "query" ∷ codes "drill" ∷ codes "sideways" ∷ codes "ask" ∷ codes "hits" ∷ []) d) (search (record { query = query; drill = drill; sideways = sideways; asks = asks; hits = hits }))
+  when (keys_among keys d) (record { query = query; drill = drill; sideways = sideways; asks = asks; hits = hits })
 
-unfoldable pub document_of : Data → Option Command
-document_of d = do
+-- the place of a document, beside no other keys than these
+unfoldable pub place_with : List (List ℕ) → Data → Option ℕ
+place_with keys d = do
   at ← key (codes "at") (whole_within 0 4294967295) d
-  when (keys_among (codes "cmd" ∷ codes "s" ∷ codes "at" ∷ []) d) (document at)
+  when (keys_among keys d) at
+
+-- a command without further keys
+unfoldable pub plain_of : {A : Type 0} → A → Data → Option A
+plain_of command d = when (keys_among (codes "cmd" ∷ codes "s" ∷ []) d) command
+
+-- the number of the session, and the name of the command
+unfoldable pub heading_of : Data → Option (ℕ × List ℕ)
+heading_of d = do
+  session ← key (codes "s") whole d
+  name ← key (codes "cmd") as_str d
+  Some (session, name)
+
+-- ---- the commands
+
+abbrev pub search_of : Data → Option Command
+search_of d = option_map search (search_with (codes "cmd" ∷ codes "s" ∷ codes "query" ∷ codes "drill" ∷ codes "sideways" ∷ codes "ask" ∷ codes "hits" ∷ []) d)
+
+abbrev pub document_of : Data → Option Command
+document_of d = option_map document (place_with (codes "cmd" ∷ codes "s" ∷ codes "at" ∷ []) d)
 
 unfoldable pub command_named : List ℕ → Data → Option Command
 command_named name d =
-    if bytes_eq name (codes "add") then add_of d
+    if bytes_eq name (codes "add") then option_map add (added_of d)
     else (if bytes_eq name (codes "refresh") then plain_of refresh d
     else (if bytes_eq name (codes "search") then search_of d
     else (if bytes_eq name (codes "document") then document_of d
@@ -103,7 +122,6 @@ command_named name d =
 -- the session's number, and the command
 unfoldable pub command_of : Data → Option (ℕ × Command)
 command_of d = do
-  session ← key (codes "s") whole d
-  name ← key (codes "cmd") as_str d
-  command ← command_named name d
-  Some (session, command)
+  heading ← heading_of d
+  command ← command_named heading.1 d
+  Some (heading.0, command)

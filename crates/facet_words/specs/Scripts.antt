@@ -23,12 +23,12 @@ or_fault fault (Some x) = Ok x
 
 -- ---- the first line
 
--- an object that names itself the config line
-abbrev pub is_config : Data → Bool
-is_config d = option_map_or (λ name. bytes_eq name (codes "config")) (key (codes "cmd") as_str d) false
+-- an object that names itself a line of this kind
+abbrev pub is_named : List ℕ → Data → Bool
+is_named kind d = option_map_or (λ name. bytes_eq name kind) (key (codes "cmd") as_str d) false
 
 unfoldable pub config_of : Data → Result Settings ScriptFault
-config_of d = if is_config d then or_fault (BadShape 1) (settings_of d) else Err NoConfigFirst
+config_of d = if is_named (codes "config") d then or_fault (BadShape 1) (settings_of d) else Err NoConfigFirst
 
 -- the settings of the first line's bytes
 unfoldable pub config_at : List ℕ → Result Settings ScriptFault

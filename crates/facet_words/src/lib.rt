@@ -6,8 +6,10 @@ mod command;
 mod laws;
 mod lines;
 mod order;
+mod parts;
 mod query;
 mod script;
+pub mod sessions;
 mod settings;
 mod shape;
 

@@ -1,0 +1,152 @@
+//! The parts of commands that scripts of one session and of several have in common.
+ghost use Rattle.std.specs.Prelude.{◌≡◌, ◌≤◌, IfOk, IsTrue, option_map, length, map, codes};
+ghost use Rattle.serde_json.specs.View.{view};
+ghost use Rattle.facet_model.specs.Queries.{all};
+ghost use Rattle.facet_model.specs.QueryViews.{query_view};
+ghost use Rattle.facet_words.specs.CommandViews.{search_view};
+ghost use Rattle.facet_words.specs.Orders.{added_of, heading_of, place_with, plain_of, search_with};
+ghost use Rattle.facet_words.specs.Queries.{query_of};
+ghost use Rattle.facet_words.specs.Shapes.{key_or, is_within};
+
+use crate::shape::{Shaped, flag_at, index_in, keys_among, list_or, text_in, whole_or};
+use facet_model::{Ask, DocShape, Document, Drill, Query};
+use facet_names::{NoMemory, Path};
+use serde_json::Value;
+use std::alloc::Global;
+
+/// A search, whatever documents it sees.
+#[derive(Drop)]
+pub struct SearchLine {
+    pub query: Query,
+    pub drill: Drill,
+    pub sideways: bool,
+    pub asks: Vec<Ask>,
+    pub hits: u32,
+}
+
+fn new_document(
+    alloc: Global,
+    id: &str,
+    text: &str,
+    facets: Vec<Path>,
+) -> Result<Document, NoMemory>
+    requires id { IsTrue (is_within 1 256 (length id.now)) }
+    requires text { length text.now ≤ 65536 }
+    requires facets { length facets.items ≤ 256 }
+    ensures { IfOk result (λ doc. doc ≡ record { id = id.now; text = text.now; labels = facets.items }) }
+{
+    match Document::new(alloc, id, text, facets) {
+        Ok(doc) => Ok(doc),
+        Err(DocShape::NoMemory) => Err(NoMemory),
+        // Its shape was tested.
+        Err(
+            DocShape::BadId { .. } | DocShape::TextTooLong { .. } | DocShape::TooManyFacets { .. },
+        ) => unreachable!(),
+    }
+}
+
+/// The document of an add.
+#[tactic(auto, unfolding(crate::specs::Orders::added_of))]
+pub fn added_in(alloc: Global, value: &Value) -> Result<Option<Document>, NoMemory>
+    ensures { IfOk result (λ o. o ≡ added_of (view value.now)) }
+{
+    let Some(id) = value.get("id").and_then(|found| text_in(found, 1, 256)) else {
+        return Ok(None);
+    };
+    let Some(text) = value
+        .get("text")
+        .map_or(Some(""), |found| text_in(found, 0, 65_536))
+    else {
+        return Ok(None);
+    };
+    let Some(facets) = list_or::<Path>(alloc, value, "facets", 256)? else {
+        return Ok(None);
+    };
+    if keys_among(value, &["cmd", "s", "id", "text", "facets"]) {
+        let doc = new_document(alloc, id, text, facets)?;
+        Ok(Some(doc))
+    } else {
+        Ok(None)
+    }
+}
+
+fn query_at(alloc: Global, value: &Value) -> Result<Option<Query>, NoMemory>
+    ensures { IfOk result (λ o. option_map query_view o ≡ key_or (codes "query") all query_of (view value.now)) }
+{
+    match value.get("query") {
+        Some(found) => Query::read(alloc, found),
+        None => Ok(Some(Query::All)),
+    }
+}
+
+/// A search that has no other keys than these.
+#[tactic(auto, unfolding(crate::specs::Orders::search_with))]
+pub fn searched_in(
+    alloc: Global,
+    value: &Value,
+    keys: &[&str],
+) -> Result<Option<SearchLine>, NoMemory>
+    ensures { IfOk result (λ o. option_map search_view o ≡ search_with (map (λ k. k.now) keys.now) (view value.now)) }
+{
+    let Some(query) = query_at(alloc, value)? else {
+        return Ok(None);
+    };
+    let Some(paths) = list_or::<Path>(alloc, value, "drill", 256)? else {
+        return Ok(None);
+    };
+    let Some(sideways) = flag_at(value, "sideways") else {
+        return Ok(None);
+    };
+    let Some(asks) = list_or::<Ask>(alloc, value, "ask", 64)? else {
+        return Ok(None);
+    };
+    let Some(hits) = whole_or(value, "hits", 10, 0, 1_000_000) else {
+        return Ok(None);
+    };
+    if keys_among(value, keys) {
+        Ok(Some(SearchLine {
+            query,
+            drill: Drill::new(paths),
+            sideways,
+            asks,
+            hits: hits as u32,
+        }))
+    } else {
+        Ok(None)
+    }
+}
+
+/// The place of a document, beside no other keys than these.
+#[tactic(auto, unfolding(crate::specs::Orders::place_with))]
+pub fn place_in(value: &Value, keys: &[&str]) -> Option<u32>
+    ensures { result ≡ place_with (map (λ k. k.now) keys.now) (view value.now) }
+{
+    let at = value.get("at").and_then(index_in)?;
+    if keys_among(value, keys) {
+        Some(at)
+    } else {
+        None
+    }
+}
+
+/// A command without further keys.
+#[tactic(auto, unfolding(crate::specs::Orders::plain_of))]
+pub fn plain_in<C: Drop>(value: &Value, command: C) -> Option<C>
+    ensures { result ≡ plain_of command (view value.now) }
+{
+    if keys_among(value, &["cmd", "s"]) {
+        Some(command)
+    } else {
+        None
+    }
+}
+
+/// The number of the session, whether there is such a session or not, and the name of the command.
+#[tactic(auto, unfolding(crate::specs::Orders::heading_of))]
+pub fn heading_in<'a>(value: &'a Value) -> Option<(u64, &'a str)>
+    ensures { option_map (λ h. (h.0, h.1.now)) result ≡ heading_of (view value.now) }
+{
+    let session = value.get("s").and_then(Value::as_u64)?;
+    let name = value.get("cmd").and_then(Value::as_str)?;
+    Some((session, name))
+}

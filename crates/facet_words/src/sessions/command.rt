@@ -1,0 +1,57 @@
+use crate::command::Settings;
+use facet_model::{Ask, Document, Drill, Query, Word};
+
+/// A command of a session. Where it has `on`, it sees the pair that the session holds under this name, and else the pair that was published last.
+#[derive(Debug, Drop)]
+pub enum Command {
+    /// Adds a document at the end of the history.
+    Add {
+        doc: Document,
+    },
+    /// Publishes a pair of all documents that were added so far, and of their labels.
+    Refresh,
+    /// Holds the pair that was published last under a name of 1 to 64 bytes, until it is released.
+    Hold {
+        name: Word,
+    },
+    /// Releases the pair that is held under the name.
+    Release {
+        name: Word,
+    },
+    /// Counts what is asked over the documents of the pair that match the query and pass the drill, and lists the first `hits` of them. With
+    /// `sideways` each dimension is counted as if the drill did not name it, as Lucene's `DrillSideways` does.
+    Search {
+        on: Option<Word>,
+        query: Query,
+        drill: Drill,
+        sideways: bool,
+        asks: Vec<Ask>,
+        hits: u32,
+    },
+    /// Shows the document at this place of the pair, from 0.
+    Document {
+        on: Option<Word>,
+        at: u32,
+    },
+    /// Tells how many documents and labels the pair has.
+    Stats {
+        on: Option<Word>,
+    },
+    /// Makes all that was added so far durable.
+    Commit,
+}
+
+/// A command with the number of its session, from 1 to 64, and of its line.
+#[derive(Debug, Drop)]
+pub struct Order {
+    pub session: u32,
+    pub line: u64,
+    pub command: Command,
+}
+
+/// The settings of a script and its orders, phase by phase and each phase in line order. The last phase ends with the script; a phase may be empty.
+#[derive(Drop)]
+pub struct Script {
+    pub settings: Settings,
+    pub phases: Vec<Vec<Order>>,
+}

@@ -1,0 +1,54 @@
+ghost use Rattle.std.specs.Prelude.{◌≡◌, ◌≢◌, ◌≤◌, Ok, Err, IfOk, IfErr, map};
+ghost use Rattle.facet_words.specs.Lines.{lines_of};
+ghost use Rattle.facet_words.specs.Sessions.CommandViews.{order_view, script_view};
+ghost use Rattle.facet_words.specs.Sessions.Laws.{AreInOrder};
+ghost use Rattle.facet_words.specs.Sessions.Scripts.{phases_of, script};
+ghost use Rattle.facet_replies.specs.declared.fault.ScriptFault.TheVariants.{NoMemory as Memory};
+
+use crate::lines::cut_line;
+use crate::sessions::command::{Order, Script};
+use crate::sessions::order::read_line;
+use crate::settings::read_settings;
+use facet_replies::ScriptFault;
+use std::alloc::Global;
+use std::mem;
+
+// The phases of the lines behind the first one.
+fn read_phases(alloc: Global, bytes: &[u8]) -> Result<Vec<Vec<Order>>, ScriptFault>
+    ensures ok { IfOk result (λ v. phases_of (lines_of bytes.now) ≡ Ok (map (λ orders. map order_view orders.items) v.items)) }
+    ensures err { IfErr result (λ e. e ≢ Memory → phases_of (lines_of bytes.now) ≡ Err e) }
+{
+    let mut phases = Vec::new(alloc);
+    let mut orders = Vec::new(alloc);
+    let mut line = 2;
+    let mut rest = bytes;
+    while !rest.is_empty() {
+        let (first, after) = cut_line(rest);
+        match read_line(alloc, line, first)? {
+            Some(order) => orders.push(order)?,
+            None => phases.push(mem::replace(&mut orders, Vec::new(alloc)))?,
+        }
+        line += 1;
+        rest = after;
+    }
+    phases.push(orders)?;
+    Ok(phases)
+}
+
+/// The script of several sessions that the bytes are, or the fault of their first faulty line.
+///
+/// They are read line by line, and no line behind a faulty one is looked at. It keeps memory for the orders alone.
+#[tactic(auto, unfolding(crate::specs::Sessions::Scripts::script))]
+pub fn read_script(alloc: Global, bytes: &[u8]) -> Result<Script, ScriptFault>
+    ensures ok { IfOk result (λ s. script bytes.now ≡ Ok (script_view s)) }
+    ensures err { IfErr result (λ e. e ≢ Memory → script bytes.now ≡ Err e) }
+    ensures order { IfOk result (λ s. AreInOrder (script_view s).phases) }
+{
+    if bytes.is_empty() {
+        return Err(ScriptFault::NoConfigFirst);
+    }
+    let (first, rest) = cut_line(bytes);
+    let settings = read_settings(alloc, first)?;
+    let phases = read_phases(alloc, rest)?;
+    Ok(Script { settings, phases })
+}
