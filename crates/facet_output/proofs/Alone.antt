@@ -13,11 +13,11 @@ use Rattle.facet_model.specs.Accepts.{Broken, first_broken}
 use Rattle.facet_model.specs.Documents.{Doc}
 use Rattle.facet_model.specs.Histories.{knows}
 use Rattle.facet_words.specs.Commands.{Settings}
-use Rattle.facet_output.specs.Commands.{Command, Order, add, refresh, hold, release, search, document, stats, commit}
+use Rattle.facet_words.specs.Sessions.Commands.{Command, Order, add, refresh, hold, release, search, document, stats, commit}
 use Rattle.facet_output.specs.Held.{Held, held_after}
 use Rattle.facet_output.specs.OneSession.{LeavesFirst, AddLeaves, Leaves, AreExactLabels, OneSessionHasItsLabels, room, is_resolved}
 use Rattle.facet_output.specs.Output.{Opened}
-use Rattle.facet_output.specs.Replies.{Reply, refused, no_memory}
+use Rattle.facet_replies.specs.Replies.{Reply, refused, no_memory}
 use Rattle.facet_output.specs.Replying.{IsAdded, IsResolved, IsRight}
 use Rattle.facet_output.specs.Seen.{Entries, Seen, Sees, IsTold, entered_by, opened_seen, labels_of, history_of}
 use Rattle.facet_output.specs.Sessions.{SessionRan, AllRan, steps_of, own_steps, is_by}

@@ -8,14 +8,15 @@ use Rattle.facet_model.specs.Documents.{Doc}
 use Rattle.facet_model.specs.Histories.{Operation}
 use Rattle.facet_model.specs.Queries as q
 use Rattle.facet_model.specs.Results.{Answer, top_answer}
-use Rattle.facet_replies.specs.ReplyLines.{json_line, listed_data, hit_data}
+use Rattle.facet_replies.specs.LastLine.{last_line as line_of, last_data}
+use Rattle.facet_replies.specs.ReplyLines.{json_line, listed_data, hit_data, reply_data, reply_line}
 use Rattle.facet_words.specs.Commands.{Settings, Search}
-use Rattle.facet_output.specs.Commands.{Order, add, refresh, search}
-use Rattle.facet_output.specs.Replies.{Reply, placed, numbered, found}
+use Rattle.facet_words.specs.Sessions.Commands.{Order, add, refresh, search}
+use Rattle.facet_replies.specs.Replies.{Reply, placed, numbered, found}
 use Rattle.facet_output.specs.Answered.{Answered, of_session}
 use Rattle.facet_output.specs.Replying.{RightReplies}
 use Rattle.facet_output.specs.Output.{IsOutput}
-use Rattle.facet_output.specs.OutputLines.{reply_line, last_line, output_bytes}
+use Rattle.facet_output.specs.OutputLines.{last_line, output_bytes}
 use Rattle.facet_output.proofs.Samples.{author, doc, empty_store, order, answer, answer_at, by_one, each_session}
 use Rattle.facet_output.proofs.Tested.{children_so}
 
@@ -137,7 +138,7 @@ written = lines (codes "{\"at\":0,\"line\":2,\"s\":1}" ∷ codes "{\"at\":1,\"li
     ∷ [])
 
 is_written : output_bytes empty_store labels history answered ≡ written
-unfolding reply_line last_line json_line listed_data hit_data digits serde_json_on_literals
+unfolding reply_line reply_data line_of last_data json_line listed_data hit_data digits serde_json_on_literals
 is_written = refl
 
 -- the last line of a run that was refused for labels
@@ -145,10 +146,10 @@ abbrev three : List (List (List ℕ))
 three = [] ∷ (codes "Author" ∷ []) ∷ author (codes "Bob") ∷ []
 
 last_of_full : last_line empty_store three (by_one b1 ∷ []) ≡ lines (codes "{\"labels\":[[0,\"Author\"],[1,\"Bob\"]],\"opened\":[0,1],\"order\":[1]}" ∷ [])
-unfolding last_line json_line digits serde_json_on_literals
+unfolding line_of last_data json_line digits serde_json_on_literals
 last_of_full = refl
 
 -- of a script without a command
 last_of_none : last_line empty_store ([] ∷ []) [] ≡ lines (codes "{\"labels\":[],\"opened\":[0,1],\"order\":[]}" ∷ [])
-unfolding last_line json_line digits serde_json_on_literals
+unfolding line_of last_data json_line digits serde_json_on_literals
 last_of_none = refl

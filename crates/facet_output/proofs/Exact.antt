@@ -9,12 +9,12 @@ use Rattle.std.proofs.lemmas.List.Elements.{filter_map-append}
 use Rattle.facet_model.specs.Histories.{Operation}
 use Rattle.facet_model.specs.CoreStates.{is_same_pair}
 use Rattle.facet_words.specs.Commands.{Settings}
-use Rattle.facet_output.specs.Commands.{Command, Order, add, refresh, hold, release, search, document, stats, commit}
-use Rattle.facet_output.specs.Replies.{Reply, placed, numbered, found, shown, stats as numbers, refused}
+use Rattle.facet_words.specs.Sessions.Commands.{Command, Order, add, refresh, hold, release, search, document, stats, commit}
+use Rattle.facet_replies.specs.Replies.{Reply, placed, numbered, found, shown, stats as numbers, refused}
 use Rattle.facet_output.specs.Answered.{Answered, is_of, of_session, comes_after, may_come_after}
 use Rattle.facet_output.specs.OneSession.{after_placing, AreExact, OneSessionIsExact}
 use Rattle.facet_output.specs.Output.{Opened, IsOutput, is_fresh, has_source, is_newest, is_right_pair}
-use Rattle.facet_output.specs.Sessions.{lines_rise}
+use Rattle.facet_words.specs.Sessions.Laws.{lines_rise}
 use Rattle.facet_output.specs.Telling.{placed_by, placed_operation, shows, stood, stood_by, refreshed, refreshed_by, is_number, is_up_to, is_no_newer}
 use Rattle.facet_output.proofs.Among.{In, of_all, in_left, in_right, of_append, of_any}
 use Rattle.facet_output.proofs.Fresh.{stood_shown}

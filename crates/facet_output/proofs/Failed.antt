@@ -3,8 +3,8 @@ use Rattle.std.proofs.Common.{List, [], ◌∷◌, refl, arith, inl, inr}
 use Rattle.std.specs.Prelude.{codes, Some, None}
 use Rattle.facet_model.specs.Documents.{Doc}
 use Rattle.facet_words.specs.Commands.{Settings}
-use Rattle.facet_output.specs.Commands.{Order, add, refresh, stats, commit}
-use Rattle.facet_output.specs.Replies.{placed, numbered, stats as numbers, refused, labels_full, docs_full, disk_failed, closed}
+use Rattle.facet_words.specs.Sessions.Commands.{Order, add, refresh, stats, commit}
+use Rattle.facet_replies.specs.Replies.{placed, numbered, stats as numbers, refused, labels_full, docs_full, disk_failed, closed}
 use Rattle.facet_output.specs.Answered.{Answered, of_session}
 use Rattle.facet_output.specs.Replying.{RightReplies}
 use Rattle.facet_output.specs.Output.{IsOutput}

@@ -8,8 +8,8 @@ use Rattle.std.proofs.lemmas.List.Sums.{sum_by-cons}
 use mathlib.Core.List.{IsPrefix}
 use Rattle.facet_model.specs.Histories.{Operation}
 use Rattle.facet_words.specs.Commands.{Settings}
-use Rattle.facet_output.specs.Commands.{Command, Order, add, refresh, hold, release, search, document, stats, commit}
-use Rattle.facet_output.specs.Replies.{broken, labels_full, docs_full, not_held, held_already, top_zero, dim_value_not_kept, no_such_document, disk_failed, closed, numbers_spent, no_memory, Reply, placed, numbered, found, shown, stats as numbers, refused}
+use Rattle.facet_words.specs.Sessions.Commands.{Command, Order, add, refresh, hold, release, search, document, stats, commit}
+use Rattle.facet_replies.specs.Replies.{broken, labels_full, docs_full, not_held, held_already, top_zero, dim_value_not_kept, no_such_document, disk_failed, closed, numbers_spent, no_memory, Reply, placed, numbered, found, shown, stats as numbers, refused}
 use Rattle.facet_output.specs.Answered.{Answered, comes_after, may_come_after}
 use Rattle.facet_output.specs.Held.{Held}
 use Rattle.facet_output.specs.Output.{Opened, has_failure, is_last_commit}

@@ -4,7 +4,7 @@ use Rattle.std.specs.Prelude.{not, IfSome}
 use Rattle.std.specs.Str.{bytes_eq}
 use Rattle.std.proofs.lemmas.List.{length-map}
 use Rattle.facet_words.specs.Commands.{Settings}
-use Rattle.facet_output.specs.Commands.{Command, add, refresh, hold, release, search, document, stats, commit}
+use Rattle.facet_words.specs.Sessions.Commands.{Command, add, refresh, hold, release, search, document, stats, commit}
 use Rattle.facet_output.specs.Held.{Held, held_under, held_after, after_command, is_numbered}
 use Rattle.facet_output.specs.Replying.{pair_seen}
 use Rattle.facet_output.specs.Seen.{Seen, Sees, labels_of}

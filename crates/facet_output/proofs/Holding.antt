@@ -4,8 +4,8 @@ use Rattle.std.specs.Prelude.{codes, Some, None}
 use Rattle.facet_model.specs.Histories.{Operation}
 use Rattle.facet_model.specs.Queries.{all}
 use Rattle.facet_words.specs.Commands.{Search}
-use Rattle.facet_output.specs.Commands.{Order, add, refresh, hold, release, search}
-use Rattle.facet_output.specs.Replies.{Reply, placed, numbered, found, refused, not_held}
+use Rattle.facet_words.specs.Sessions.Commands.{Order, add, refresh, hold, release, search}
+use Rattle.facet_replies.specs.Replies.{Reply, placed, numbered, found, refused, not_held}
 use Rattle.facet_output.specs.Answered.{Answered, of_session}
 use Rattle.facet_output.specs.Replying.{RightReplies}
 use Rattle.facet_output.specs.Output.{IsOutput}

@@ -14,8 +14,8 @@ use Rattle.facet_model.specs.Documents.{Doc}
 use Rattle.facet_model.specs.Histories.{Operation, docs, knows}
 use Rattle.facet_model.proofs.Fronts.{weaker}
 use Rattle.facet_words.specs.Commands.{Settings}
-use Rattle.facet_output.specs.Commands.{Command, Order, add, refresh, hold, release, search, document, stats, commit}
-use Rattle.facet_output.specs.Replies.{Reply, stats as numbers}
+use Rattle.facet_words.specs.Sessions.Commands.{Command, Order, add, refresh, hold, release, search, document, stats, commit}
+use Rattle.facet_replies.specs.Replies.{Reply, stats as numbers}
 use Rattle.facet_output.specs.Answered.{Answered, of_session}
 use Rattle.facet_output.specs.Held.{Held, held_after}
 use Rattle.facet_output.specs.Output.{Opened}

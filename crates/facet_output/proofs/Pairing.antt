@@ -8,7 +8,7 @@ use mathlib.Core.List.{IsPrefix}
 use Rattle.facet_model.specs.Histories.{never_falls, is_pair}
 use Rattle.facet_model.specs.CoreStates.{is_same_pair}
 use Rattle.facet_words.specs.Commands.{Settings}
-use Rattle.facet_output.specs.Commands.{Order}
+use Rattle.facet_words.specs.Sessions.Commands.{Order}
 use Rattle.facet_output.specs.Answered.{Answered, comes_after, may_come_after}
 use Rattle.facet_output.specs.Output.{Opened, opened_pair, has_source, is_newest, is_right_pair}
 use Rattle.facet_output.specs.Telling.{sees_no_pair, refreshed, is_number, is_up_to, is_no_newer}

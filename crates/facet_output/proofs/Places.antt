@@ -7,7 +7,7 @@ use Rattle.std.proofs.lemmas.Bool.{and_from, le-leb, lt-ltb, eq-eqb}
 use Rattle.facet_model.specs.CoreStates.{is_same_pair}
 use Rattle.facet_words.specs.Commands.{Settings}
 use Rattle.facet_output.specs.Answered.{comes_after}
-use Rattle.facet_output.specs.Commands.{Order}
+use Rattle.facet_words.specs.Sessions.Commands.{Order}
 use Rattle.facet_output.specs.Output.{Opened, is_pair_of, is_no_further, has_labels, is_at, has_place}
 use Rattle.facet_output.specs.Seen.{Seen, labels_of}
 use Rattle.facet_output.specs.Sessions.{AllRan, steps_of}

@@ -9,8 +9,8 @@ use mathlib.Core.List.{IsPrefix}
 use Rattle.facet_model.specs.Documents.{Doc}
 use Rattle.facet_model.specs.Histories.{Operation}
 use Rattle.facet_words.specs.Commands.{Settings}
-use Rattle.facet_output.specs.Commands.{Command, Order, add, refresh, hold, release, search, document, stats, commit}
-use Rattle.facet_output.specs.Replies.{Reply, placed, numbered, found, shown, stats as numbers, refused}
+use Rattle.facet_words.specs.Sessions.Commands.{Command, Order, add, refresh, hold, release, search, document, stats, commit}
+use Rattle.facet_replies.specs.Replies.{Reply, placed, numbered, found, shown, stats as numbers, refused}
 use Rattle.facet_output.specs.Answered.{Answered, of_session, is_of}
 use Rattle.facet_output.specs.Held.{Held, held_after}
 use Rattle.facet_output.specs.Output.{Opened, opened_operations, opened_pair}

@@ -7,9 +7,9 @@ use Rattle.std.proofs.lemmas.Bool.{and_from, eq-eqb, cases_lt}
 use Rattle.std.proofs.lemmas.List.Elements.{filter-append}
 use Rattle.std.proofs.lemmas.List.Sums.{sum_by-cons}
 use Rattle.facet_words.specs.Commands.{Settings}
-use Rattle.facet_output.specs.Commands.{Command, Order, add, refresh, hold, release, search, document, stats, commit}
+use Rattle.facet_words.specs.Sessions.Commands.{Command, Order, add, refresh, hold, release, search, document, stats, commit}
 use Rattle.facet_output.specs.Commits.{CommitsHavePoints, is_durable_at, has_failed_at}
-use Rattle.facet_output.specs.Replies.{broken, labels_full, docs_full, not_held, held_already, top_zero, dim_value_not_kept, no_such_document, disk_failed, closed, numbers_spent, no_memory, Reply, placed, numbered, found, shown, stats as numbers, refused}
+use Rattle.facet_replies.specs.Replies.{broken, labels_full, docs_full, not_held, held_already, top_zero, dim_value_not_kept, no_such_document, disk_failed, closed, numbers_spent, no_memory, Reply, placed, numbered, found, shown, stats as numbers, refused}
 use Rattle.facet_output.specs.Answered.{Answered, is_of}
 use Rattle.facet_output.specs.Held.{Held, held_after}
 use Rattle.facet_output.specs.Output.{Opened}

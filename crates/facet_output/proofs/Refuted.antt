@@ -7,8 +7,8 @@ use Rattle.facet_model.specs.CoreStates.{is_same_pair}
 use Rattle.std.proofs.lemmas.Bool.{and_parts}
 use Rattle.facet_model.specs.Documents.{Doc}
 use Rattle.facet_words.specs.Commands.{Settings}
-use Rattle.facet_output.specs.Commands.{Order, add, refresh, search, commit, stats}
-use Rattle.facet_output.specs.Replies.{Reply, placed, numbered, found, refused, labels_full, closed, disk_failed, stats as numbers, docs_full}
+use Rattle.facet_words.specs.Sessions.Commands.{Order, add, refresh, search, commit, stats}
+use Rattle.facet_replies.specs.Replies.{Reply, placed, numbered, found, refused, labels_full, closed, disk_failed, stats as numbers, docs_full}
 use Rattle.facet_output.specs.Answered.{Answered}
 use Rattle.facet_output.specs.Output.{IsOutput, is_right_pair, has_source, is_newest}
 use Rattle.facet_output.proofs.Samples.{answer_at, author, doc, bob, lisa, empty_store, plain_settings, order, answer, by_one}

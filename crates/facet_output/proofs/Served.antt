@@ -12,20 +12,19 @@ use Rattle.facet_model.specs.Asks.{Asked, AskFault, top_of_none, value_not_kept,
 use Rattle.facet_model.specs.Documents.{Doc}
 use Rattle.facet_model.specs.Flags.{Config}
 use Rattle.facet_model.specs.Histories.{Operation, docs, knows}
-use Rattle.facet_replies.specs.Replies as replies
-use Rattle.facet_replies.specs.ReplyLines.{reply_line as line_of, reply_data}
+use Rattle.facet_replies.specs.ReplyLines.{reply_line}
 use Rattle.facet_words.specs.Answers as words_answers
 use Rattle.facet_words.specs.Answers.{Store, Shelf, with_labels, flushed, hits_of, first_hits}
 use Rattle.facet_words.specs.Commands as words
 use Rattle.facet_words.specs.Commands.{Settings, Search}
 use Rattle.facet_output.specs.Answered.{Answered}
-use Rattle.facet_output.specs.Commands.{Command, Order, add, refresh, search, document, stats, commit}
+use Rattle.facet_words.specs.Sessions.Commands.{Command, Order, add, refresh, search, document, stats, commit}
 use Rattle.facet_output.specs.Held.{Held, held_after}
 use Rattle.facet_output.specs.OneSession.{AddLeaves, Leaves, LeavesFirst, room, is_resolved}
-use Rattle.facet_output.specs.OneShelf.{command_of, order_of, reply_of, IsServed, AreServed, EndsCommit, Served, OneSessionIsServed, RightIsServed}
+use Rattle.facet_output.specs.OneShelf.{command_of, order_of, IsServed, AreServed, EndsCommit, Served, OneSessionIsServed, RightIsServed}
 use Rattle.facet_output.specs.Output.{Opened}
-use Rattle.facet_output.specs.OutputLines.{reply_line, reply_lines}
-use Rattle.facet_output.specs.Replies.{Reply, placed, numbered, stats as numbers, refused, labels_full, docs_full, disk_failed, closed, numbers_spent, no_memory}
+use Rattle.facet_output.specs.OutputLines.{reply_lines}
+use Rattle.facet_replies.specs.Replies.{Refusal, broken, labels_full, docs_full, no_such_document, disk_failed, closed, numbers_spent, no_memory, Reply, placed, numbered, found, shown, stats as numbers, refused}
 use Rattle.facet_output.specs.Replying.{IsAdded, IsResolved, IsOf, IsFound, IsShown, IsRight, IsCommitted, Counts, docs_of, ask_refusal, first_refused, numbers_of, takes_memory}
 use Rattle.facet_output.specs.Seen.{CommitPoint, Entries, Seen, Sees, IsTold, EntersNone, opened_seen, labels_of, history_of, failures}
 use Rattle.facet_output.specs.Sessions.{SessionRan, AllRan, steps_of, own_steps, is_by}
@@ -40,37 +39,10 @@ use Rattle.facet_output.proofs.Fresh.{if_some}
 use Rattle.facet_output.proofs.Fronts.{prefix_trans, prefix_self, get_last}
 use Rattle.facet_output.proofs.Growing.{all_stand}
 
--- ---- lines
-
-lines_agree : (session line : ℕ) (r : replies.Reply) → reply_line session line (reply_of r) ≡ line_of session line r
-unfolding reply_line line_of reply_data
-lines_agree session line (replies.placed at) = refl
-lines_agree session line (replies.numbered n) = refl
-lines_agree session line (replies.found f) = refl
-lines_agree session line (replies.shown s) = refl
-lines_agree session line (replies.stats n) = refl
-lines_agree session line (replies.refused (replies.broken b)) = refl
-lines_agree session line (replies.refused (replies.labels_full size)) = refl
-lines_agree session line (replies.refused (replies.docs_full count)) = refl
-lines_agree session line (replies.refused (replies.top_zero ask)) = refl
-lines_agree session line (replies.refused (replies.dim_value_not_kept ask)) = refl
-lines_agree session line (replies.refused (replies.no_such_document count)) = refl
-lines_agree session line (replies.refused (replies.disk_failed count)) = refl
-lines_agree session line (replies.refused (replies.closed count)) = refl
-lines_agree session line (replies.refused (replies.numbers_spent number)) = refl
-lines_agree session line (replies.refused replies.no_memory) = refl
-
 -- ---- the first refused ask
 
-abbrev named : ℕ × AskFault → replies.Refusal
+abbrev named : ℕ × AskFault → Refusal
 named r = words_answers.ask_refusal r.0 r.1
-
-named_same : (r : ℕ × AskFault) → reply_of (replies.refused (named r)) ≡ refused (ask_refusal r.0 r.1)
-named_same r = by r.1
-  where
-    by : (fault : AskFault) → reply_of (replies.refused (words_answers.ask_refusal r.0 fault)) ≡ refused (ask_refusal r.0 fault)
-    by top_of_none = refl
-    by value_not_kept = refl
 
 first_named : (config : Config) (xs : List (ℕ × Asked)) → slice_get (filter_map (λ e. option_map (words_answers.ask_refusal e.0) (ask_fault config e.1)) xs) 0
     ≡ option_map named (slice_get (filter_map (λ e. option_map (λ fault. (e.0, fault)) (ask_fault config e.1)) xs) 0)
@@ -154,9 +126,9 @@ record Facts (settings : Settings) (before after : Seen) (held : Held) (session 
 
 -- the reply on the shelf, and the next shelf
 record Goes (settings : Settings) (command : words.Command) (reply : Reply) (shelf : Shelf) (after : Seen) : Type 0 where
-  told : replies.Reply
+  told : Reply
   next : Shelf
-  same : reply_of told ≡ reply
+  same : told ≡ reply
   served : IsServed settings shelf command told next
   fits : Fits after next
 
@@ -203,13 +175,13 @@ module _ (settings : Settings) (before after : Seen) (held : Held) (session : �
     abbrev all : List (List (List ℕ))
     all = with_labels (labels_of before) doc
 
-    abbrev IsAnswer : Option Broken → replies.Reply → Shelf → Type 0
-    IsAnswer o told next = ((told ≡ (words_answers.added settings S doc o).0) × (next ≡ (words_answers.added settings S doc o).1)) ⊎ ((told ≡ replies.refused replies.no_memory) × words_answers.LeavesSome settings S doc o next)
+    abbrev IsAnswer : Option Broken → Reply → Shelf → Type 0
+    IsAnswer o told next = ((told ≡ (words_answers.added settings S doc o).0) × (next ≡ (words_answers.added settings S doc o).1)) ⊎ ((told ≡ refused no_memory) × words_answers.LeavesSome settings S doc o next)
 
     record Answers (o : Option Broken) : Type 0 where
-      told : replies.Reply
+      told : Reply
       next : Shelf
-      same : reply_of told ≡ reply
+      same : told ≡ reply
       answer : IsAnswer o told next
       fits : Fits after next
 
@@ -238,10 +210,10 @@ module _ (settings : Settings) (before after : Seen) (held : Held) (session : �
         let test : nat_lt fits_in (length all) ≡ true = lt-ltb fits_in (length all) longer in
         let cut : labels_of after ≡ take fits_in all = first.first ∙ ap (λ n. take n all) full in
         record {
-          told = replies.refused (replies.labels_full (length (labels_of after)));
+          told = refused (labels_full (length (labels_of after)));
           next = shelf_with (labels_of after) D pair segments waiting store;
           same = sym e;
-          answer = inl (rw test (ap (λ n. replies.refused (replies.labels_full n)) full, shelf_same (labels_of after) (take fits_in all) D D pair segments waiting store cut refl));
+          answer = inl (rw test (ap (λ n. refused (labels_full n)) full, shelf_same (labels_of after) (take fits_in all) D D pair segments waiting store cut refl));
           fits = fits_with (labels_of after) D waiting refl (still_documents (enters_none (refused (labels_full (length (labels_of after)))) e refl)) facts.1 facts.0;
         }
 
@@ -265,10 +237,10 @@ module _ (settings : Settings) (before after : Seen) (held : Held) (session : �
         let documents : documents_in after.operations ≡ D ++ doc ∷ [] = ap documents_in grown ∙ one_more before.operations session doc in
         let test = labels.1 in
         record {
-          told = replies.placed at;
+          told = placed at;
           next = shelf_with (labels_of after) (documents_in after.operations) pair segments (waiting + 1) store;
           same = sym e;
-          answer = inl (rw (test, room_left) (ap replies.placed place, shelf_same (labels_of after) all (documents_in after.operations) (D ++ doc ∷ []) pair segments (waiting + 1) store labels.0 documents));
+          answer = inl (rw (test, room_left) (ap placed place, shelf_same (labels_of after) all (documents_in after.operations) (D ++ doc ∷ []) pair segments (waiting + 1) store labels.0 documents));
           fits = fits_with (labels_of after) (documents_in after.operations) (waiting + 1) refl refl facts.1 facts.0;
         }
 
@@ -284,29 +256,29 @@ module _ (settings : Settings) (before after : Seen) (held : Held) (session : �
         let test = labels.1 in
         let none_left : nat_le settings.max_docs (length D) ≡ true = le-leb settings.max_docs (length D) (omega arith) in
         record {
-          told = replies.refused (replies.docs_full n);
+          told = refused (docs_full n);
           next = shelf_with (labels_of after) D pair segments waiting store;
           same = sym e;
-          answer = inl (rw (test, none_left) (ap (λ k. replies.refused (replies.docs_full k)) count, shelf_same (labels_of after) all D D pair segments waiting store labels.0 refl));
+          answer = inl (rw (test, none_left) (ap (λ k. refused (docs_full k)) count, shelf_same (labels_of after) all D D pair segments waiting store labels.0 refl));
           fits = fits_with (labels_of after) D waiting refl (still_documents none) facts.1 facts.0;
         }
 
     lacks_memory : LeavesFirst settings (labels_of before) doc reply (labels_of after) → reply ≡ refused no_memory → Answers None
     lacks_memory first e = record {
-      told = replies.refused replies.no_memory;
+      told = refused no_memory;
       next = shelf_with (labels_of after) D pair segments waiting store;
       same = sym e;
       answer = inr (refl, (length (labels_of after), first.low, first.high, shelf_same (labels_of after) (take (length (labels_of after)) all) D D pair segments waiting store first.first refl));
       fits = fits_with (labels_of after) D waiting refl (still_documents (enters_none (refused no_memory) e refl)) facts.1 facts.0;
     }
 
-    stays_so : (r : replies.Reply) (o : Option Broken) → reply ≡ reply_of r → placed_by session (add doc) (reply_of r) ≡ None → labels_of after ≡ labels_of before → IsAnswer o r S → Answers o
+    stays_so : (r : Reply) (o : Option Broken) → reply ≡ r → placed_by session (add doc) r ≡ None → labels_of after ≡ labels_of before → IsAnswer o r S → Answers o
     stays_so r o e none labels answer = record {
       told = r;
       next = S;
       same = sym e;
       answer = answer;
-      fits = fits_with (labels_of before) D waiting (sym labels) (still_documents (enters_none (reply_of r) e none)) facts.1 facts.0;
+      fits = fits_with (labels_of before) D waiting (sym labels) (still_documents (enters_none r e none)) facts.1 facts.0;
     }
 
     resolved : LeavesFirst settings (labels_of before) doc reply (labels_of after) → (b : Bool) → knows (labels_of after) doc ≡ b → IsResolved settings (labels_of after) (history_of after) session doc b reply → Answers None
@@ -315,8 +287,8 @@ module _ (settings : Settings) (before after : Seen) (held : Held) (session : �
 
     added : (o : Option Broken) → AddLeaves settings (labels_of before) doc o reply (labels_of after) → IsAdded settings (labels_of after) (history_of after) session doc o reply ⊎ (IsTrue true × (reply ≡ refused no_memory)) → Answers o
     added (Some b) leaves right = ⊎_elim
-        (λ r. stays_so (replies.refused (replies.broken b)) (Some b) r refl leaves (inl (refl, refl)))
-        (λ lacks. stays_so (replies.refused replies.no_memory) (Some b) lacks.1 refl leaves (inr (refl, refl))) right
+        (λ r. stays_so (refused (broken b)) (Some b) r refl leaves (inl (refl, refl)))
+        (λ lacks. stays_so (refused no_memory) (Some b) lacks.1 refl leaves (inr (refl, refl))) right
     added None leaves right = ⊎_elim (resolved leaves (knows (labels_of after) doc) refl) (λ lacks. lacks_memory leaves lacks.1) right
 
     add_goes : AddLeaves settings (labels_of before) doc (first_broken settings.config doc) reply (labels_of after)
@@ -349,10 +321,10 @@ module _ (settings : Settings) (before after : Seen) (held : Held) (session : �
           let least = entered.3 in let most = entered.4 in
           let size : entered.1 ≡ length (labels_of before) = omega arith in
           record {
-            told = replies.numbered c.0;
+            told = numbered c.0;
             next = shelf_with (labels_of before) D (length D, length (labels_of before)) (segments + (if nat_lt 0 waiting then 1 else 0)) 0 store;
             same = sym c.2;
-            served = inl (ap replies.numbered count, refl);
+            served = inl (ap numbered count, refl);
             fits = record {
               pair = (length D, length (labels_of before));
               segments = segments + (if nat_lt 0 waiting then 1 else 0);
@@ -366,7 +338,7 @@ module _ (settings : Settings) (before after : Seen) (held : Held) (session : �
 
       lacks : IsTrue true × (reply ≡ refused no_memory) → Goes settings words.refresh reply S after
       lacks l = record {
-        told = replies.refused replies.no_memory;
+        told = refused no_memory;
         next = S;
         same = sym l.1;
         served = inr (refl, refl);
@@ -393,10 +365,10 @@ module _ (settings : Settings) (before after : Seen) (held : Held) (session : �
       found_so : (o : Option (ℕ × AskFault)) → first_refused settings.config s.asks ≡ o → IsFound settings.config s o pair.0 (take pair.0 D) reply → Goes settings (words.search s) reply S after
       found_so (Some r) e is =
           let first : words_answers.first_refused settings.config s.asks ≡ Some (named r) = first_named settings.config (enumerate_from 0 s.asks) ∙ ap (option_map named) e in
-          record { told = replies.refused (named r); next = S; same = named_same r ∙ sym is; served = inl (rw first refl, refl); fits = fits }
+          record { told = refused (named r); next = S; same = sym is; served = inl (rw first refl, refl); fits = fits }
       found_so None e is =
           let first : words_answers.first_refused settings.config s.asks ≡ None = first_named settings.config (enumerate_from 0 s.asks) ∙ ap (option_map named) e in
-          record { told = replies.found (record { operations = pair.0; hit_count = length (hits_of (take pair.0 D) s); hits = first_hits (take pair.0 D) s; answers = is.0 }); next = S; same = sym is.2; served = inl (rw first (is.0, is.1, refl), refl); fits = fits }
+          record { told = found (record { operations = pair.0; hit_count = length (hits_of (take pair.0 D) s); hits = first_hits (take pair.0 D) s; answers = is.0 }); next = S; same = sym is.2; served = inl (rw first (is.0, is.1, refl), refl); fits = fits }
 
       seen : (t : Option (ℕ × ℕ)) → took ≡ t → IsOf (λ pair r. IsFound settings.config s (first_refused settings.config s.asks) pair.0 (docs_of (history_of after) pair) r) t None reply → Goes settings (words.search s) reply S after
       seen None e r = absurd r
@@ -407,7 +379,7 @@ module _ (settings : Settings) (before after : Seen) (held : Held) (session : �
           found_so (first_refused settings.config s.asks) refl (subst (λ (q : ℕ × ℕ). IsFound settings.config s (first_refused settings.config s.asks) q.0 (take pair.0 D) reply) is there)
 
       lacks : IsTrue true × (reply ≡ refused no_memory) → Goes settings (words.search s) reply S after
-      lacks l = record { told = replies.refused replies.no_memory; next = S; same = sym l.1; served = inr (refl, refl); fits = fits }
+      lacks l = record { told = refused no_memory; next = S; same = sym l.1; served = inr (refl, refl); fits = fits }
 
   -- ---- document
 
@@ -418,8 +390,8 @@ module _ (settings : Settings) (before after : Seen) (held : Held) (session : �
       fits = stays f.leaves f.operations f.pairs f.commits
 
       shown_so : (o : Option Doc) → slice_get (take pair.0 D) at ≡ o → IsShown (labels_of before) pair.0 (take pair.0 D) at o reply → Goes settings (words.document at) reply S after
-      shown_so None e is = record { told = replies.refused (replies.no_such_document (length (take pair.0 D))); next = S; same = sym is; served = inl (rw e refl, refl); fits = fits }
-      shown_so (Some doc) e is = record { told = replies.shown (record { operations = pair.0; at = at; doc = doc; ordinals = is.0 }); next = S; same = sym is.2; served = inl (rw e (is.0, is.1, refl), refl); fits = fits }
+      shown_so None e is = record { told = refused (no_such_document (length (take pair.0 D))); next = S; same = sym is; served = inl (rw e refl, refl); fits = fits }
+      shown_so (Some doc) e is = record { told = shown (record { operations = pair.0; at = at; doc = doc; ordinals = is.0 }); next = S; same = sym is.2; served = inl (rw e (is.0, is.1, refl), refl); fits = fits }
 
       seen : (t : Option (ℕ × ℕ)) → took ≡ t → IsOf (λ pair r. IsShown (labels_of after) pair.0 (docs_of (history_of after) pair) at (slice_get (docs_of (history_of after) pair) at) r) t None reply → Goes settings (words.document at) reply S after
       seen None e r = absurd r
@@ -431,7 +403,7 @@ module _ (settings : Settings) (before after : Seen) (held : Held) (session : �
           shown_so (slice_get (take pair.0 D) at) refl (subst (λ l. IsShown l pair.0 (take pair.0 D) at (slice_get (take pair.0 D) at) reply) f.leaves two)
 
       lacks : IsTrue true × (reply ≡ refused no_memory) → Goes settings (words.document at) reply S after
-      lacks l = record { told = replies.refused replies.no_memory; next = S; same = sym l.1; served = inr (refl, refl); fits = fits }
+      lacks l = record { told = refused no_memory; next = S; same = sym l.1; served = inr (refl, refl); fits = fits }
 
   -- ---- stats
 
@@ -461,7 +433,7 @@ module _ (settings : Settings) (before after : Seen) (held : Held) (session : �
   abbrev flushed_with : Store → Shelf
   flushed_with now = shelf_with (labels_of before) D pair more 0 now
 
-  ends_so : (o : Option ℕ) (told : replies.Reply) (next : Shelf) → store.closed ≡ o → EndsCommit (flushed_with store) o told next → EndsCommit (flushed_with store) store.closed told next
+  ends_so : (o : Option ℕ) (told : Reply) (next : Shelf) → store.closed ≡ o → EndsCommit (flushed_with store) o told next → EndsCommit (flushed_with store) store.closed told next
   ends_so o told next e ends = subst (λ (o : Option ℕ). EndsCommit (flushed_with store) o told next) (sym e) ends
 
   commit_goes : (took : Option (ℕ × ℕ)) (reply : Reply) → Facts settings before after held session commit took reply → Goes settings words.commit reply S after
@@ -499,10 +471,10 @@ module _ (settings : Settings) (before after : Seen) (held : Held) (session : �
           let p = pointed None (enters (numbered c.0) c.2).0 in
           let unclosed = p.0 in
           record {
-            told = replies.numbered c.0;
+            told = numbered c.0;
             next = flushed_with store;
             same = sym c.2;
-            served = inl (ends_so None (replies.numbered c.0) (flushed_with store) unclosed (store, refl, inl (unclosed, inl (ap replies.numbered (counted c.0 f.operations c.1 low)))));
+            served = inl (ends_so None (numbered c.0) (flushed_with store) unclosed (store, refl, inl (unclosed, inl (ap numbered (counted c.0 f.operations c.1 low)))));
             fits = fits_so store (p.1 ∙ ap option_to_list (sym unclosed));
           }
 
@@ -511,25 +483,25 @@ module _ (settings : Settings) (before after : Seen) (held : Held) (session : �
           let p = pointed (Some c.0) (enters (refused (disk_failed c.0)) c.1) in
           let unclosed = p.0 in
           let now : Store = record store { closed = Some c.0 } in
-          record { told = replies.refused (replies.disk_failed c.0); next = flushed_with now; same = sym c.1; served = inl (ends_so None (replies.refused (replies.disk_failed c.0)) (flushed_with now) unclosed (now, refl, inr (c.0, refl, refl))); fits = fits_so now p.1 }
+          record { told = refused (disk_failed c.0); next = flushed_with now; same = sym c.1; served = inl (ends_so None (refused (disk_failed c.0)) (flushed_with now) unclosed (now, refl, inr (c.0, refl, refl))); fits = fits_so now p.1 }
 
       told_so : (c : (count : ℕ) × (reply ≡ refused (closed count))) → Goes settings words.commit reply S after
       told_so c =
           let p = enters (refused (closed c.0)) c.1 in
           let shut = of_one store.closed c.0 (sym closed_so ∙ ap failures (no_commit p.0) ∙ p.1) in
-          record { told = replies.refused (replies.closed c.0); next = flushed_with store; same = sym c.1; served = inl (ends_so (Some c.0) (replies.refused (replies.closed c.0)) (flushed_with store) shut (refl, refl)); fits = fits_so store (p.1 ∙ ap option_to_list (sym shut)) }
+          record { told = refused (closed c.0); next = flushed_with store; same = sym c.1; served = inl (ends_so (Some c.0) (refused (closed c.0)) (flushed_with store) shut (refl, refl)); fits = fits_so store (p.1 ∙ ap option_to_list (sym shut)) }
 
       spent_so : (c : (number : ℕ) × (2 ^ 63 ≤ number) × (reply ≡ refused (numbers_spent number))) → Goes settings words.commit reply S after
       spent_so c =
           let p = enters (refused (numbers_spent c.0)) c.2 in
           let unclosed = of_none store.closed (sym closed_so ∙ ap failures (no_commit p.0) ∙ p.1) in
-          record { told = replies.refused (replies.numbers_spent c.0); next = flushed_with store; same = sym c.2; served = inl (ends_so None (replies.refused (replies.numbers_spent c.0)) (flushed_with store) unclosed (store, refl, inl (unclosed, inr (c.0, c.1, refl)))); fits = fits_so store (p.1 ∙ ap option_to_list (sym unclosed)) }
+          record { told = refused (numbers_spent c.0); next = flushed_with store; same = sym c.2; served = inl (ends_so None (refused (numbers_spent c.0)) (flushed_with store) unclosed (store, refl, inl (unclosed, inr (c.0, c.1, refl)))); fits = fits_so store (p.1 ∙ ap option_to_list (sym unclosed)) }
 
       answered_so : IsCommitted (history_of after) reply → Goes settings words.commit reply S after
       answered_so c = ⊎_elim durable_so (λ c. ⊎_elim failed_so (λ c. ⊎_elim told_so spent_so c) c) c
 
       lacks : IsTrue true × (reply ≡ refused no_memory) → Goes settings words.commit reply S after
-      lacks l = record { told = replies.refused replies.no_memory; next = S; same = sym l.1; served = inr (refl, inl refl); fits = stays f.leaves f.operations f.pairs (enters (refused no_memory) l.1) }
+      lacks l = record { told = refused no_memory; next = S; same = sym l.1; served = inr (refl, inl refl); fits = stays f.leaves f.operations f.pairs (enters (refused no_memory) l.1) }
 
   -- ---- each command
 
@@ -600,7 +572,7 @@ module _ (settings : Settings) (phases : List (List Order)) (opened : Opened) (r
 
   -- the replies from a shelf on
   record Rest (orders : List words.Order) (answered : List Answered) (shelf : Shelf) : Type 0 where
-    replies_to : List replies.Reply
+    replies_to : List Reply
     end : Shelf
     right : AreServed settings shelf orders replies_to end
     labels : end.labels ≡ labels_of last
@@ -631,8 +603,8 @@ module _ (settings : Settings) (phases : List (List Order)) (opened : Opened) (r
         lines = λ i. (line_so x o order first.told first.same i) ++ rest.lines i;
       }
     where
-      line_so : (x : Step) (o : words.Order) → x.answered.order ≡ order_of o → (told : replies.Reply) → reply_of told ≡ x.answered.reply → reply_line x.answered.order.session x.answered.order.line x.answered.reply ≡ line_of o.session o.line told
-      line_so x o order told same = (λ i. reply_line (order i).session (order i).line (sym same i)) ∙ lines_agree o.session o.line told
+      line_so : (x : Step) (o : words.Order) → x.answered.order ≡ order_of o → (told : Reply) → told ≡ x.answered.reply → reply_line x.answered.order.session x.answered.order.line x.answered.reply ≡ reply_line o.session o.line told
+      line_so x o order told same = λ i. reply_line (order i).session (order i).line (sym same i)
 
   opened_documents : (ds : List Doc) → documents_in (map (λ doc. (0, doc)) ds) ≡ ds
   opened_documents [] = refl
@@ -659,7 +631,7 @@ one_session_is_served settings phases opened ran last session store orders all o
 
 -- ---- a right reply is so much
 
-ends_commit : (shelf : Shelf) (o : Option ℕ) → shelf.store.closed ≡ o → (reply : replies.Reply) (next : Shelf) → words_answers.IsCommitted shelf o reply next → EndsCommit shelf o reply next
+ends_commit : (shelf : Shelf) (o : Option ℕ) → shelf.store.closed ≡ o → (reply : Reply) (next : Shelf) → words_answers.IsCommitted shelf o reply next → EndsCommit shelf o reply next
 ends_commit shelf (Some count) e reply next is = is
 ends_commit shelf None e reply next is = ⊎_elim
     (λ d. (words_answers.committed_store shelf, d.3, inl (refl, inl d.2)))

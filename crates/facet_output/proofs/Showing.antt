@@ -6,8 +6,8 @@ use Rattle.facet_model.specs.Asks.{AskFault, top_of_none, value_not_kept}
 use Rattle.facet_model.specs.Documents.{Doc}
 use Rattle.facet_model.specs.Histories.{Operation, knows}
 use Rattle.facet_words.specs.Commands.{Settings, Search}
-use Rattle.facet_output.specs.Commands.{Command, add, refresh, hold, release, search, document, stats, commit}
-use Rattle.facet_output.specs.Replies.{Reply, refused}
+use Rattle.facet_words.specs.Sessions.Commands.{Command, add, refresh, hold, release, search, document, stats, commit}
+use Rattle.facet_replies.specs.Replies.{Reply, refused}
 use Rattle.facet_output.specs.Held.{Held, held_under}
 use Rattle.facet_output.specs.Replying.{IsAdded, IsResolved, IsOf, IsFound, IsShown, IsHold, IsRelease, IsRight, IsCommitted, Counts, pair_seen, docs_of, first_refused, ask_refusal, numbers_of}
 use Rattle.facet_output.specs.Telling.{shows}

@@ -1,7 +1,7 @@
 -- The bytes of sessions that ran are the output, with the trace that there is at the end.
 use Rattle.std.proofs.Common.{List, take, inl, inr, refl}
 use Rattle.facet_output.proofs.Assembled.{sessions_give_output}
-use Rattle.facet_output.specs.Commands.{Order}
+use Rattle.facet_words.specs.Sessions.Commands.{Order}
 use Rattle.facet_output.specs.Output.{Opened}
 use Rattle.facet_output.specs.Outputs.{FirstPhasesGivePart, SessionsGiveBytes, SessionsGivePart, Traced, sessions_in}
 use Rattle.facet_output.specs.Seen.{Seen, history_of, labels_of}

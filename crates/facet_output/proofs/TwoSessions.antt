@@ -3,8 +3,8 @@ use Rattle.std.proofs.Common.{◌≡◌, ℕ, List, [], ◌∷◌, Bool, true, f
 use Rattle.std.specs.Prelude.{◌==◌, if◌then◌else◌, codes, Option, Some, None, IsTrue}
 use Rattle.std.proofs.lemmas.Bool.{eqb-true}
 use Rattle.facet_model.specs.Histories.{Operation}
-use Rattle.facet_output.specs.Commands.{Order, Command, add, refresh, search, stats, commit}
-use Rattle.facet_output.specs.Replies.{Reply, placed, numbered, found, refused, labels_full, stats as numbers, closed, disk_failed}
+use Rattle.facet_words.specs.Sessions.Commands.{Order, Command, add, refresh, search, stats, commit}
+use Rattle.facet_replies.specs.Replies.{Reply, placed, numbered, found, refused, labels_full, stats as numbers, closed, disk_failed}
 use Rattle.facet_output.specs.Answered.{Answered, of_session}
 use Rattle.facet_output.specs.Replying.{RightReplies}
 use Rattle.facet_output.specs.Output.{IsOutput, is_right_pair, is_at}

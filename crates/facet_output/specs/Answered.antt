@@ -2,8 +2,8 @@
 use Rattle.std.specs.Prelude.{◌==◌, ◌&&◌, ◌||◌, ℕ, nat_lt, not, Bool, true, List, map, filter, flat_map, Option}
 use Rattle.std.specs.List.{enumerate_from, range_with_len, list_all}
 use Rattle.std.specs.Option.{option_map_or}
-use Rattle.facet_output.specs.Commands.{Order}
-use Rattle.facet_output.specs.Replies.{Reply}
+use Rattle.facet_words.specs.Sessions.Commands.{Order}
+use Rattle.facet_replies.specs.Replies.{Reply}
 
 -- An order of a phase with its reply. Where it took the pair that was published last, these are the pair's numbers of operations and labels. Where it took or
 -- published a pair, this is the pair's place among those that were published.

@@ -2,7 +2,7 @@
 use Rattle.std.specs.Prelude.{◌≤◌, ◌+◌, ◌==◌, ◌&&◌, ℕ, Bool, List, length, count_by, IsTrue, is_none}
 use Rattle.std.specs.List.{list_any}
 use Rattle.facet_words.specs.Commands.{Settings}
-use Rattle.facet_output.specs.Commands.{Order}
+use Rattle.facet_words.specs.Sessions.Commands.{Order}
 use Rattle.facet_output.specs.Answered.{Answered, each_with}
 use Rattle.facet_output.specs.Output.{Opened}
 use Rattle.facet_output.specs.Seen.{Entries, Seen, CommitPoint, failures}

@@ -6,13 +6,14 @@ use Rattle.facet_model.specs.Documents.{Doc}
 use Rattle.facet_model.specs.Histories.{Operation}
 use Rattle.facet_words.specs.Answers.{with_labels}
 use Rattle.facet_words.specs.Commands.{Settings}
-use Rattle.facet_output.specs.Commands.{Command, add, Order}
-use Rattle.facet_output.specs.Replies.{Reply, placed, refused, docs_full}
+use Rattle.facet_words.specs.Sessions.Commands.{Command, add, Order}
+use Rattle.facet_replies.specs.Replies.{Reply, placed, refused, docs_full}
 use Rattle.facet_output.specs.Seen.{Seen, labels_of}
 use Rattle.facet_output.specs.Steps.{Step}
 use Rattle.facet_output.specs.Answered.{Answered, is_of}
 use Rattle.facet_output.specs.Output.{Opened, Published, IsOutput}
-use Rattle.facet_output.specs.Sessions.{AllRan, lines_rise, steps_of, is_by, answers_of}
+use Rattle.facet_output.specs.Sessions.{AllRan, steps_of, is_by, answers_of}
+use Rattle.facet_words.specs.Sessions.Laws.{lines_rise}
 use Rattle.facet_output.specs.Telling.{placed_operation, stood, refreshed, says_full}
 
 -- one operation more, where one was placed

@@ -3,21 +3,20 @@
 use Rattle.std.specs.Prelude.{◌≡◌, ◌≤◌, ◌⊎◌, ◌^◌, ℕ, List, [], ◌∷◌, length, map, IsTrue, Option, Some, None}
 use Rattle.std.specs.List.{list_all}
 use Rattle.facet_model.specs.Histories.{docs}
-use Rattle.facet_replies.specs.Replies as replies
 use Rattle.facet_words.specs.Answers.{Store, Shelf, opened_shelf, flushed, IsLeft, IsCommitted, reply_lines as lines_of}
 use Rattle.facet_words.specs.Answers.{RightReply as RightOnShelf}
 use Rattle.facet_words.specs.Commands as words
 use Rattle.facet_words.specs.Commands.{Settings}
 use Rattle.facet_output.specs.Answered.{Answered}
-use Rattle.facet_output.specs.Commands.{Command, add, refresh, search, document, stats, commit, Order}
+use Rattle.facet_words.specs.Sessions.Commands.{Command, add, refresh, search, document, stats, commit, Order}
 use Rattle.facet_output.specs.Output.{Opened}
 use Rattle.facet_output.specs.OutputLines.{reply_lines}
-use Rattle.facet_output.specs.Replies.{Refusal, broken, labels_full, docs_full, top_zero, dim_value_not_kept, no_such_document, disk_failed, closed, numbers_spent, no_memory, Reply, placed, numbered, found, shown, stats as numbers, refused}
+use Rattle.facet_replies.specs.Replies.{Reply, numbered, refused, disk_failed, numbers_spent, no_memory}
 use Rattle.facet_output.specs.Seen.{Seen, labels_of, history_of}
 use Rattle.facet_output.specs.Sessions.{AllRan, steps_of, is_by, answers_of}
 use Rattle.facet_output.specs.Steps.{Step}
 
--- ---- the same commands and replies
+-- ---- the same commands
 
 -- a command that sees the pair that was published last
 abbrev pub command_of : words.Command → Command
@@ -31,48 +30,28 @@ command_of words.commit = commit
 abbrev pub order_of : words.Order → Order
 order_of o = record { session = o.session; line = o.line; command = command_of o.command }
 
-abbrev pub refusal_of : replies.Refusal → Refusal
-refusal_of (replies.broken b) = broken b
-refusal_of (replies.labels_full size) = labels_full size
-refusal_of (replies.docs_full count) = docs_full count
-refusal_of (replies.top_zero ask) = top_zero ask
-refusal_of (replies.dim_value_not_kept ask) = dim_value_not_kept ask
-refusal_of (replies.no_such_document count) = no_such_document count
-refusal_of (replies.disk_failed count) = disk_failed count
-refusal_of (replies.closed count) = closed count
-refusal_of (replies.numbers_spent number) = numbers_spent number
-refusal_of replies.no_memory = no_memory
-
-abbrev pub reply_of : replies.Reply → Reply
-reply_of (replies.placed at) = placed at
-reply_of (replies.numbered n) = numbered n
-reply_of (replies.found f) = found f
-reply_of (replies.shown s) = shown s
-reply_of (replies.stats n) = numbers n
-reply_of (replies.refused r) = refused (refusal_of r)
-
 -- ---- what is left of a commit without the numbers of its files
 
 -- all documents are durable, or the last file number would be 2^63 or more; and no commit has failed
-abbrev pub IsOpenAfter : Shelf → Store → replies.Reply → Type 0
-IsOpenAfter shelf store reply = (store.closed ≡ None) × ((reply ≡ replies.numbered (length shelf.docs)) ⊎ ((number : ℕ) × (2 ^ 63 ≤ number) × (reply ≡ replies.refused (replies.numbers_spent number))))
+abbrev pub IsOpenAfter : Shelf → Store → Reply → Type 0
+IsOpenAfter shelf store reply = (store.closed ≡ None) × ((reply ≡ numbered (length shelf.docs)) ⊎ ((number : ℕ) × (2 ^ 63 ≤ number) × (reply ≡ refused (numbers_spent number))))
 
 -- the disk failed at this count, by which the store is closed
-abbrev pub IsClosedAfter : Store → replies.Reply → Type 0
-IsClosedAfter store reply = (count : ℕ) × (store.closed ≡ Some count) × (reply ≡ replies.refused (replies.disk_failed count))
+abbrev pub IsClosedAfter : Store → Reply → Type 0
+IsClosedAfter store reply = (count : ℕ) × (store.closed ≡ Some count) × (reply ≡ refused (disk_failed count))
 
 -- The reply to a commit and what it leaves, given the count at which an earlier one failed.
-abbrev pub EndsCommit : Shelf → Option ℕ → replies.Reply → Shelf → Type 0
+abbrev pub EndsCommit : Shelf → Option ℕ → Reply → Shelf → Type 0
 EndsCommit shelf (Some count) reply next = IsCommitted shelf (Some count) reply next
 EndsCommit shelf None reply next = (store : Store) × (next ≡ record shelf { store = store }) × (IsOpenAfter shelf store reply ⊎ IsClosedAfter store reply)
 
 -- the reply to a command is right on the shelf, and leaves the next shelf; of a commit this much
-abbrev pub IsServed : Settings → Shelf → words.Command → replies.Reply → Shelf → Type 0
-IsServed settings shelf words.commit reply next = EndsCommit (flushed shelf) shelf.store.closed reply next ⊎ ((reply ≡ replies.refused replies.no_memory) × IsLeft settings shelf words.commit next)
+abbrev pub IsServed : Settings → Shelf → words.Command → Reply → Shelf → Type 0
+IsServed settings shelf words.commit reply next = EndsCommit (flushed shelf) shelf.store.closed reply next ⊎ ((reply ≡ refused no_memory) × IsLeft settings shelf words.commit next)
 IsServed settings shelf command reply next = RightOnShelf settings shelf command reply next
 
 -- one reply for each order, each right where the ones before have left the shelf; what the last one leaves
-abbrev pub AreServed : Settings → Shelf → List words.Order → List replies.Reply → Shelf → Type 0
+abbrev pub AreServed : Settings → Shelf → List words.Order → List Reply → Shelf → Type 0
 AreServed settings shelf [] [] last = last ≡ shelf
 AreServed settings shelf [] (r ∷ rs) last = ⊥
 AreServed settings shelf (o ∷ os) [] last = ⊥
@@ -82,7 +61,7 @@ AreServed settings shelf (o ∷ os) (r ∷ rs) last = (next : Shelf) × IsServed
 
 -- The orders were answered so, from what was opened, over a store that no commit has closed; the shelf at the end is what there is, and the lines are these.
 pub record Served (settings : Settings) (opened : Opened) (store : Store) (orders : List words.Order) (answered : List Answered) (last : Seen) : Type 0 where
-  pub replies : List replies.Reply
+  pub replies : List Reply
   pub shelf : Shelf
   pub right : AreServed settings (opened_shelf opened.labels opened.docs store) orders replies shelf
   pub labels : shelf.labels ≡ labels_of last
@@ -97,4 +76,4 @@ OneSessionIsServed = (settings : Settings) (phases : List (List Order)) (opened 
 
 -- and each reply that is right on a shelf is so much
 abbrev pub RightIsServed : Type 0
-RightIsServed = (settings : Settings) (shelf : Shelf) (command : words.Command) (reply : replies.Reply) (next : Shelf) → RightOnShelf settings shelf command reply next → IsServed settings shelf command reply next
+RightIsServed = (settings : Settings) (shelf : Shelf) (command : words.Command) (reply : Reply) (next : Shelf) → RightOnShelf settings shelf command reply next → IsServed settings shelf command reply next

@@ -8,7 +8,7 @@ use Rattle.facet_model.specs.Documents.{Doc}
 use Rattle.facet_model.specs.Histories.{Operation, are_publications}
 use Rattle.facet_model.specs.CoreStates.{is_same_pair}
 use Rattle.facet_words.specs.Commands.{Settings}
-use Rattle.facet_output.specs.Commands.{Order}
+use Rattle.facet_words.specs.Sessions.Commands.{Order}
 use Rattle.facet_output.specs.Answered.{Answered, of_session, each_with, comes_after, may_come_after, in_writing_order}
 use Rattle.facet_output.specs.Replying.{RightReplies}
 use Rattle.facet_output.specs.Telling.{sees_no_pair, brings, paths_of, skips_none, labels_among, is_refused_for_labels, placed_operation, shows, stood, refreshed, is_number, is_up_to, is_no_newer, failed, closed_at, tells_of_failure}

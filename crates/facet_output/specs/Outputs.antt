@@ -2,7 +2,7 @@
 use Rattle.std.specs.Prelude.{◌≡◌, ◌⊎◌, ℕ, List, map, take}
 use Rattle.facet_model.specs.Histories.{Operation}
 use Rattle.facet_output.specs.Answered.{Answered}
-use Rattle.facet_output.specs.Commands.{Order}
+use Rattle.facet_words.specs.Sessions.Commands.{Order}
 use Rattle.facet_output.specs.Output.{IsOutput, Opened, Published}
 use Rattle.facet_output.specs.OutputLines.{output_bytes, reply_lines}
 use Rattle.facet_output.specs.Seen.{Seen, history_of, labels_of}

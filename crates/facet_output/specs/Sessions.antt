@@ -1,10 +1,11 @@
 -- What the sessions of a run hand over, and the law that their output is right.
-use Rattle.std.specs.Prelude.{◌≡◌, ◌+◌, ℕ, List, [], ◌∷◌, take, map, filter, flat_map, fold, length, All, Bool, true, ◌&&◌, nat_lt, IsTrue}
+use Rattle.std.specs.Prelude.{◌≡◌, ◌+◌, ℕ, List, [], ◌∷◌, take, map, filter, flat_map, fold, length, All, Bool, IsTrue}
 use Rattle.std.specs.List.{list_all}
 use Rattle.facet_names.specs.Labels.{IsLabelList}
 use Rattle.facet_model.specs.Histories.{are_publications}
 use Rattle.facet_words.specs.Commands.{Settings}
-use Rattle.facet_output.specs.Commands.{Order}
+use Rattle.facet_words.specs.Sessions.Commands.{Order}
+use Rattle.facet_words.specs.Sessions.Laws.{lines_rise}
 use Rattle.facet_output.specs.Answered.{Answered, is_of, by_session, in_writing_order}
 use Rattle.facet_output.specs.Held.{Held, held_after}
 use Rattle.facet_output.specs.Output.{Opened, IsOutput}
@@ -37,12 +38,6 @@ abbrev pub PhasesRan : ℕ → Seen → List (List Step) → Seen → Type 0
 PhasesRan phase known [] last = Sees known last
 PhasesRan phase known (steps ∷ later) last = (next : Seen) × Sees known next
     × All (λ (x : Step). (x.answered.phase ≡ phase) × Sees known x.before × Sees x.after next) steps × PhasesRan (phase + 1) next later last
-
--- each order stands in a later line than the one before it
-abbrev pub lines_rise : List Order → Bool
-lines_rise [] = true
-lines_rise (o ∷ []) = true
-lines_rise (o ∷ p ∷ orders) = nat_lt o.line p.line && lines_rise (p ∷ orders)
 
 -- what a session holds after these steps
 abbrev pub held_by : Held → List Step → Held

@@ -3,8 +3,8 @@ use Rattle.std.specs.Prelude.{◌≡◌, ◌≤◌, ◌<◌, ◌+◌, ◌++◌, 
 use Rattle.facet_model.specs.Documents.{Doc}
 use Rattle.facet_model.specs.Histories.{Operation}
 use Rattle.facet_words.specs.Commands.{Settings}
-use Rattle.facet_output.specs.Commands.{Command, commit}
-use Rattle.facet_output.specs.Replies.{Reply, numbered, refused, disk_failed, closed, numbers_spent}
+use Rattle.facet_words.specs.Sessions.Commands.{Command, commit}
+use Rattle.facet_replies.specs.Replies.{Reply, numbered, refused, disk_failed, closed, numbers_spent}
 use Rattle.facet_output.specs.Answered.{Answered}
 use Rattle.facet_output.specs.Held.{Held}
 use Rattle.facet_output.specs.Replying.{RightReply}

@@ -9,8 +9,8 @@ use Rattle.facet_model.specs.Documents.{Doc}
 use Rattle.facet_model.specs.Flags.{Config}
 use Rattle.facet_model.specs.Histories.{Operation, knows}
 use Rattle.facet_output.specs.Answered.{Answered}
-use Rattle.facet_output.specs.Commands.{Command, add, refresh, stats, commit}
-use Rattle.facet_output.specs.Replies.{Refusal, labels_full, docs_full, disk_failed, closed, no_memory, Reply, placed, numbered, found, shown, stats as numbers, refused}
+use Rattle.facet_words.specs.Sessions.Commands.{Command, add, refresh, stats, commit}
+use Rattle.facet_replies.specs.Replies.{Refusal, labels_full, docs_full, disk_failed, closed, no_memory, Reply, placed, numbered, found, shown, stats as numbers, refused}
 
 -- ---- labels
 
