@@ -56,7 +56,7 @@ none_between {A} n old before new ps begins seen own mine_is =
     let none : rest ≡ [] = nil_from_length rest (omega (arith, size, ap length parts ∙ length-append (entered_by n old) rest)) in
     (begins, parts ∙ ap (λ (l : Entries A). entered_by n old ++ l) none ∙ append-nil (entered_by n old))
 
-one_own : {A : Type 0} (n : ℕ) (x : A) → entered_by n ((n, x) ∷ []) ≡ (n, x) ∷ []
+pub one_own : {A : Type 0} (n : ℕ) (x : A) → entered_by n ((n, x) ∷ []) ≡ (n, x) ∷ []
 one_own n x = let e : eqb n n ≡ true = eq-eqb n n refl in rw e refl
 
 module _ (labels n : ℕ) (old new : Shown Point) (is : old.is_note ≡ false) (at : old.number ≡ n) (same : SameToken old new) where

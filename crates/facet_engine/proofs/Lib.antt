@@ -8,4 +8,7 @@ pub mod PairReplies
 pub mod Found
 pub mod Searched
 pub mod Stored
+pub mod Entered
+pub mod Appended
+pub mod Added
 pub mod Carried

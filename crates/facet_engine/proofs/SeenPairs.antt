@@ -6,16 +6,17 @@ use Rattle.std.proofs.lemmas.List.{take-append-drop, take_at}
 use Rattle.std.proofs.lemmas.List.Elements.{All-weaker, All-filter, All-push}
 use mathlib.Core.List.{IsPrefix}
 use Rattle.chronicle.specs.Frame.{Frame}
-use Rattle.chronicle.specs.Shown.{Shown, SameToken, SeesOn}
+use Rattle.chronicle.specs.Shown.{Shown, mine, SameToken, SeesOn}
 use Rattle.chronicle.proofs.Prefixes.{prefix_self, prefix_trans}
 use Rattle.facet_model.specs.ConfigTexts.{config_texts}
 use Rattle.facet_model.specs.Flags.{Config}
+use Rattle.facet_model.specs.Histories.{Operation}
 use Rattle.facet_model.proofs.ConfigTexts.{config_told}
 use Rattle.pair_manager.specs.declared.pass.Pass.{Pass}
 use Rattle.pair_manager.specs.Passes.{SamePass}
 use Rattle.pair_manager.specs.Published.{Published, frame_of}
 use Rattle.facet_engine.specs.HeldPairs.{HeldPair, without}
-use Rattle.facet_engine.specs.Sessions.{AreFirst, HasSeen}
+use Rattle.facet_engine.specs.Sessions.{AreFirst, HasSeen, NamesSession}
 
 -- the first of a list begin it
 pub begins : {A : Type 0} (some all : List A) → AreFirst some all → IsPrefix some all
@@ -34,6 +35,10 @@ still_seen old new pair same operations labels seen = record {
 
 pub all_still_seen : (old new : Pass) (held : List HeldPair) → SamePass old new → IsPrefix old.operations.seen new.operations.seen → IsPrefix old.labels.seen new.labels.seen → All (λ h. HasSeen old h.pair) held → All (λ h. HasSeen new h.pair) held
 all_still_seen old new held same operations labels all = All-weaker (λ (h : HeldPair). HasSeen old h.pair) (λ h. HasSeen new h.pair) (λ h seen. still_seen old new h.pair same operations labels seen) held all
+
+-- its own operations are those that it had
+pub still_named : (number : ℕ) (old new : Pass) → mine new.operations ≡ mine old.operations → NamesSession number old → NamesSession number new
+still_named number old new is all = subst (All (λ (e : ℕ × Operation). e.1.session ≡ number)) (sym is) all
 
 -- it has seen a pair that it was told of
 pub acquired : (old new : Pass) (pair : Published) → SamePass old new → IsPrefix pair.history.seen new.operations.seen → IsPrefix pair.labels.seen new.labels.seen → frame_of pair ≡ old.pairs.frame → HasSeen new pair

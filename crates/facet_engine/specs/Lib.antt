@@ -2,6 +2,7 @@ pub mod HeldPairs
 pub mod Leases
 pub mod Sessions
 pub mod Systems
+pub mod Adding
 pub mod Steps
 pub mod Calls
 pub mod Names

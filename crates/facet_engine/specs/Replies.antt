@@ -2,11 +2,14 @@
 use Rattle.std.specs.Prelude.{ℕ, map, Result, Ok, Err}
 use Rattle.commit_store.specs.declared.fault.CommitFault.{CommitFault}
 use Rattle.commit_store.specs.declared.fault.CommitFault.TheVariants as commits
+use Rattle.facet_config.specs.Faults.{fault_view}
 use Rattle.facet_model.specs.ResultViews.{answer_view}
 use Rattle.facet_replies.specs.ReplyViews.{hit_view}
 use Rattle.facet_replies.specs.Replies.{Found}
-use Rattle.facet_output.specs.Replies.{Reply, numbered, found, shown, stats, refused, not_held, held_already, top_zero, dim_value_not_kept, no_such_document, disk_failed, closed, numbers_spent, no_memory}
+use Rattle.facet_output.specs.Replies.{Reply, placed, numbered, found, shown, stats, refused, broken, labels_full, docs_full, not_held, held_already, top_zero, dim_value_not_kept, no_such_document, disk_failed, closed, numbers_spent, no_memory}
 use Rattle.pair_manager.specs.declared.manager.Stats.{Stats}
+use Rattle.facet_engine.specs.declared.adding.AddFault.{AddFault}
+use Rattle.facet_engine.specs.declared.adding.AddFault.TheVariants as adds
 use Rattle.facet_engine.specs.declared.holding.HoldFault.{HoldFault}
 use Rattle.facet_engine.specs.declared.holding.HoldFault.TheVariants as holds
 use Rattle.facet_engine.specs.declared.searching.SearchAnswer.{SearchAnswer}
@@ -15,6 +18,13 @@ use Rattle.facet_engine.specs.declared.searching.SearchFault.TheVariants as sear
 use Rattle.facet_engine.specs.declared.showing.DocumentFault.{DocumentFault}
 use Rattle.facet_engine.specs.declared.showing.DocumentFault.TheVariants as documents
 use Rattle.facet_engine.specs.declared.showing.Shown.{Shown}
+
+abbrev pub add_reply : Result ℕ AddFault → Reply
+add_reply (Ok at) = placed at
+add_reply (Err (adds.Broken fault)) = refused (broken (fault_view fault))
+add_reply (Err (adds.LabelsFull size)) = refused (labels_full size)
+add_reply (Err (adds.DocsFull count)) = refused (docs_full count)
+add_reply (Err adds.NoMemory) = refused no_memory
 
 -- the only fault is want of memory
 abbrev pub refresh_reply : {E : Type 0} → Result ℕ E → Reply

@@ -1,5 +1,6 @@
 -- What a session's tokens are, and what they have seen of its pairs.
-use Rattle.std.specs.Prelude.{◌≡◌, ℕ, List, length, take}
+use Rattle.std.specs.Prelude.{◌≡◌, ℕ, List, All, length, take}
+use Rattle.chronicle.specs.Shown.{mine}
 use Rattle.facet_model.specs.ConfigTexts.{config_texts}
 use Rattle.pair_manager.specs.declared.pass.Pass.{Pass}
 use Rattle.pair_manager.specs.Published.{Published}
@@ -7,6 +8,10 @@ use Rattle.pair_manager.specs.Published.{Published}
 -- each token has the session's number
 abbrev pub HaveOneNumber : ℕ → Pass → Type 0
 HaveOneNumber number pass = (pass.labels.number ≡ number) × (pass.operations.number ≡ number) × (pass.pairs.number ≡ number) × (pass.commits.number ≡ number)
+
+-- each operation that its token has entered has the session's number
+abbrev pub NamesSession : ℕ → Pass → Type 0
+NamesSession number pass = All (λ e. e.1.session ≡ number) (mine pass.operations)
 
 -- these are the first of those
 abbrev pub AreFirst : {A : Type 0} → List A → List A → Type 0

@@ -2,7 +2,8 @@
 use Rattle.std.specs.Prelude.{◌-◌, ℕ, List, length, map, slice_get, Option, Some, None, option_map, Result, Ok, Err}
 use Rattle.chronicle.specs.History.{entries}
 use Rattle.commit_store.specs.declared.fault.CommitFault.{CommitFault}
-use Rattle.facet_output.specs.Commands.{Command, refresh, hold, release, search, document, stats, commit}
+use Rattle.facet_model.specs.Documents.{Doc}
+use Rattle.facet_output.specs.Commands.{Command, add, refresh, hold, release, search, document, stats, commit}
 use Rattle.facet_output.specs.Replies.{Reply, refused, no_memory}
 use Rattle.facet_output.specs.Seen.{CommitPoint, Seen}
 use Rattle.facet_output.specs.Steps.{Step}
@@ -11,12 +12,13 @@ use Rattle.pair_manager.specs.declared.manager.Stats.{Stats}
 use Rattle.pair_manager.specs.declared.pass.Pass.{Pass}
 use Rattle.pair_manager.specs.declared.point.CommitPoint.{CommitPoint as Point}
 use Rattle.pair_manager.specs.Published.{numbers}
+use Rattle.facet_engine.specs.declared.adding.AddFault.{AddFault}
 use Rattle.facet_engine.specs.declared.holding.HoldFault.{HoldFault}
 use Rattle.facet_engine.specs.declared.searching.SearchAnswer.{SearchAnswer}
 use Rattle.facet_engine.specs.declared.searching.SearchFault.{SearchFault}
 use Rattle.facet_engine.specs.declared.showing.DocumentFault.{DocumentFault}
 use Rattle.facet_engine.specs.declared.showing.Shown.{Shown}
-use Rattle.facet_engine.specs.Replies.{refresh_reply, hold_reply, release_reply, search_reply, document_reply, stats_reply, commit_reply}
+use Rattle.facet_engine.specs.Replies.{add_reply, refresh_reply, hold_reply, release_reply, search_reply, document_reply, stats_reply, commit_reply}
 
 -- a point as the output's definitions have it
 abbrev pub point_of : Point → CommitPoint
@@ -38,6 +40,9 @@ step_of command took place reply old new phase line = record {
   before = seen_of old;
   after = seen_of new;
 }
+
+abbrev pub added : Doc → Pass → Pass → Result ℕ AddFault → ℕ → ℕ → Step
+added doc old new result = step_of (add doc) None None (add_reply result) old new
 
 -- the place of the last pair that was seen
 abbrev pub last_place : Pass → ℕ

@@ -1,11 +1,13 @@
 ghost use Rattle.std.specs.Prelude.{◌≡◌};
-ghost use Rattle.facet_output.specs.Replies.{refused};
+ghost use Rattle.facet_config.specs.Faults.{fault_view};
+ghost use Rattle.facet_output.specs.Replies.{broken, refused};
 ghost use Rattle.facet_engine.specs.CallViews.{answer_view, call_view, refusal_view};
 ghost use Rattle.facet_engine.specs.Calls.{IsCarriedOut};
 ghost use Rattle.facet_engine.specs.Names.{name_in};
-ghost use Rattle.facet_engine.specs.Replies.{commit_reply, document_reply, hold_reply, refresh_reply, release_reply, search_reply, stats_reply};
+ghost use Rattle.facet_engine.specs.Replies.{add_reply, commit_reply, document_reply, hold_reply, refresh_reply, release_reply, search_reply, stats_reply};
 ghost use Rattle.facet_engine.specs.Systems.{BelongsTo};
 
+use crate::adding::AddFault;
 use crate::holding::{HoldFault, NotHeld};
 use crate::searching::{SearchAnswer, SearchFault};
 use crate::session::Session;
@@ -13,8 +15,9 @@ use crate::showing::{DocumentFault, Shown};
 use crate::system::System;
 use commit_store::CommitFault;
 use commit_turns::Start;
+use facet_config::DocFault;
 use facet_disk::Disk;
-use facet_model::Word;
+use facet_model::{Document, Word};
 use facet_names::NoMemory;
 use pair_manager::Stats;
 use sideways::SearchAsk;
@@ -24,6 +27,7 @@ use taxo_cache::Name;
 /// What a session asks. With a name, a call sees the pair that is held under it; without one, the pair that was published last.
 #[derive(Debug, Drop)]
 pub enum Call {
+    Add { doc: Document },
     Refresh,
     Hold { name: Word },
     Release { name: Word },
@@ -36,6 +40,16 @@ pub enum Call {
 /// Why a call is refused.
 #[derive(Drop, Clone, Copy, Debug, PartialEq, Eq)]
 pub enum Refusal {
+    /// The facet at this place, from 0, is a dimension alone.
+    NoComponent { facet: u64 },
+    /// The dimension of the facet is not hierarchical, and this many components stand behind it in place of one.
+    NotHierarchical { facet: u64, len: u64 },
+    /// The dimension of the facet is not multi-valued, and an earlier facet has it too.
+    NotMultiValued { facet: u64 },
+    /// The list of labels has this size with the root, and no more fit.
+    LabelsFull { size: u64 },
+    /// There are this many documents, and no more fit.
+    DocsFull { count: u64 },
     /// Nothing is held under the name.
     NotHeld,
     /// A pair is held under the name already.
@@ -58,6 +72,8 @@ pub enum Refusal {
 /// What a call is answered.
 #[derive(Debug, Drop)]
 pub enum Answer {
+    /// To an add: the place of the document.
+    Placed { at: u64 },
     /// To a refresh and a commit: how many operations were published or committed. To a hold and a release: how many operations the pair has.
     Number { n: u64 },
     Found { answer: SearchAnswer },
@@ -70,6 +86,28 @@ fn refused(refusal: Refusal) -> Answer
     ensures { answer_view result ≡ refused (refusal_view refusal) }
 {
     Answer::Refused { refusal }
+}
+
+fn broken(fault: DocFault) -> Refusal
+    ensures { refusal_view result ≡ broken (fault_view fault) }
+{
+    match fault {
+        DocFault::NoComponent { facet } => Refusal::NoComponent { facet },
+        DocFault::NotHierarchical { facet, len } => Refusal::NotHierarchical { facet, len },
+        DocFault::NotMultiValued { facet } => Refusal::NotMultiValued { facet },
+    }
+}
+
+fn added(of: Result<u64, AddFault>) -> Answer
+    ensures { answer_view result ≡ add_reply of }
+{
+    match of {
+        Ok(at) => Answer::Placed { at },
+        Err(AddFault::Broken { fault }) => refused(broken(fault)),
+        Err(AddFault::LabelsFull { size }) => refused(Refusal::LabelsFull { size }),
+        Err(AddFault::DocsFull { count }) => refused(Refusal::DocsFull { count }),
+        Err(AddFault::NoMemory) => refused(Refusal::NoMemory),
+    }
 }
 
 fn refreshed(of: Result<u64, NoMemory>) -> Answer
@@ -164,6 +202,7 @@ pub fn carry_out<D: Disk, N: Name + Start, R: Wait>(
     ensures { IsCarriedOut system.now session.old session.new (call_view call) (answer_view result) }
 {
     match call {
+        Call::Add { doc } => added(system.add(rt, session, doc)),
         Call::Refresh => refreshed(system.refresh(rt, session)),
         Call::Hold { name } => held(system.hold(rt, session, name.text())),
         Call::Release { name } => released(system.release(session, name.text())),

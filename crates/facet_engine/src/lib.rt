@@ -1,6 +1,7 @@
 //! Sessions over one store. Each call of a session is one step of four histories: those of the labels, the operations, the published pairs and the commits.
 #![tactic(auto)]
 
+mod adding;
 mod carrying;
 mod committing;
 mod held;
@@ -12,6 +13,7 @@ mod showing;
 mod stats;
 mod system;
 
+pub use adding::AddFault;
 pub use carrying::{Answer, Call, Refusal, carry_out};
 pub use held::{Held, HeldPairs};
 pub use holding::{HoldFault, NotHeld};

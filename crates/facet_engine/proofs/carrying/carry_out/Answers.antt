@@ -1,14 +1,25 @@
 use Rattle.std.proofs.Common.{◌∙◌, Option, None, List, ℕ, option_map, refl, sym, ap, subst}
 use Rattle.pair_manager.specs.declared.pass.Pass.{Pass}
-use Rattle.facet_output.specs.Commands.{Command, refresh, hold, release, search, document, stats, commit}
+use Rattle.facet_output.specs.Commands.{Command, add, refresh, hold, release, search, document, stats, commit}
 use Rattle.facet_engine.specs.CallViews.{answer_view, call_view}
 use Rattle.facet_engine.specs.Calls.{IsCall, IsCarriedOut}
 use Rattle.facet_engine.specs.Names.{name_in}
-use Rattle.facet_engine.specs.Replies.{refresh_reply, hold_reply, release_reply, search_reply, document_reply, stats_reply, commit_reply}
+use Rattle.facet_engine.specs.Replies.{add_reply, refresh_reply, hold_reply, release_reply, search_reply, document_reply, stats_reply, commit_reply}
 use Rattle.facet_engine.specs.Searches.{search_view}
 use Rattle.facet_engine.specs.Steps.{step_of, last_place, refresh_place, hold_took, pair_taken}
 use Rattle.facet_engine.proofs.Carried.{carried, holds_still}
 use Rattle.facet_engine.proofs.carrying.carry_out.Goals as goal
+
+pub returns-in-Add : goal.returns-in-Add
+returns-in-Add g c =
+    let engine = c.args.system.now in
+    let old = c.args.session.now in
+    let new = c.add.new.session in
+    let e = c.add.ensures in
+    let command = add c.in-Add.doc in
+    let reply = add_reply c.add.result in
+    subst (λ (command : Command). IsCarriedOut engine old new command (answer_view c.added.result)) (sym (ap call_view c.in-Add.is))
+    (carried engine old new command None None reply (answer_view c.added.result) c.added.ensures e.same (holds_still engine old new command None None reply refl e.held) e.step)
 
 pub returns-in-Refresh : goal.returns-in-Refresh
 returns-in-Refresh g c =

@@ -10,8 +10,14 @@ use Rattle.facet_engine.specs.declared.showing.DocumentFault.TheVariants as docu
 use Rattle.facet_engine.specs.Steps.{documented}
 use Rattle.facet_engine.proofs.Naming.{all_under}
 use Rattle.facet_engine.proofs.PairReplies.{document_last, document_under, document_not_held, document_without_memory}
-use Rattle.facet_engine.proofs.SeenPairs.{acquired, all_still_seen, same_pass, sees_self}
+use Rattle.facet_engine.proofs.SeenPairs.{acquired, all_still_seen, same_pass, sees_self, still_named}
 use Rattle.facet_engine.proofs.system.System.document.Goals as goal
+
+pub invariant_of-session-clause-own : goal.invariant_of-session-clause-own
+invariant_of-session-clause-own g c =
+    let e = c.acquire.ensures in
+    let session = c.args.session.now in
+    still_named session.number session.pass c.acquire.new.pass e.operations.1 session.own
 
 pub invariant_of-session-clause-seen : goal.invariant_of-session-clause-seen
 invariant_of-session-clause-seen g c =

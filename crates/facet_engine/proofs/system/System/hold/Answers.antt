@@ -6,7 +6,7 @@ use Rattle.facet_engine.specs.Sessions.{HasSeen}
 use Rattle.facet_engine.proofs.Carried.{held_more}
 use Rattle.facet_engine.proofs.Naming.{all_under, some_under, not_under}
 use Rattle.facet_engine.proofs.PairReplies.{hold_last, hold_already, hold_without_memory}
-use Rattle.facet_engine.proofs.SeenPairs.{acquired, all_still_seen, pushed_seen, same_pass, sees_self}
+use Rattle.facet_engine.proofs.SeenPairs.{acquired, all_still_seen, pushed_seen, same_pass, sees_self, still_named}
 use Rattle.facet_engine.proofs.system.System.hold.Goals as goal
 
 pub returns-then-is_some-clause-step : goal.returns-then-is_some-clause-step
@@ -17,6 +17,11 @@ returns-then-is_some-clause-step g c settings phase line is =
     let under = some_under session.held name c.find.result c.find.ensures (sym c.is_some.ensures ∙ c.if-is_some.true) in
     let seen = all_under (HasSeen pass) session.held name under.0 session.seen under.1 in
     hold_already settings session.held phase line session.number pass pass session.numbers (same_pass pass) (sees_self pass.labels) (sees_self pass.operations) (sees_self pass.pairs) refl under.0 seen name under.1
+
+pub invariant_of-session-clause-own : goal.invariant_of-session-clause-own
+invariant_of-session-clause-own g c =
+    let session = c.args.session.now in
+    still_named session.number session.pass c.acquire.new.pass c.acquire.ensures.operations.1 session.own
 
 pub invariant_of-session-clause-seen : goal.invariant_of-session-clause-seen
 invariant_of-session-clause-seen g c =
@@ -29,6 +34,11 @@ returns-in_default-clause-step g c settings phase line is =
     let session = c.args.session.now in
     let e = c.in_default.ensures in
     hold_without_memory settings session.held phase line session.number session.pass c.acquire.new.pass session.numbers e.same e.labels e.operations e.pairs e.commits c.args.name.now
+
+pub invariant_of-session-in_default-from_str-clause-own : goal.invariant_of-session-in_default-from_str-clause-own
+invariant_of-session-in_default-from_str-clause-own g c =
+    let session = c.args.session.now in
+    still_named session.number session.pass c.acquire.new.pass c.in-Ok.ensures.operations.1 session.own
 
 pub invariant_of-session-in_default-from_str-clause-seen : goal.invariant_of-session-in_default-from_str-clause-seen
 invariant_of-session-in_default-from_str-clause-seen g c =
@@ -65,6 +75,11 @@ returns-in-Err-clause-step g c settings phase line is =
     let session = c.args.session.now in
     let e = c.in-Ok.ensures in
     hold_without_memory settings session.held phase line session.number session.pass c.acquire.new.pass session.numbers e.same e.labels e.operations e.pairs e.commits c.args.name.now
+
+pub invariant_of-session-2-clause-own : goal.invariant_of-session-2-clause-own
+invariant_of-session-2-clause-own g c =
+    let session = c.args.session.now in
+    still_named session.number session.pass c.acquire.new.pass c.in-Ok.ensures.operations.1 session.own
 
 pub invariant_of-session-2-clause-seen : goal.invariant_of-session-2-clause-seen
 invariant_of-session-2-clause-seen g c =

@@ -1,7 +1,13 @@
 use Rattle.facet_engine.proofs.Refreshed.{refresh_step}
-use Rattle.facet_engine.proofs.SeenPairs.{all_still_seen}
+use Rattle.facet_engine.proofs.SeenPairs.{all_still_seen, still_named}
 use Rattle.facet_engine.specs.HeldPairs.{numbers_held}
 use Rattle.facet_engine.proofs.system.System.refresh.Goals as goal
+
+pub invariant_of-session-clause-own : goal.invariant_of-session-clause-own
+invariant_of-session-clause-own g c =
+    let e = c.refresh.ensures in
+    let session = c.args.session.now in
+    still_named session.number session.pass c.refresh.new.pass e.operations.1 session.own
 
 pub invariant_of-session-clause-seen : goal.invariant_of-session-clause-seen
 invariant_of-session-clause-seen g c =

@@ -11,8 +11,14 @@ use Rattle.facet_engine.specs.declared.searching.SearchFault.TheVariants as sear
 use Rattle.facet_engine.specs.Steps.{searched}
 use Rattle.facet_engine.proofs.Naming.{all_under}
 use Rattle.facet_engine.proofs.PairReplies.{search_last, search_under, search_not_held, search_without_memory}
-use Rattle.facet_engine.proofs.SeenPairs.{acquired, all_still_seen, config_of, same_pass, sees_self}
+use Rattle.facet_engine.proofs.SeenPairs.{acquired, all_still_seen, config_of, same_pass, sees_self, still_named}
 use Rattle.facet_engine.proofs.system.System.search.Goals as goal
+
+pub invariant_of-session-clause-own : goal.invariant_of-session-clause-own
+invariant_of-session-clause-own g c =
+    let e = c.acquire.ensures in
+    let session = c.args.session.now in
+    still_named session.number session.pass c.acquire.new.pass e.operations.1 session.own
 
 pub invariant_of-session-clause-seen : goal.invariant_of-session-clause-seen
 invariant_of-session-clause-seen g c =

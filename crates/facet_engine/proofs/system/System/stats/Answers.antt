@@ -11,8 +11,14 @@ use Rattle.facet_engine.specs.Names.{name_in}
 use Rattle.facet_engine.specs.Steps.{counted}
 use Rattle.facet_engine.proofs.Naming.{all_under}
 use Rattle.facet_engine.proofs.PairReplies.{stats_last, stats_under, stats_not_held}
-use Rattle.facet_engine.proofs.SeenPairs.{all_still_seen, same_pass, sees_self}
+use Rattle.facet_engine.proofs.SeenPairs.{all_still_seen, same_pass, sees_self, still_named}
 use Rattle.facet_engine.proofs.system.System.stats.Goals as goal
+
+pub invariant_of-session-clause-own : goal.invariant_of-session-clause-own
+invariant_of-session-clause-own g c =
+    let e = c.stats.ensures in
+    let session = c.args.session.now in
+    still_named session.number session.pass c.stats.new.pass e.operations.1 session.own
 
 pub invariant_of-session-clause-seen : goal.invariant_of-session-clause-seen
 invariant_of-session-clause-seen g c =

@@ -1,0 +1,212 @@
+ghost use Rattle.std.specs.Prelude.{◌≡◌, ◌≢◌, List, ℕ, All, IfOk, IfErr, OnOk, OnErr, flat_map, length, map};
+ghost use mathlib.Core.List.{IsPrefix};
+ghost use Rattle.chronicle.specs.Shown.{SeesOn};
+ghost use Rattle.facet_config.specs.Expanding.{AreAsLong};
+ghost use Rattle.facet_model.specs.Accepts.{Accepts};
+ghost use Rattle.facet_model.specs.ConfigTexts.{config_texts};
+ghost use Rattle.facet_model.specs.CountedPaths.{AreResolved};
+ghost use Rattle.facet_model.specs.Flags.{Config};
+ghost use Rattle.facet_names.specs.Labels.{IsLabelList, prefixes};
+ghost use Rattle.seg_decoding.specs.Entries.{IsEntry, IsShort};
+ghost use Rattle.taxo_cache.specs.Seen.{labels_of};
+ghost use Rattle.taxo_list.specs.declared.fault.TaxoFault.TheVariants.{NoMemory as ListNoMemory};
+ghost use Rattle.taxo_writer.specs.Several.{AddsInTurn, IsFullForOne};
+ghost use Rattle.index_state.specs.declared.fault.AppendFault.TheVariants.{DocsFull as IndexFull};
+ghost use Rattle.pair_manager.specs.Passes.{IsOf, SamePass};
+ghost use Rattle.facet_engine.specs.Adding.{HasNoRoom, HasTried, IsEntryWhere, IsPlaced, leaf_of};
+ghost use Rattle.facet_engine.specs.Calls.{IsCall, SameSession};
+ghost use Rattle.facet_engine.specs.Steps.{added};
+ghost use Rattle.facet_engine.specs.Systems.{BelongsTo};
+
+use crate::session::Session;
+use crate::system::System;
+use commit_turns::Start;
+use facet_config::{DocFault, FacetsConfig};
+use facet_disk::Disk;
+use facet_model::{Document, Resolved};
+use facet_names::{NoMemory, Path};
+use index_state::{AppendFault, Operation};
+use pair_manager::{Manager, Pass};
+use seg_file::Entry;
+use std::alloc::Global;
+use std::sync::Wait;
+use taxo_cache::Name;
+use taxo_list::TaxoFault;
+
+/// Why a document is not added.
+#[derive(Drop, Clone, Copy, Debug, PartialEq, Eq)]
+pub enum AddFault {
+    /// The config does not accept it.
+    Broken { fault: DocFault },
+    /// The list of labels has this size with the root, and a label more does not fit.
+    LabelsFull { size: u64 },
+    /// There are this many documents, and one more does not fit.
+    DocsFull { count: u64 },
+    NoMemory,
+}
+
+// The path's own ordinal, which is the last one.
+fn leaf_of(path: &Path, ordinals: &Resolved) -> u32
+    requires as_long { length ordinals.now ≡ length path.now }
+    ensures leaf { result ≡ leaf_of ordinals.now }
+    ensures short { IsShort path.now }
+{
+    ordinals.prefixes()[path.len() - 1]
+}
+
+// The own ordinal of each path.
+fn leaves_of(
+    alloc: Global,
+    paths: &[Path],
+    resolved: &[Resolved],
+) -> Result<Vec<u32>, NoMemory>
+    requires as_long { AreAsLong paths.now resolved.now }
+    ensures leaves { IfOk result (λ v. v.items ≡ map leaf_of resolved.now) }
+    ensures short { OnOk result (All IsShort paths.now) }
+{
+    let mut leaves = Vec::with_capacity(alloc, paths.len())?;
+    for at in 0..paths.len() {
+        leaves.push(leaf_of(&paths[at], &resolved[at]))?;
+    }
+    Ok(leaves)
+}
+
+// The document with its ordinals, where the prefixes of its labels have these.
+fn entry_of(
+    alloc: Global,
+    config: &FacetsConfig,
+    doc: Document,
+    resolved: &[Resolved],
+) -> Result<Entry, NoMemory>
+    requires known { (labels : List (List (List ℕ))) × IsLabelList labels × AreResolved labels doc.labels resolved.now }
+    requires accepted { Accepts config.now doc }
+    ensures doc { IfOk result (λ e. e.doc ≡ doc) }
+    ensures entry { IfOk result (IsEntryWhere config.now resolved.now) }
+{
+    let leaves = leaves_of(alloc, doc.facets(), resolved)?;
+    let counted = config.expand(alloc, &doc, resolved)?;
+    Ok(Entry {
+        doc,
+        leaves,
+        counted,
+    })
+}
+
+// The ordinals of the prefixes of each label. Each label has the turn of the labels for itself, and it is not held afterwards.
+fn resolve_labels<N: Name, R: Wait>(
+    rt: &R,
+    manager: &Manager<N>,
+    pass: &mut Pass,
+    doc: &Document,
+) -> Result<Vec<Resolved>, TaxoFault>
+    requires own { IsOf manager.now pass.old }
+    ensures same { SamePass pass.old pass.new }
+    ensures rest { (pass.new.operations ≡ pass.old.operations) × (pass.new.pairs ≡ pass.old.pairs) × (pass.new.commits ≡ pass.old.commits) }
+    ensures more { IsPrefix pass.old.labels.seen pass.new.labels.seen }
+    ensures adds { AddsInTurn (flat_map prefixes doc.now.labels) manager.now.writer.limit pass.old.labels pass.new.labels }
+    ensures resolved { IfOk result (λ v. AreResolved (labels_of pass.new.labels.seen) doc.now.labels v.items) }
+    ensures full { IfErr result (λ e. e ≢ ListNoMemory → IsFullForOne e manager.now.writer.limit (labels_of pass.new.labels.seen) doc.now.labels) }
+{
+    manager.writer().resolve_each(rt, &mut pass.labels, doc.facets())
+}
+
+// Puts the document of an entry behind all others, in the operations' turn.
+fn append_entry<N: Name, R: Wait>(
+    rt: &R,
+    manager: &Manager<N>,
+    pass: &mut Pass,
+    session: u32,
+    entry: Entry,
+    operation: Operation,
+) -> Result<u64, AppendFault>
+    requires own { IsOf manager.now pass.old }
+    requires entry { (config : Config) → config_texts config ≡ pass.old.operations.frame.texts → IsEntry config (labels_of pass.old.labels.seen) entry }
+    requires operation { operation ≡ record { session = session; doc = entry.doc } }
+    ensures same { SamePass pass.old pass.new }
+    ensures rest { (pass.new.labels ≡ pass.old.labels) × (pass.new.pairs ≡ pass.old.pairs) × (pass.new.commits ≡ pass.old.commits) }
+    ensures placed { IfOk result (λ at. IsPlaced at operation pass.old.operations pass.new.operations) }
+    ensures none { OnErr result (SeesOn pass.old.operations pass.new.operations) }
+    ensures full { IfErr result (λ e. (count : ℕ) → e ≡ IndexFull count → HasNoRoom count pass.new.operations) }
+{
+    let mut index = manager.operations().take(rt, &mut pass.operations);
+    match index.append(manager.writer().labels(), &mut pass.labels, session, entry) {
+        Ok(at) => {
+            manager.operations().enter(&mut pass.operations, operation);
+            manager.operations().give(&mut pass.operations, index);
+            Ok(at)
+        }
+        Err(fault) => {
+            manager.operations().give(&mut pass.operations, index);
+            Err(fault)
+        }
+    }
+}
+
+// Adds a document that the config accepts. All memory for it is taken before the operations' turn is waited for.
+fn add_to<N: Name, R: Wait>(
+    rt: &R,
+    alloc: Global,
+    manager: &Manager<N>,
+    config: &FacetsConfig,
+    pass: &mut Pass,
+    session: u32,
+    doc: Document,
+) -> Result<u64, AddFault>
+    requires own { IsOf manager.now pass.old }
+    requires config { config_texts config.now ≡ pass.old.operations.frame.texts }
+    requires accepted { Accepts config.now doc }
+    ensures same { SamePass pass.old pass.new }
+    ensures rest { (pass.new.pairs ≡ pass.old.pairs) × (pass.new.commits ≡ pass.old.commits) }
+    ensures more { IsPrefix pass.old.labels.seen pass.new.labels.seen }
+    ensures adds { AddsInTurn (flat_map prefixes doc.labels) manager.now.writer.limit pass.old.labels pass.new.labels }
+    ensures tried { HasTried manager.now.writer.limit (record { session = session; doc = doc }) pass.old pass.new result }
+{
+    let resolved = match resolve_labels(rt, manager, pass, &doc) {
+        Ok(resolved) => resolved,
+        Err(TaxoFault::LabelsFull { size }) => return Err(AddFault::LabelsFull { size }),
+        Err(TaxoFault::NoMemory) => return Err(AddFault::NoMemory),
+    };
+    let Ok(copy) = doc.dup(alloc) else {
+        return Err(AddFault::NoMemory);
+    };
+    let Ok(entry) = entry_of(alloc, config, doc, &resolved) else {
+        return Err(AddFault::NoMemory);
+    };
+    match append_entry(rt, manager, pass, session, entry, Operation::new(session, copy)) {
+        Ok(at) => Ok(at),
+        Err(AppendFault::DocsFull { count }) => Err(AddFault::DocsFull { count }),
+        Err(AppendFault::NoMemory) => Err(AddFault::NoMemory),
+    }
+}
+
+impl<D: Disk, N: Name + Start> System<D, N> {
+    /// Adds a document behind all others, and answers its place. Its labels are resolved first, and stay where it is refused then. What the config does not
+    /// accept is refused before that.
+    ///
+    /// For each label that is not in the cache it waits for the turn of the labels, and then for that of the operations; it holds one at a time. The document
+    /// is copied once before.
+    pub fn add<R: Wait>(
+        &self,
+        rt: &R,
+        session: &mut Session,
+        doc: Document,
+    ) -> Result<u64, AddFault>
+        requires own { BelongsTo self.now session.old.pass }
+        ensures same { SameSession session.old session.new }
+        ensures held { session.new.held ≡ session.old.held }
+        ensures step { IsCall self.now session.old (added doc session.old.pass session.new.pass result) }
+    {
+        match self.config.check(&doc) {
+            Ok(()) => add_to(
+                rt,
+                self.alloc,
+                &self.manager,
+                &self.config,
+                &mut session.pass,
+                session.number,
+                doc,
+            ),
+            Err(fault) => Err(AddFault::Broken { fault }),
+        }
+    }
+}
