@@ -3,6 +3,8 @@ pub mod Refreshed
 pub mod Committed
 pub mod Naming
 pub mod SeenPairs
+pub mod Told
+pub mod Sharing
 pub mod Taking
 pub mod PairReplies
 pub mod Found

@@ -4,6 +4,8 @@ pub mod Sessions
 pub mod Systems
 pub mod Adding
 pub mod Steps
+pub mod Notes
+pub mod Telling
 pub mod Calls
 pub mod Names
 pub mod Searches
