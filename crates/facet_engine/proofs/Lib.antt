@@ -4,6 +4,7 @@ pub mod Committed
 pub mod Naming
 pub mod SeenPairs
 pub mod Told
+pub mod Ended
 pub mod Sharing
 pub mod Taking
 pub mod PairReplies

@@ -6,6 +6,7 @@ pub mod Adding
 pub mod Steps
 pub mod Notes
 pub mod Telling
+pub mod Ending
 pub mod Calls
 pub mod Names
 pub mod Searches

@@ -4,6 +4,7 @@
 mod adding;
 mod carrying;
 mod committing;
+mod ending;
 mod held;
 mod holding;
 mod notes;
@@ -17,6 +18,7 @@ mod telling;
 
 pub use adding::AddFault;
 pub use carrying::{Answer, Call, Refusal, carry_out};
+pub use ending::{EndedSystem, Trace};
 pub use held::{Held, HeldPairs};
 pub use holding::{HoldFault, NotHeld};
 pub use notes::Notes;

@@ -1,0 +1,108 @@
+ghost use Rattle.std.specs.Prelude.{◌≡◌, ◌≤◌, ℕ, Some, All, map};
+ghost use Rattle.chronicle.specs.History.{entries};
+ghost use Rattle.facet_disk.specs.Images.{Told};
+ghost use Rattle.facet_model.specs.ConfigTexts.{config_texts};
+ghost use Rattle.facet_model.specs.Flags.{Config};
+ghost use Rattle.facet_names.specs.Labels.{IsLabelList};
+ghost use Rattle.facet_output.specs.Seen.{IsTold, labels_of};
+ghost use Rattle.commit_turns.specs.Ending.{Lasts, FailsWith};
+ghost use Rattle.commit_turns.specs.Frames.{HasNumbers};
+ghost use Rattle.commit_turns.specs.Points.{last_of};
+ghost use Rattle.commit_turns.specs.Seen.{docs_of};
+ghost use Rattle.facet_engine.specs.Ending.{AreUpTo, ArePublished};
+ghost use Rattle.facet_engine.specs.Notes.{noted, AreOf};
+ghost use Rattle.facet_engine.specs.Sessions.{HaveOneNumber};
+ghost use Rattle.facet_engine.specs.Steps.{seen_of};
+ghost use Rattle.facet_engine.specs.Systems.{BelongsTo};
+ghost use Rattle.facet_engine.specs.Telling.{HaveMade};
+
+use crate::notes::Notes;
+use crate::system::System;
+use commit_turns::{Start, end_commits};
+use facet_disk::Disk;
+use pair_manager::Pass;
+use std::sync::Wait;
+use taxo_cache::Name;
+use taxo_list::Taxonomy;
+
+/// What a run has entered: the labels, and of each operation the number of its session, in their orders.
+#[derive(Drop)]
+pub struct Trace {
+    pub labels: Taxonomy,
+    pub sessions: Vec<u32>,
+}
+
+/// What a system leaves: its trace, its disk, and notes of all that was ever entered of labels, operations and commits.
+#[derive(Drop)]
+pub struct EndedSystem<D: Disk> {
+    pub trace: Trace,
+    pub disk: D,
+    pub notes: Notes,
+}
+
+impl<D: Disk, N: Name + Start> System<D, N> {
+    /// Takes the turns of the commits, the operations and the labels for good, in this order, and waits for each. Whoever asks for one of them later waits for
+    /// ever, so all sessions are done before. It writes nothing, and takes no memory.
+    pub fn end<R: Wait>(&self, rt: &R, first: Pass) -> EndedSystem<D>
+        requires own { BelongsTo self.now first }
+        requires numbers { HaveOneNumber 0 first }
+
+        // The trace tells all labels and operations that the notes show.
+        ensures labels { result.trace.labels ≡ labels_of (noted result.notes) }
+        ensures sessions { result.trace.sessions.items ≡ map (λ e. e.1.session) result.notes.operations.seen }
+        ensures list { IsLabelList (labels_of (noted result.notes)) }
+        ensures published { ArePublished (noted result.notes) }
+
+        // They show all that the pass had seen, and what sessions have entered since, none under a number that was not given.
+        ensures own { AreOf self.now result.notes }
+        ensures told { IsTold 0 (seen_of first) (noted result.notes) }
+        ensures numbers { (made : ℕ) → HaveMade made first → AreUpTo made (noted result.notes) }
+
+        // The disk counts at least the faults of each commit that failed on it, and no fewer than when opening began.
+        ensures counts { All (λ p. (count : ℕ) → p.failed ≡ Some count → count ≤ D.faults result.disk) (entries result.notes.commits.seen) }
+        ensures later { (next moment faults failures : ℕ) → HasNumbers next moment faults failures first.commits.frame → faults ≤ D.faults result.disk }
+
+        // Where the disk told its files when opening began, it still does, and its device failed exactly where a commit failed on it.
+        ensures tells { N.told → (s : Told) × (D.told result.disk ≡ Some s) }
+        ensures failed { (next moment faults failures : ℕ) → N.told → HasNumbers next moment faults failures first.commits.frame
+            → FailsWith D.Disk failures (last_of (entries result.notes.commits.seen)).failed result.disk }
+
+        // Where it was settled too, what was committed lasts.
+        ensures lasts { (config : Config) (next moment faults failures : ℕ) → N.settled → config_texts config ≡ first.commits.frame.texts
+            → HasNumbers next moment faults failures first.commits.frame
+            → Lasts D.Disk config moment (labels_of (noted result.notes)) (docs_of result.notes.operations.seen) (entries result.notes.commits.seen) result.disk }
+    {
+        let Pass {
+            mut labels,
+            mut operations,
+            mut pairs,
+            mut commits,
+        } = first;
+        let writer = self.manager.writer();
+        let disk = end_commits(
+            rt,
+            &self.commits,
+            writer.labels(),
+            self.manager.operations(),
+            &mut labels,
+            &mut operations,
+            &mut commits,
+        );
+        let index = self.manager.operations().end(rt, &mut operations);
+        let list = writer.end(rt, &mut labels);
+        let notes = self.note_each(
+            &mut labels,
+            &mut operations,
+            &mut pairs,
+            &mut commits,
+        );
+        EndedSystem {
+            trace: Trace {
+                labels: list,
+                sessions: index.into_sessions(),
+            },
+            disk,
+            notes,
+        }
+    }
+}
