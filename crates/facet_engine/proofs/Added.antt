@@ -1,6 +1,6 @@
 -- An add is a step.
-use Rattle.std.proofs.Common.{◌≡◌, ◌≢◌, ◌∙◌, inl, inr, eqb, ◌+◌, ◌<◌, ◌≤◌, ℕ, Bool, true, false, List, [], ◌∷◌, ◌++◌, length, map, slice_get, Option, Some, None, Result, Ok, Err, refl, sym, ap, subst, arith}
-use Rattle.std.specs.Prelude.{All, Contains, IfSome, IsTrue, flat_map, is_none}
+use Rattle.std.proofs.Common.{◌≡◌, ◌≢◌, ◌∙◌, inl, inr, eqb, ◌<◌, ◌≤◌, ℕ, Bool, true, false, List, [], ◌∷◌, ◌++◌, length, map, slice_get, Option, Some, None, Result, Ok, Err, refl, sym, ap, subst, arith}
+use Rattle.std.specs.Prelude.{All, Contains, IfSome, flat_map, is_none}
 use Rattle.std.specs.List.{list_all}
 use Rattle.std.proofs.lemmas.Bool.{and_from}
 use Rattle.std.proofs.lemmas.List.{length-map, map_push}
@@ -9,21 +9,20 @@ use Rattle.std.proofs.lemmas.List.Sums.{AllPass-from_list_all}
 use mathlib.Core.List.{IsPrefix}
 use Rattle.chronicle.specs.Frame.{Frame}
 use Rattle.chronicle.specs.History.{own_of}
-use Rattle.chronicle.specs.Shown.{Shown, mine, SameToken, SeesOn, EntersBehind}
-use Rattle.chronicle.proofs.Prefixes.{prefix_append, prefix_length, prefix_trans}
+use Rattle.chronicle.specs.Shown.{Shown, mine, SeesOn, EntersBehind}
+use Rattle.chronicle.proofs.Prefixes.{prefix_length, prefix_trans}
 use Rattle.facet_config.specs.Faults.{fault_view}
 use Rattle.facet_config.specs.declared.fault.DocFault.{DocFault}
 use Rattle.facet_model.specs.Accepts.{Broken, first_broken}
 use Rattle.facet_model.specs.Documents.{Doc}
-use Rattle.facet_model.specs.Flags.{Config}
 use Rattle.facet_model.specs.Histories.{Operation, knows}
 use Rattle.facet_names.specs.Labels.{prefixes, stands}
 use Rattle.facet_names.proofs.LabelLists.{Labels}
-use Rattle.facet_output.specs.Commands.{Command, add}
+use Rattle.facet_output.specs.Commands.{add}
 use Rattle.facet_output.specs.Held.{Held}
 use Rattle.facet_output.specs.Replies.{Reply, placed, refused, broken}
 use Rattle.facet_output.specs.Replying.{RightReply, IsAdded, IsResolved}
-use Rattle.facet_output.specs.Seen.{Sees, EntersNone, EachNew, EntersBehind as Behind, Entries, history_of}
+use Rattle.facet_output.specs.Seen.{EntersNone, EachNew, EntersBehind as Behind, history_of}
 use Rattle.facet_output.specs.Steps.{IsStep, IsEntered, EntersOperation}
 use Rattle.facet_output.specs.Telling.{placed_by, stood_by}
 use Rattle.facet_output.proofs.Fronts.{get_last}
@@ -38,15 +37,14 @@ use Rattle.taxo_writer.specs.Several.{AddsInTurn, IsFullForOne}
 use Rattle.facet_engine.specs.Adding.{IsPlaced, HasNoRoom, HasTried}
 use Rattle.facet_engine.specs.Replies.{add_reply}
 use Rattle.facet_engine.specs.Sessions.{HaveOneNumber, NamesSession}
-use Rattle.facet_engine.specs.Steps.{seen_of, added, step_of}
-use Rattle.facet_engine.specs.Systems.{Engine, HasSettings}
+use Rattle.facet_engine.specs.Steps.{seen_of, added}
 use Rattle.facet_engine.specs.declared.adding.AddFault.{AddFault}
 use Rattle.facet_engine.specs.declared.adding.AddFault.TheVariants as adds
 use Rattle.facet_engine.proofs.Appended.{only_one}
 use Rattle.facet_engine.proofs.Committed.{one_own}
 use Rattle.facet_engine.proofs.Refreshed.{many_operations, many_in_history}
 use Rattle.facet_engine.proofs.SeenPairs.{still_named}
-use Rattle.facet_engine.proofs.Seeing.{enters_behind, told, told_begins, told_behind, labels_none, operations_none, pairs_none, commits_none, same_sees_on}
+use Rattle.facet_engine.proofs.Seeing.{enters_behind, told, told_behind, labels_none, operations_none, pairs_none, commits_none, same_sees_on}
 
 -- ---- labels that are lacking
 

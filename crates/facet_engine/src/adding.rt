@@ -55,11 +55,7 @@ fn leaf_of(path: &Path, ordinals: &Resolved) -> u32
 }
 
 // The own ordinal of each path.
-fn leaves_of(
-    alloc: Global,
-    paths: &[Path],
-    resolved: &[Resolved],
-) -> Result<Vec<u32>, NoMemory>
+fn leaves_of(alloc: Global, paths: &[Path], resolved: &[Resolved]) -> Result<Vec<u32>, NoMemory>
     requires as_long { AreAsLong paths.now resolved.now }
     ensures leaves { IfOk result (λ v. v.items ≡ map leaf_of resolved.now) }
     ensures short { OnOk result (All IsShort paths.now) }
@@ -107,7 +103,9 @@ fn resolve_labels<N: Name, R: Wait>(
     ensures resolved { IfOk result (λ v. AreResolved (labels_of pass.new.labels.seen) doc.now.labels v.items) }
     ensures full { IfErr result (λ e. e ≢ ListNoMemory → IsFullForOne e manager.now.writer.limit (labels_of pass.new.labels.seen) doc.now.labels) }
 {
-    manager.writer().resolve_each(rt, &mut pass.labels, doc.facets())
+    manager
+        .writer()
+        .resolve_each(rt, &mut pass.labels, doc.facets())
 }
 
 // Puts the document of an entry behind all others, in the operations' turn.
@@ -172,7 +170,14 @@ fn add_to<N: Name, R: Wait>(
     let Ok(entry) = entry_of(alloc, config, doc, &resolved) else {
         return Err(AddFault::NoMemory);
     };
-    match append_entry(rt, manager, pass, session, entry, Operation::new(session, copy)) {
+    match append_entry(
+        rt,
+        manager,
+        pass,
+        session,
+        entry,
+        Operation::new(session, copy),
+    ) {
         Ok(at) => Ok(at),
         Err(AppendFault::DocsFull { count }) => Err(AddFault::DocsFull { count }),
         Err(AppendFault::NoMemory) => Err(AddFault::NoMemory),

@@ -6,9 +6,8 @@ use Rattle.chronicle.specs.Frame.{Frame}
 use Rattle.chronicle.specs.History.{entries, own_of}
 use Rattle.chronicle.proofs.Prefixes.{prefix_self, prefix_trans}
 use Rattle.facet_model.specs.Histories.{Operation}
-use Rattle.index_state.specs.declared.fault.AppendFault.TheVariants.{DocsFull}
 use Rattle.pair_manager.proofs.Publishing.{still_right}
-use Rattle.taxo_cache.specs.Seen.{labels_of, SeesLabels}
+use Rattle.taxo_cache.specs.Seen.{SeesLabels}
 use Rattle.facet_engine.proofs.Appended.{all_one, room_left, is_full}
 use Rattle.facet_engine.proofs.adding.append_entry.Goals as goal
 
