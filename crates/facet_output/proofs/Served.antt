@@ -8,7 +8,7 @@ use Rattle.std.proofs.lemmas.List.Elements.{filter_map-append}
 use mathlib.Core.List.{IsPrefix}
 use Rattle.facet_names.specs.Labels.{stands, prefixes}
 use Rattle.facet_model.specs.Accepts.{Broken, first_broken}
-use Rattle.facet_model.specs.Asks.{Asked, AskFault, top_of_none, value_not_kept, ask_fault}
+use Rattle.facet_model.specs.Asks.{Asked, AskFault, ask_fault}
 use Rattle.facet_model.specs.Documents.{Doc}
 use Rattle.facet_model.specs.Flags.{Config}
 use Rattle.facet_model.specs.Histories.{Operation, docs, knows}

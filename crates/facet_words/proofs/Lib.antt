@@ -6,7 +6,6 @@ pub mod Levels
 pub mod PlainLines
 pub mod Phases
 pub mod Rising
-mod Names
 mod SearchLines
 mod Limits
 mod Dimensions

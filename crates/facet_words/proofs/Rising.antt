@@ -1,18 +1,18 @@
 -- The lines of a script rise, from phase to phase and in each of them.
 use Rattle.std.proofs.Common.{◌≡◌, ◌∙◌, ◌≤◌, ℕ, ◌+◌, Bool, true, false, List, [], ◌∷◌, ◌++◌, Option, Some, None, Result, Ok, Err, refl, sym, ap, subst, arith}
-use Rattle.std.specs.Prelude.{◌&&◌, nat_lt, nat_le, if◌then◌else◌, flat_map, IsTrue}
+use Rattle.std.specs.Prelude.{◌&&◌, nat_le, if◌then◌else◌}
 use Rattle.std.specs.List.{list_all}
 use Rattle.std.proofs.lemmas.Bool.{lt-ltb, le-leb, leb-true, and_from, and_parts}
 use Rattle.serde_json.specs.Data.{Data}
 use Rattle.facet_replies.specs.declared.fault.ScriptFault.{ScriptFault}
 use Rattle.facet_replies.specs.declared.fault.ScriptFault.TheVariants.{NotJson, BadShape, BadSession}
-use Rattle.facet_words.specs.Lines.{line_data, lines_of}
-use Rattle.facet_words.specs.Scripts.{◌>>=◌, or_fault, config_at}
+use Rattle.facet_words.specs.Lines.{line_data}
+use Rattle.facet_words.specs.Scripts.{◌>>=◌, or_fault}
 use Rattle.facet_words.specs.Shapes.{is_within}
-use Rattle.facet_words.specs.Sessions.Commands.{Command, Order, Script}
+use Rattle.facet_words.specs.Sessions.Commands.{Command, Order}
 use Rattle.facet_words.specs.Sessions.Laws.{lines_rise, orders_in, AreInOrder}
 use Rattle.facet_words.specs.Sessions.Orders.{command_of}
-use Rattle.facet_words.specs.Sessions.Scripts.{in_session, order_of, ends_phase, line_of, line_at, Phases, before, phases_from, phases_of, script_of, script}
+use Rattle.facet_words.specs.Sessions.Scripts.{in_session, order_of, ends_phase, line_of, line_at, Phases, before, phases_from, phases_of}
 
 -- ---- what was read, step by step
 
