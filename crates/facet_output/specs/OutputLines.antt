@@ -15,7 +15,8 @@ reply_lines answered = flat_map answered_line answered
 
 -- the labels that were added, how many documents and labels were opened, and whose the operations behind the opened ones are
 abbrev pub last_line : Opened → List (List (List ℕ)) → List Operation → List ℕ
-last_line opened labels history = line_of (length opened.docs) (length opened.labels) labels (map (λ (o : Operation). o.session) (drop (length opened.docs) history))
+last_line opened labels history = line_of (length opened.docs) (length opened.labels) labels
+    (map (λ (o : Operation). o.session) (drop (length opened.docs) history))
 
 -- the bytes that a run writes which answers all orders
 abbrev pub output_bytes : Opened → List (List (List ℕ)) → List Operation → List Answered → List ℕ

@@ -104,7 +104,8 @@ heading_of d = do
 -- ---- the commands
 
 abbrev pub search_of : Data → Option Command
-search_of d = option_map search (search_with (codes "cmd" ∷ codes "s" ∷ codes "query" ∷ codes "drill" ∷ codes "sideways" ∷ codes "ask" ∷ codes "hits" ∷ []) d)
+search_of d = option_map search
+    (search_with (codes "cmd" ∷ codes "s" ∷ codes "query" ∷ codes "drill" ∷ codes "sideways" ∷ codes "ask" ∷ codes "hits" ∷ []) d)
 
 abbrev pub document_of : Data → Option Command
 document_of d = option_map document (place_with (codes "cmd" ∷ codes "s" ∷ codes "at" ∷ []) d)

@@ -14,7 +14,8 @@ command_view (commands.Add doc) = plain.add doc
 command_view commands.Refresh = plain.refresh
 command_view (commands.Hold name) = plain.hold name
 command_view (commands.Release name) = plain.release name
-command_view (commands.Search on query drill sideways asks hits) = plain.search on (record { query = query_view query; drill = drill; sideways = sideways; asks = map ask_view asks.items; hits = hits })
+command_view (commands.Search on query drill sideways asks hits) = plain.search on
+    (record { query = query_view query; drill = drill; sideways = sideways; asks = map ask_view asks.items; hits = hits })
 command_view (commands.Document on at) = plain.document on at
 command_view (commands.Stats on) = plain.stats on
 command_view commands.Commit = plain.commit

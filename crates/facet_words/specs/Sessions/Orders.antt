@@ -23,7 +23,8 @@ name_of d = do
 unfoldable pub search_of : Data → Option Command
 search_of d = do
   on ← on_of d
-  option_map (search on) (search_with (codes "cmd" ∷ codes "s" ∷ codes "on" ∷ codes "query" ∷ codes "drill" ∷ codes "sideways" ∷ codes "ask" ∷ codes "hits" ∷ []) d)
+  option_map (search on)
+      (search_with (codes "cmd" ∷ codes "s" ∷ codes "on" ∷ codes "query" ∷ codes "drill" ∷ codes "sideways" ∷ codes "ask" ∷ codes "hits" ∷ []) d)
 
 unfoldable pub document_of : Data → Option Command
 document_of d = do
