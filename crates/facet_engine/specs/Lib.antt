@@ -12,4 +12,3 @@ pub mod Names
 pub mod Searches
 pub mod Showing
 pub mod Replies
-pub mod CallViews

@@ -17,7 +17,7 @@ mod system;
 mod telling;
 
 pub use adding::AddFault;
-pub use carrying::{Answer, Call, Refusal, carry_out};
+pub use carrying::carry_out;
 pub use ending::{EndedSystem, Trace};
 pub use held::{Held, HeldPairs};
 pub use holding::{HoldFault, NotHeld};

@@ -1,11 +1,14 @@
-use Rattle.std.proofs.Common.{◌∙◌, Option, None, List, ℕ, option_map, refl, sym, ap, subst}
+use Rattle.std.proofs.Common.{◌∙◌, Option, None, List, ℕ, map, option_map, refl, sym, ap, subst}
 use Rattle.pair_manager.specs.declared.pass.Pass.{Pass}
 use Rattle.facet_output.specs.Commands.{Command, add, refresh, hold, release, search, document, stats, commit}
-use Rattle.facet_engine.specs.CallViews.{answer_view, call_view}
+use Rattle.facet_model.specs.AskViews.{ask_view}
+use Rattle.facet_model.specs.QueryViews.{query_view}
+use Rattle.facet_replies.specs.ReplyViews.{reply_view}
+use Rattle.facet_words.specs.Commands.{Search}
+use Rattle.facet_words.specs.Sessions.CommandViews.{command_view}
 use Rattle.facet_engine.specs.Calls.{IsCall, IsCarriedOut}
 use Rattle.facet_engine.specs.Names.{name_in}
 use Rattle.facet_engine.specs.Replies.{add_reply, refresh_reply, hold_reply, release_reply, search_reply, document_reply, stats_reply, commit_reply}
-use Rattle.facet_engine.specs.Searches.{search_view}
 use Rattle.facet_engine.specs.Steps.{step_of, last_place, refresh_place, hold_took, pair_taken}
 use Rattle.facet_engine.proofs.Carried.{carried, holds_still}
 use Rattle.facet_engine.proofs.carrying.carry_out.Goals as goal
@@ -18,8 +21,8 @@ returns-in-Add g c =
     let e = c.add.ensures in
     let command = add c.in-Add.doc in
     let reply = add_reply c.add.result in
-    subst (λ (command : Command). IsCarriedOut engine old new command (answer_view c.added.result)) (sym (ap call_view c.in-Add.is))
-    (carried engine old new command None None reply (answer_view c.added.result) c.added.ensures e.same (holds_still engine old new command None None reply refl e.held) e.step)
+    subst (λ (command : Command). IsCarriedOut engine old new command (reply_view c.added.result)) (sym (ap command_view c.in-Add.is))
+    (carried engine old new command None None reply (reply_view c.added.result) c.added.ensures e.same (holds_still engine old new command None None reply refl e.held) e.step)
 
 pub returns-in-Refresh : goal.returns-in-Refresh
 returns-in-Refresh g c =
@@ -29,8 +32,8 @@ returns-in-Refresh g c =
     let e = c.refresh.ensures in
     let place = refresh_place (last_place new.pass) c.refresh.result in
     let reply = refresh_reply c.refresh.result in
-    subst (λ (command : Command). IsCarriedOut engine old new command (answer_view c.refreshed.result)) (sym (ap call_view c.in-Refresh.is))
-    (carried engine old new refresh None place reply (answer_view c.refreshed.result) c.refreshed.ensures e.same (holds_still engine old new refresh None place reply refl e.held) e.step)
+    subst (λ (command : Command). IsCarriedOut engine old new command (reply_view c.refreshed.result)) (sym (ap command_view c.in-Refresh.is))
+    (carried engine old new refresh None place reply (reply_view c.refreshed.result) c.refreshed.ensures e.same (holds_still engine old new refresh None place reply refl e.held) e.step)
 
 pub returns-in-Hold : goal.returns-in-Hold
 returns-in-Hold g c =
@@ -39,8 +42,8 @@ returns-in-Hold g c =
     let new = c.hold.new.session in
     let e = c.hold.ensures in
     let took = hold_took c.hold.result new.pass in
-    subst (λ (command : Command). IsCarriedOut engine old new command (answer_view c.held.result)) (ap hold c.text.ensures ∙ sym (ap call_view c.in-Hold.is))
-    (carried engine old new (hold c.text.result.now) took (option_map (λ pair. last_place new.pass) took) (hold_reply c.hold.result) (answer_view c.held.result) c.held.ensures e.same e.holds e.step)
+    subst (λ (command : Command). IsCarriedOut engine old new command (reply_view c.held.result)) (ap hold c.text.ensures ∙ sym (ap command_view c.in-Hold.is))
+    (carried engine old new (hold c.text.result.now) took (option_map (λ pair. last_place new.pass) took) (hold_reply c.hold.result) (reply_view c.held.result) c.held.ensures e.same e.holds e.step)
 
 pub returns-in-Release : goal.returns-in-Release
 returns-in-Release g c =
@@ -50,8 +53,8 @@ returns-in-Release g c =
     let e = c.release.ensures in
     let command = release c.text-in-Release.result.now in
     let reply = release_reply c.release.result in
-    subst (λ (command : Command). IsCarriedOut engine old new command (answer_view c.released.result)) (ap release c.text-in-Release.ensures ∙ sym (ap call_view c.in-Release.is))
-    (carried engine old new command None None reply (answer_view c.released.result) c.released.ensures e.same e.holds
+    subst (λ (command : Command). IsCarriedOut engine old new command (reply_view c.released.result)) (ap release c.text-in-Release.ensures ∙ sym (ap command_view c.in-Release.is))
+    (carried engine old new command None None reply (reply_view c.released.result) c.released.ensures e.same e.holds
     (subst (λ (pass : Pass). IsCall engine old (step_of command None None reply old.pass pass)) (sym e.pass) e.step))
 
 pub returns-in-Search : goal.returns-in-Search
@@ -61,12 +64,12 @@ returns-in-Search g c =
     let new = c.search.new.session in
     let e = c.search.ensures in
     let on = name_in c.text_of.result in
-    let s = search_view c.in-Search.ask in
+    let s : Search = record { query = query_view c.in-Search.query; drill = c.in-Search.drill; sideways = c.in-Search.sideways; asks = map ask_view c.in-Search.asks.items; hits = c.in-Search.hits } in
     let reply = search_reply c.search.result in
     let took = pair_taken on reply new.pass in
     let place = option_map (λ pair. last_place new.pass) took in
-    subst (λ (command : Command). IsCarriedOut engine old new command (answer_view c.found.result)) (ap (λ (name : Option (List ℕ)). search name s) c.text_of.ensures ∙ sym (ap call_view c.in-Search.is))
-    (carried engine old new (search on s) took place reply (answer_view c.found.result) c.found.ensures e.same (holds_still engine old new (search on s) took place reply refl e.held) e.step)
+    subst (λ (command : Command). IsCarriedOut engine old new command (reply_view c.found.result)) (ap (λ (name : Option (List ℕ)). search name s) c.text_of.ensures ∙ sym (ap command_view c.in-Search.is))
+    (carried engine old new (search on s) took place reply (reply_view c.found.result) c.found.ensures e.same (holds_still engine old new (search on s) took place reply refl e.held) e.step)
 
 pub returns-in-Document : goal.returns-in-Document
 returns-in-Document g c =
@@ -79,8 +82,8 @@ returns-in-Document g c =
     let reply = document_reply at c.document.result in
     let took = pair_taken on reply new.pass in
     let place = option_map (λ pair. last_place new.pass) took in
-    subst (λ (command : Command). IsCarriedOut engine old new command (answer_view c.shown.result)) (ap (λ (name : Option (List ℕ)). document name at) c.text_of-in-Document.ensures ∙ sym (ap call_view c.in-Document.is))
-    (carried engine old new (document on at) took place reply (answer_view c.shown.result) c.shown.ensures e.same (holds_still engine old new (document on at) took place reply refl e.held) e.step)
+    subst (λ (command : Command). IsCarriedOut engine old new command (reply_view c.shown.result)) (ap (λ (name : Option (List ℕ)). document name at) c.text_of-in-Document.ensures ∙ sym (ap command_view c.in-Document.is))
+    (carried engine old new (document on at) took place reply (reply_view c.shown.result) c.shown.ensures e.same (holds_still engine old new (document on at) took place reply refl e.held) e.step)
 
 pub returns-in-Stats : goal.returns-in-Stats
 returns-in-Stats g c =
@@ -92,8 +95,8 @@ returns-in-Stats g c =
     let reply = stats_reply c.stats.result in
     let took = pair_taken on reply new.pass in
     let place = option_map (λ pair. last_place new.pass) took in
-    subst (λ (command : Command). IsCarriedOut engine old new command (answer_view c.counted.result)) (ap (λ (name : Option (List ℕ)). stats name) c.text_of-in-Stats.ensures ∙ sym (ap call_view c.in-Stats.is))
-    (carried engine old new (stats on) took place reply (answer_view c.counted.result) c.counted.ensures e.same (holds_still engine old new (stats on) took place reply refl e.held) e.step)
+    subst (λ (command : Command). IsCarriedOut engine old new command (reply_view c.counted.result)) (ap (λ (name : Option (List ℕ)). stats name) c.text_of-in-Stats.ensures ∙ sym (ap command_view c.in-Stats.is))
+    (carried engine old new (stats on) took place reply (reply_view c.counted.result) c.counted.ensures e.same (holds_still engine old new (stats on) took place reply refl e.held) e.step)
 
 pub returns-in-Commit : goal.returns-in-Commit
 returns-in-Commit g c =
@@ -102,5 +105,5 @@ returns-in-Commit g c =
     let new = c.commit.new.session in
     let e = c.commit.ensures in
     let reply = commit_reply c.commit.result in
-    subst (λ (command : Command). IsCarriedOut engine old new command (answer_view c.committed.result)) (sym (ap call_view c.in-Commit.is))
-    (carried engine old new commit None None reply (answer_view c.committed.result) c.committed.ensures e.same (holds_still engine old new commit None None reply refl e.held) e.step)
+    subst (λ (command : Command). IsCarriedOut engine old new command (reply_view c.committed.result)) (sym (ap command_view c.in-Commit.is))
+    (carried engine old new commit None None reply (reply_view c.committed.result) c.committed.ensures e.same (holds_still engine old new commit None None reply refl e.held) e.step)

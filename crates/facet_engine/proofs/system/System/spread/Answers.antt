@@ -1,7 +1,7 @@
 use Rattle.std.proofs.Common.{◌∙◌, refl, subst}
 use Rattle.facet_output.specs.Seen.{Seen}
 use Rattle.facet_engine.specs.Telling.{Meets}
-use Rattle.facet_engine.proofs.SeenPairs.{all_still_seen}
+use Rattle.facet_engine.proofs.SeenPairs.{all_still_seen, still_named}
 use Rattle.facet_engine.proofs.system.System.spread.Goals as goal
 
 pub invariant_of-to-clause-numbers : goal.invariant_of-to-clause-numbers
@@ -9,6 +9,11 @@ invariant_of-to-clause-numbers g c =
     let to = c.args.to.now in
     let same = (c.meet_all.ensures.told to.number to.numbers).same in
     (same.labels.0 ∙ to.numbers.0, same.operations.0 ∙ to.numbers.1, same.pairs.0 ∙ to.numbers.2, same.commits.0 ∙ to.numbers.3)
+
+pub invariant_of-to-clause-own : goal.invariant_of-to-clause-own
+invariant_of-to-clause-own g c =
+    let to = c.args.to.now in
+    still_named to.number to.pass c.meet_all.new.pass (c.meet_all.ensures.told to.number to.numbers).on.1.1 to.own
 
 pub invariant_of-to-clause-seen : goal.invariant_of-to-clause-seen
 invariant_of-to-clause-seen g c =
