@@ -140,7 +140,7 @@ fn append_entry<N: Name, R: Wait>(
     }
 }
 
-// Adds a document that the config accepts. All memory for it is taken before the operations' turn is waited for.
+// Adds a document that the config accepts. Its entry and its copy are made before the operations' turn is waited for; the index may still have to grow then.
 fn add_to<N: Name, R: Wait>(
     rt: &R,
     alloc: Global,
