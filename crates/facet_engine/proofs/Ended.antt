@@ -1,6 +1,6 @@
 -- What tokens and their notes show when a system ends.
 use Rattle.std.proofs.Common.{◌≡◌, ◌∙◌, ◌≤◌, ℕ, false, List, [], ◌∷◌, length, take, map, refl, sym, ap, subst}
-use Rattle.std.specs.Prelude.{All, nat_le, ◌&&◌, IsTrue}
+use Rattle.std.specs.Prelude.{All, nat_le, ◌&&◌}
 use Rattle.std.specs.List.{list_all}
 use Rattle.std.proofs.lemmas.List.{length-map, take-map}
 use Rattle.std.proofs.lemmas.List.Elements.{All-map, All-weaker}
@@ -11,7 +11,7 @@ use Rattle.facet_disk.specs.Images.{Image}
 use Rattle.facet_disk.specs.declared.disk.Disk.{Ghosts}
 use Rattle.facet_model.specs.Documents.{Doc}
 use Rattle.facet_model.specs.Flags.{Config}
-use Rattle.facet_model.specs.Histories.{Operation, docs, knows, covers, never_falls, is_pair, are_publications}
+use Rattle.facet_model.specs.Histories.{Operation, docs, knows, never_falls, is_pair, are_publications}
 use Rattle.facet_names.specs.Labels.{GoesOn}
 use Rattle.facet_names.proofs.LabelLists.{Labels, goes_further}
 use Rattle.commit_turns.specs.Ending.{Lasts}
@@ -23,7 +23,7 @@ use Rattle.commit_turns.proofs.Prefixed.{first_on}
 use Rattle.pair_manager.specs.declared.pass.Pass.{Pass}
 use Rattle.pair_manager.specs.declared.point.CommitPoint.{CommitPoint as Point}
 use Rattle.pair_manager.specs.declared.publication.Publication.{Publication}
-use Rattle.pair_manager.specs.Published.{ArePublications, numbers}
+use Rattle.pair_manager.specs.Published.{numbers}
 use Rattle.facet_output.specs.Seen.{IsTold, EntersNone, history_of}
 use Rattle.facet_engine.specs.declared.notes.Notes.{Notes}
 use Rattle.facet_engine.specs.Ending.{AreUpTo, ArePublished}

@@ -12,7 +12,6 @@ use Rattle.chronicle.proofs.Prefixes.{prefix_length}
 use Rattle.facet_model.specs.Histories.{Operation}
 use Rattle.facet_names.specs.Labels.{IsLabelList}
 use Rattle.pair_manager.specs.declared.pass.Pass.{Pass}
-use Rattle.pair_manager.specs.declared.point.CommitPoint.{CommitPoint as Point}
 use Rattle.pair_manager.specs.declared.publication.Publication.{Publication}
 use Rattle.pair_manager.specs.Passes.{SamePass}
 use Rattle.pair_manager.specs.Published.{ArePublications, numbers}
@@ -41,7 +40,7 @@ pub longer_is : {A : Type 0} (xs ys : List A) → IsPrefix xs ys ⊎ IsPrefix ys
 longer_is xs ys (inl p) within = dite (dec_lt (length xs) (length ys))
     (λ lt. rw (lt-ltb (length xs) (length ys) lt) refl)
     (λ ge. let none : p.0 ≡ [] = nil_from_length p.0 (let l = ap length p.1 in omega (arith, length-append xs p.0)) in
-        rw (le-ltb (length xs) (length ys) (omega arith)) (sym (append-nil xs) ∙ ap (λ l. xs ++ l) (sym none) ∙ p.1))
+    rw (le-ltb (length xs) (length ys) (omega arith)) (sym (append-nil xs) ∙ ap (λ l. xs ++ l) (sym none) ∙ p.1))
 longer_is xs ys (inr p) within =
     let none : p.0 ≡ [] = nil_from_length p.0 (let l = ap length p.1 in omega (arith, length-append ys p.0)) in
     let same : xs ≡ ys = sym p.1 ∙ ap (λ l. ys ++ l) none ∙ append-nil ys in

@@ -90,12 +90,7 @@ impl<D: Disk, N: Name + Start> System<D, N> {
         );
         let index = self.manager.operations().end(rt, &mut operations);
         let list = writer.end(rt, &mut labels);
-        let notes = self.note_each(
-            &mut labels,
-            &mut operations,
-            &mut pairs,
-            &mut commits,
-        );
+        let notes = self.note_each(&mut labels, &mut operations, &mut pairs, &mut commits);
         EndedSystem {
             trace: Trace {
                 labels: list,

@@ -1,8 +1,4 @@
-use Rattle.chronicle.specs.Shown.{Shown}
-use Rattle.facet_model.specs.Histories.{Operation}
-use Rattle.pair_manager.specs.declared.point.CommitPoint.{CommitPoint}
-use Rattle.pair_manager.specs.declared.publication.Publication.{Publication}
-use Rattle.facet_engine.proofs.Told.{HasMet, meets, met_list, met_right}
+use Rattle.facet_engine.proofs.Told.{meets, met_list, met_right}
 use Rattle.facet_engine.proofs.system.System.meet_all.Goals as goal
 
 pub invariant_of-pass-clause-right : goal.invariant_of-pass-clause-right
