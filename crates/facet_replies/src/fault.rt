@@ -12,7 +12,7 @@ pub enum ScriptFault {
     NoConfigFirst,
     /// The line is no command: a key is missing, is one too many, or has not the shape of a key of this name.
     BadShape { line: u64 },
-    /// The session's number is a whole number, but not 1.
+    /// The number of the session is a whole number, but there is no such session.
     BadSession { line: u64 },
     /// An allocation was refused.
     NoMemory,
