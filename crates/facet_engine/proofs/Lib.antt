@@ -5,6 +5,7 @@ pub mod Naming
 pub mod SeenPairs
 pub mod Told
 pub mod Ended
+pub mod Opened
 pub mod Sharing
 pub mod Taking
 pub mod PairReplies

@@ -7,6 +7,7 @@ pub mod Steps
 pub mod Notes
 pub mod Telling
 pub mod Ending
+pub mod Opening
 pub mod Calls
 pub mod Names
 pub mod Searches

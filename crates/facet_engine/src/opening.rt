@@ -1,0 +1,229 @@
+ghost use Rattle.std.specs.Prelude.{◌≡◌, ◌≢◌, ◌≤◌, ◌∷◌, [], Some, Err, IfOk, IfErr, length, map};
+ghost use Rattle.std.specs.Arc.{arc_value};
+ghost use Rattle.chronicle.specs.History.{entries};
+ghost use Rattle.facet_disk.specs.Calls.{Rose};
+ghost use Rattle.facet_disk.specs.Images.{Told};
+ghost use Rattle.facet_output.specs.Seen.{opened_seen};
+ghost use Rattle.facet_words.specs.CommandViews.{settings_view};
+ghost use Rattle.seg_decoding.specs.Decoding.{records_in};
+ghost use Rattle.store_opening.specs.declared.fault.OpenFault.TheVariants.{Disk as FaultOfDisk, NoMemory as NoRoom};
+ghost use Rattle.store_opening.specs.Faults.{IsSound};
+ghost use Rattle.store_opening.specs.Files.{files, greatest_number};
+ghost use Rattle.store_opening.specs.Newest.{next_after};
+ghost use Rattle.store_opening.specs.Quiet.{IsQuiet};
+ghost use Rattle.commit_turns.specs.Frames.{HasNumbers};
+ghost use Rattle.index_state.specs.Frames.{index_frame};
+ghost use Rattle.index_state.specs.Index.{opened, docs_under, DecodeUnder, AreOwn};
+ghost use Rattle.pair_manager.specs.Passes.{IsFirst};
+ghost use Rattle.pair_manager.specs.Published.{ArePublications, pair_frame, seen_of as all_seen};
+ghost use Rattle.taxo_cache.specs.Seen.{labels_of, SeesLabels};
+ghost use Rattle.commit_turns.specs.Opening.{WasSettled};
+ghost use Rattle.facet_engine.specs.Opening.{IsReady, opened_of};
+ghost use Rattle.facet_engine.specs.Sessions.{HaveOneNumber};
+ghost use Rattle.facet_engine.specs.Steps.{seen_of};
+ghost use Rattle.facet_engine.specs.Systems.{BelongsTo, HasSettings};
+ghost use Rattle.facet_engine.specs.Telling.{HaveMade};
+
+use crate::system::System;
+use chronicle::{Chronicle, Token};
+use commit_store::{Committer, NotOpened};
+use commit_turns::{Begun, Start, begin, open_commits};
+use facet_config::FacetsConfig;
+use facet_disk::Disk;
+use facet_names::{NoMemory, Path};
+use facet_words::Settings;
+use index_state::Operation;
+use pair_manager::{CommitPoint, Manager, Pass, Publication};
+use seg_file::Segment;
+use std::alloc::Global;
+use std::snapshot::Snapshot;
+use std::sync::Arc;
+use store_opening::OpenFault;
+use taxo_cache::Name;
+use taxo_list::{Labelled, TaxoView};
+use taxo_writer::{LabelList, TaxoWriter};
+
+/// A disk whose store was opened, with the chronicle of its labels: what a system is made of.
+#[derive(Drop)]
+pub struct Store<D: Disk> {
+    pub labels: Chronicle<LabelList>,
+    pub start: Snapshot<D>,
+    pub(crate) committer: Committer<D>,
+    pub(crate) first: Token<Path>,
+    pub(crate) view: TaxoView,
+    pub(crate) segments: Vec<Arc<Segment>>,
+}
+
+impl<D: Disk> Store<D> {
+    /// Opens the store of a disk, and writes nothing: it reads all files, with the costs of [`Committer::open`], and copies the labels.
+    pub fn open(alloc: Global, disk: D, config: FacetsConfig) -> Result<Store<D>, NotOpened<D>>
+        // A system goes on from it.
+        ensures start { IfOk result (λ s. s.start.value ≡ disk) }
+        ensures ready { IfOk result (IsReady D.Disk config) }
+        ensures next { IfOk result (λ s. (t : Told) → D.told disk ≡ Some t → s.committer.state.next ≡ next_after (greatest_number t.files)) }
+
+        // Or the first fault of the files that the disk reads is told.
+        ensures err { IfErr result (λ n. n.fault ≢ NoRoom → n.fault ≢ FaultOfDisk
+            → (t : Told) → D.told disk ≡ Some t → files config t.files ≡ Err n.fault) }
+        ensures fault { IfErr result (λ n. n.fault ≡ FaultOfDisk → Rose (D.faults disk) (D.faults n.disk)) }
+        ensures failed { IfErr result (λ n. n.fault ≡ FaultOfDisk → (t : Told) → D.told disk ≡ Some t → Rose (D.failures disk) (D.failures n.disk)) }
+        ensures still { IfErr result (λ n. n.fault ≢ FaultOfDisk → D.faults n.disk ≡ D.faults disk) }
+        ensures sound { IfErr result (λ n. IsSound n.fault) }
+        ensures quiet { IfErr result (λ n. IsQuiet D.Disk disk n.disk) }
+    {
+        let Begun {
+            committer,
+            labels,
+            segments,
+            start,
+        } = begin(alloc, disk, config)?;
+        let Ok(view) = labels.view() else {
+            return Err(without_memory(committer.into_disk()));
+        };
+        match Chronicle::open(alloc, LabelList::new(labels)) {
+            Ok((labels, first)) => Ok(Store {
+                labels,
+                start,
+                committer,
+                first,
+                view,
+                segments,
+            }),
+            Err(_) => Err(without_memory(committer.into_disk())),
+        }
+    }
+}
+
+// The disk is handed back for want of memory.
+fn without_memory<D: Disk>(disk: D) -> NotOpened<D>
+    ensures { (result.fault ≡ NoRoom) × (result.disk ≡ disk) }
+{
+    NotOpened {
+        fault: OpenFault::NoMemory,
+        disk,
+    }
+}
+
+// How many documents these segments have.
+fn count_documents(segments: &[Arc<Segment>]) -> u64
+    requires { length (records_in (map arc_value segments.now)) ≤ 1000000 }
+    ensures { result ≡ length (records_in (map arc_value segments.now)) }
+{
+    let mut count = 0;
+    for segment in segments {
+        count += segment.docs() as u64;
+    }
+    count
+}
+
+// The manager over these labels, documents and settings, with the config that it shares, and the first tokens of the operations and the pairs.
+fn open_manager<N: Name>(
+    alloc: Global,
+    labels: Chronicle<LabelList>,
+    first: &mut Token<Path>,
+    view: TaxoView,
+    segments: Vec<Arc<Segment>>,
+    settings: Settings,
+) -> Result<(Manager<N>, Arc<FacetsConfig>, Token<Operation>, Token<Publication>), NoMemory>
+    requires name { labels ≡ N.labels }
+    requires own { first.old.identity ≡ labels }
+    requires list { SeesLabels first.old }
+    requires view { view ≡ labels_of first.old.seen }
+    requires decodes { DecodeUnder first.old settings.config (map arc_value segments.items) }
+    requires read { AreOwn (map arc_value segments.items) }
+    requires few { length (docs_under first.old (map arc_value segments.items)) ≤ 1000000 }
+    ensures first { first.new ≡ first.old }
+    ensures writer { IfOk result (λ r. r.0.writer ≡ record { labels = labels; limit = settings.max_labels }) }
+    ensures config { IfOk result (λ r. arc_value r.1 ≡ settings.config) }
+    ensures operations { IfOk result (λ r. IsFirst r.2 r.0.operations (opened (docs_under first.old (map arc_value segments.items)))) }
+    ensures pairs { IfOk result (λ r. IsFirst r.3 r.0.pairs (all_seen r.2 first.old ∷ [])) }
+    ensures right { IfOk result (λ r. ArePublications first.old.seen r.2.seen (entries r.3.seen)) }
+    ensures index_frame { IfOk result (λ r. r.2.frame ≡ index_frame settings.config settings.max_docs labels) }
+    ensures pair_frame { IfOk result (λ r. r.3.frame ≡ pair_frame settings.config r.0.operations labels) }
+{
+    let Settings {
+        config,
+        max_docs,
+        max_labels,
+        stripes,
+        cache,
+    } = settings;
+    let config = Arc::new(alloc, config)?;
+    let shared = Arc::try_clone(&config)?;
+    let writer = TaxoWriter::open(alloc, labels, first, stripes, cache, max_labels)?;
+    let (manager, operations, pairs) = Manager::open(alloc, writer, first, view, segments, shared, max_docs)?;
+    Ok((manager, config, operations, pairs))
+}
+
+impl<D: Disk, N: Name + Start> System<D, N> {
+    /// A system over a store, whose labels the name names, with its first pass. The pair of what was opened is published. It takes memory for the cache of labels
+    /// and four bytes for each document.
+    pub fn open(
+        alloc: Global,
+        store: Store<D>,
+        settings: Settings,
+    ) -> Result<(System<D, N>, Pass), NotOpened<D>>
+        requires ready { IsReady D.Disk settings.config store }
+        requires name { store.labels ≡ N.labels }
+        requires told { N.told → (t : Told) × (D.told store.start.value ≡ Some t) }
+        requires settled { N.settled → WasSettled D.Disk settings.config store.start.value }
+
+        // The pass has seen what was opened.
+        ensures own { IfOk result (λ r. BelongsTo r.0 r.1) }
+        ensures first { IfOk result (λ r. HaveOneNumber 0 r.1 × HaveMade 0 r.1) }
+        ensures settings { IfOk result (λ r. HasSettings r.0 r.1 (settings_view settings)) }
+        ensures seen { IfOk result (λ r. seen_of r.1 ≡ opened_seen (opened_of store)) }
+
+        // Its commits count from the disk as it was at the start.
+        ensures numbers { IfOk result (λ r. HasNumbers store.committer.state.next (D.moment store.start.value) (D.faults store.start.value)
+            (D.failures store.start.value) r.1.commits.frame) }
+
+        // Or there was no memory, and the disk is as the store had it.
+        ensures fault { IfErr result (λ n. (n.fault ≡ NoRoom) × (n.disk ≡ store.committer.disk)) }
+    {
+        let Store {
+            labels,
+            start,
+            committer,
+            mut first,
+            view,
+            segments,
+        } = store;
+        let point = CommitPoint {
+            operations: count_documents(&segments),
+            labels: view.size(),
+            failed: None,
+        };
+        let (manager, config, mut operations, pairs) = match open_manager(alloc, labels, &mut first, view, segments, settings) {
+            Ok(opened) => opened,
+            Err(NoMemory) => return Err(without_memory(committer.into_disk())),
+        };
+        let opened = open_commits(
+            alloc,
+            committer,
+            start,
+            manager.writer().labels(),
+            manager.operations(),
+            &mut first,
+            &mut operations,
+            point,
+        );
+        let (commits, token) = match opened {
+            Ok(opened) => opened,
+            Err(disk) => return Err(without_memory(disk)),
+        };
+        let system = System {
+            alloc,
+            config,
+            manager,
+            commits,
+        };
+        let pass = Pass {
+            labels: first,
+            operations,
+            pairs,
+            commits: token,
+        };
+        Ok((system, pass))
+    }
+}
