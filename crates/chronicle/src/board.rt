@@ -12,7 +12,6 @@ use crate::rule::{
 use crate::standing::Standing;
 use atomic_table::{Seat, Shared};
 use std::snapshot::Snapshot;
-use std::hint;
 use std::sync::Wait;
 
 pub(crate) type Board<V, E> = Shared<Option<V>, Knowledge<E>, Snapshot<V>, TurnRule>;
@@ -27,9 +26,6 @@ const SERVING: usize = 1;
 const ENTERED: usize = 2;
 
 const VALUE: usize = 0;
-
-// How often a thread looks before it sleeps: some microseconds.
-const LOOKS: u32 = 100;
 
 // Draws a ticket. The last number is never drawn, so tickets do not wrap: who finds it sleeps for ever.
 pub(crate) fn draw_ticket<V: Standing, R: Wait>(
@@ -53,19 +49,7 @@ pub(crate) fn draw_ticket<V: Standing, R: Wait>(
     unreachable!()
 }
 
-// Looks a while whether the ticket is served: a turn is often passed on sooner than a thread sleeps and wakes.
-fn look_for<V: Standing>(board: &Board<V, V::Entry>, ticket: u64)
-    requires board { board.now.table_id.words ≡ 3 }
-{
-    for _ in 0..LOOKS {
-        if board.peek(SERVING) == ticket {
-            return;
-        }
-        hint::spin_loop();
-    }
-}
-
-// Waits until the ticket is served, and takes the value out.
+// Sleeps until the ticket is served, and takes the value out.
 pub(crate) fn await_turn<V: Standing, R: Wait>(
     rt: &R,
     board: &Board<V, V::Entry>,
@@ -80,7 +64,6 @@ pub(crate) fn await_turn<V: Standing, R: Wait>(
     ensures learns { Learns seat.old.me.0 seat.new.me.0.seen }
 {
     for _ in rt.forever() {
-        look_for(board, ticket);
         let served = board.load::<Look>(seat, SERVING);
         if served == ticket {
             let value = board.exchange(seat, VALUE, None);

@@ -141,8 +141,8 @@ impl<V: Standing> Chronicle<V> {
 
     /// Waits for the turn, and hands out the value, which then stands for all that was entered so far. The token has then seen that.
     ///
-    /// Turns come in the order in which tickets are drawn, though no clause says so. Who waits looks for some microseconds, and then sleeps. A thread that
-    /// waits for a turn which it holds by another token waits for ever, and so does everybody where the holder never gives.
+    /// Turns come in the order in which tickets are drawn, though no clause says so. Who waits sleeps. A thread that waits for a turn which it holds by another token
+    /// waits for ever, and so does everybody where the holder never gives.
     pub fn take<R: Wait>(&self, rt: &R, token: &mut Token<V::Entry>) -> V
         requires own { token.old.identity ≡ self.now }
         requires idle { MayTake token.old }
