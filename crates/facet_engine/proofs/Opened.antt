@@ -1,5 +1,5 @@
 -- What was opened, as the first tokens have seen it.
-use Rattle.std.proofs.Common.{◌≡◌, ◌∙◌, ℕ, List, [], ◌∷◌, length, drop, map, refl, sym, ap, subst, arith}
+use Rattle.std.proofs.Common.{◌≡◌, ◌∙◌, ℕ, List, [], ◌∷◌, length, drop, map, refl, ap, arith}
 use Rattle.std.proofs.lemmas.List.{length-map}
 use Rattle.chronicle.specs.History.{entries, numbered}
 use Rattle.chronicle.proofs.Entries.{entries-numbered}
@@ -10,7 +10,6 @@ use Rattle.facet_model.specs.Histories.{Operation, docs}
 use Rattle.facet_model.specs.Stored.{Records}
 use Rattle.facet_names.specs.Labels.{IsLabelList}
 use Rattle.facet_names.proofs.LabelLists.{Labels, some_label, root_first}
-use Rattle.facet_output.specs.Output.{Opened}
 use Rattle.facet_output.specs.Seen.{Seen, opened_seen}
 use Rattle.index_state.specs.Index.{opened}
 use Rattle.pair_manager.specs.declared.point.CommitPoint.{CommitPoint as Point}

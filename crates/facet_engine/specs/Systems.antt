@@ -1,5 +1,5 @@
 -- A system as contracts see it, and whose a pass is.
-use Rattle.std.specs.Prelude.{◌≡◌, [], ◌∷◌}
+use Rattle.std.specs.Prelude.{◌≡◌, [], ◌∷◌, ℕ}
 use Rattle.atomic_table.specs.Seated.{TableId}
 use Rattle.facet_model.specs.ConfigTexts.{config_texts}
 use Rattle.facet_model.specs.Flags.{Config}
@@ -7,11 +7,12 @@ use Rattle.facet_words.specs.Commands.{Settings}
 use Rattle.pair_manager.specs.declared.pass.Pass.{Pass}
 use Rattle.pair_manager.specs.Passes.{Managed, IsOf}
 
--- its chronicles, and the config of its documents
+-- its chronicles, the config of its documents, and how many documents and labels were opened
 pub record Engine : Type 0 where
   pub manager : Managed
   pub commits : TableId
   pub config : Config
+  pub opened : ℕ × ℕ
 
 -- The tokens are of the system's chronicles, whose values have its config.
 pub record BelongsTo (engine : Engine) (pass : Pass) : Type 0 where

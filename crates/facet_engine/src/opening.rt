@@ -124,7 +124,15 @@ fn open_manager<N: Name>(
     view: TaxoView,
     segments: Vec<Arc<Segment>>,
     settings: Settings,
-) -> Result<(Manager<N>, Arc<FacetsConfig>, Token<Operation>, Token<Publication>), NoMemory>
+) -> Result<
+    (
+        Manager<N>,
+        Arc<FacetsConfig>,
+        Token<Operation>,
+        Token<Publication>,
+    ),
+    NoMemory,
+>
     requires name { labels ≡ N.labels }
     requires own { first.old.identity ≡ labels }
     requires list { SeesLabels first.old }
@@ -151,13 +159,15 @@ fn open_manager<N: Name>(
     let config = Arc::new(alloc, config)?;
     let shared = Arc::try_clone(&config)?;
     let writer = TaxoWriter::open(alloc, labels, first, stripes, cache, max_labels)?;
-    let (manager, operations, pairs) = Manager::open(alloc, writer, first, view, segments, shared, max_docs)?;
+    let (manager, operations, pairs) = Manager::open(
+        alloc, writer, first, view, segments, shared, max_docs,
+    )?;
     Ok((manager, config, operations, pairs))
 }
 
 impl<D: Disk, N: Name + Start> System<D, N> {
-    /// A system over a store, whose labels the name names, with its first pass. The pair of what was opened is published. It takes memory for the cache of labels
-    /// and four bytes for each document.
+    /// A system over a store, whose labels the name names, with its first pass. The pair of what was opened is published. It takes memory for the cache of
+    /// labels and four bytes for each document.
     pub fn open(
         alloc: Global,
         store: Store<D>,
@@ -173,6 +183,8 @@ impl<D: Disk, N: Name + Start> System<D, N> {
         ensures first { IfOk result (λ r. HaveOneNumber 0 r.1 × HaveMade 0 r.1) }
         ensures settings { IfOk result (λ r. HasSettings r.0 r.1 (settings_view settings)) }
         ensures seen { IfOk result (λ r. seen_of r.1 ≡ opened_seen (opened_of store)) }
+
+        ensures opened { IfOk result (λ r. r.0.opened ≡ (length (opened_of store).docs, length (opened_of store).labels)) }
 
         // Its commits count from the disk as it was at the start.
         ensures numbers { IfOk result (λ r. HasNumbers store.committer.state.next (D.moment store.start.value) (D.faults store.start.value)
@@ -194,7 +206,9 @@ impl<D: Disk, N: Name + Start> System<D, N> {
             labels: view.size(),
             failed: None,
         };
-        let (manager, config, mut operations, pairs) = match open_manager(alloc, labels, &mut first, view, segments, settings) {
+        let (manager, config, mut operations, pairs) = match open_manager(
+            alloc, labels, &mut first, view, segments, settings,
+        ) {
             Ok(opened) => opened,
             Err(NoMemory) => return Err(without_memory(committer.into_disk())),
         };
@@ -217,6 +231,7 @@ impl<D: Disk, N: Name + Start> System<D, N> {
             config,
             manager,
             commits,
+            opened: (point.operations, point.labels),
         };
         let pass = Pass {
             labels: first,

@@ -1,3 +1,5 @@
+ghost use Rattle.std.specs.Prelude.{◌≡◌};
+
 use chronicle::Chronicle;
 use commit_turns::{CommitTurn, Start};
 use facet_config::FacetsConfig;
@@ -15,6 +17,7 @@ pub struct System<D: Disk, N: Name + Start> {
     pub(crate) config: Arc<FacetsConfig>,
     pub(crate) manager: Manager<N>,
     pub(crate) commits: Chronicle<CommitTurn<D, N>>,
+    pub(crate) opened: (u64, u32),
 }
 
 impl<D: Disk, N: Name + Start> Model for System<D, N> {
@@ -23,5 +26,14 @@ impl<D: Disk, N: Name + Start> Model for System<D, N> {
 
     ghost Value = { Engine };
 
-    ghost view = { λ s. record { manager = s.manager; commits = s.commits; config = arc_value s.config } };
+    ghost view = { λ s. record { manager = s.manager; commits = s.commits; config = arc_value s.config; opened = s.opened } };
+}
+
+impl<D: Disk, N: Name + Start> System<D, N> {
+    /// How many documents were opened, and how many labels with the root: the numbers of the first publication. It takes no memory.
+    pub fn opened(&self) -> (u64, u32)
+        ensures { result ≡ self.now.opened }
+    {
+        self.opened
+    }
 }

@@ -33,3 +33,12 @@ returns-clause-seen g c =
     let point : commits ≡ numbered 0 (made (length operations) (length (labels_of labels)) ∷ []) = c.in-Ok-opened.ensures.seen ∙ (λ i. numbered 0 (made (many i) (size i) ∷ [])) in
     let first = c.open_commits-opened.ensures.tokens.0 ∙ c.open_manager.ensures.first in
     (λ i. all_of (first i).seen (c.open_commits-opened.ensures.tokens.1 i).seen pairs commits) ∙ opened_is ds labels operations pairs commits c.requires.ready.first.seen all c.in-Ok.ensures.pairs.seen point
+
+pub returns-clause-opened : goal.returns-clause-opened
+returns-clause-opened g c =
+    let store = c.args.store in
+    let segments = map arc_value store.segments.items in
+    let documents : c.count_documents.result ≡ length (docs_in (labels_of store.first.seen) segments) =
+    c.count_documents.ensures ∙ ap (λ l. length (records_in (map arc_value l))) c.deref.ensures.value ∙ sym (docs_many (labels_of store.first.seen) segments) in
+    let size : c.size.result ≡ length (labels_of store.first.seen) = c.size.ensures.size ∙ ap length c.requires.ready.viewed in
+    λ i. (documents i, size i)
