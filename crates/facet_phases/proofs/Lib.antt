@@ -1,0 +1,14 @@
+pub mod Stepping
+pub mod Parts
+pub mod Zips
+pub mod Belonging
+pub mod Told
+pub mod Going
+pub mod Dealt
+pub mod Pieces
+pub mod Did
+pub mod Phasing
+pub mod Carrying
+pub mod Closing
+pub mod Made
+pub mod Crossing

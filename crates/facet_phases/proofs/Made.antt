@@ -1,0 +1,80 @@
+-- Sessions that are made, one after the other.
+use Rattle.std.proofs.Common.{◌≡◌, ◌∙◌, ℕ, ◌+◌, ◌<◌, ◌≤◌, List, [], ◌∷◌, ◌++◌, length, get_or, refl, ap, sym, subst, arith}
+use Rattle.std.specs.Prelude.{All}
+use Rattle.std.proofs.lemmas.List.{get_or_append_left, get_or_push, length_push}
+use Rattle.std.proofs.lemmas.List.Elements.{All-nil, All-push, All-weaker}
+use native.Mathlib.Decide.{dec_lt}
+use mathlib.Core.Logic.{dite}
+use Rattle.pair_manager.specs.declared.pass.Pass.{Pass}
+use Rattle.facet_output.specs.Seen.{Seen}
+use Rattle.facet_engine.specs.Steps.{seen_of}
+use Rattle.facet_engine.specs.Systems.{Engine, BelongsTo}
+use Rattle.facet_engine.specs.Telling.{AreCounted, MakesOneOfEach}
+use Rattle.facet_phases.specs.declared.lane.Lane.{Lane}
+use Rattle.facet_phases.specs.Lanes.{AllOf, AreIdle, AreNumbered}
+use Rattle.facet_phases.specs.Running.{AreReady, IsFirst}
+
+-- so many sessions were made of the first pass
+pub record AreMade (engine : Engine) (count : ℕ) (seen : Seen) (first : Pass) (lanes : List Lane) : Type 0 where
+  pub own : BelongsTo engine first
+  pub made : IsFirst count first
+  pub same : seen_of first ≡ seen
+  pub many : length lanes ≡ count
+  pub numbered : AreNumbered 1 lanes
+  pub all : AllOf engine lanes
+  pub all_seen : All (λ (l : Lane). seen_of l.session.pass ≡ seen) lanes
+  pub idle : AreIdle lanes
+  pub held : All (λ (l : Lane). l.session.held ≡ []) lanes
+
+pub made_none : (engine : Engine) (first : Pass) → BelongsTo engine first → IsFirst 0 first → AreMade engine 0 (seen_of first) first []
+made_none engine first own made = record {
+  own = own;
+  made = made;
+  same = refl;
+  many = refl;
+  numbered = λ i d lt. absurd (omega arith);
+  all = All-nil (λ (l : Lane). BelongsTo engine l.session.pass);
+  all_seen = All-nil (λ (l : Lane). seen_of l.session.pass ≡ seen_of first);
+  idle = All-nil (λ (l : Lane). l.orders.items ≡ []);
+  held = All-nil (λ (l : Lane). l.session.held ≡ []);
+}
+
+numbered_push : (lanes : List Lane) (l : Lane) → AreNumbered 1 lanes → l.session.number ≡ 1 + length lanes → AreNumbered 1 (lanes ++ l ∷ [])
+numbered_push lanes l numbered is i d lt =
+    let long = length_push lanes l in
+    dite (dec_lt i (length lanes))
+    (λ below. ap (λ (x : Lane). x.session.number) (get_or_append_left lanes (l ∷ []) d i below) ∙ numbered i d below)
+    (λ last.
+    let at : length lanes ≡ i = omega arith in
+    ap (λ (x : Lane). x.session.number) (get_or_push lanes l d i at) ∙ is ∙ ap (λ n. 1 + n) at)
+
+pub made_more : (engine : Engine) (count : ℕ) (seen : Seen) (a b : Pass) (lanes : List Lane) (l : Lane) → AreMade engine count seen a lanes → MakesOneOfEach a b → BelongsTo engine b → AreCounted b → seen_of b ≡ seen_of a
+    → BelongsTo engine l.session.pass → seen_of l.session.pass ≡ seen_of a → l.session.number ≡ a.labels.made + 1 → l.session.held ≡ [] → l.orders.items ≡ [] → AreMade engine (count + 1) seen b (lanes ++ l ∷ [])
+made_more engine count seen a b lanes l made more own counted same own_l seen_l number held idle =
+    let numbers = made.made.numbers in
+    let before = made.made.made in
+    record {
+      own = own;
+      made = record {
+        numbers = (more.0.0 ∙ numbers.0, more.1.0 ∙ numbers.1, more.2.0 ∙ numbers.2, more.3.0 ∙ numbers.3);
+        made = (more.0.1 ∙ ap (λ n. n + 1) before.0, more.1.1 ∙ ap (λ n. n + 1) before.1, more.2.1 ∙ ap (λ n. n + 1) before.2, more.3.1 ∙ ap (λ n. n + 1) before.3);
+        counted = counted;
+      };
+      same = same ∙ made.same;
+      many = length_push lanes l ∙ ap (λ n. n + 1) made.many;
+      numbered = numbered_push lanes l made.numbered (let m = made.many in let f = before.0 in let n = number in omega arith);
+      all = All-push (λ (x : Lane). BelongsTo engine x.session.pass) lanes l made.all own_l;
+      all_seen = All-push (λ (x : Lane). seen_of x.session.pass ≡ seen) lanes l made.all_seen (seen_l ∙ made.same);
+      idle = All-push (λ (x : Lane). x.orders.items ≡ []) lanes l made.idle idle;
+      held = All-push (λ (x : Lane). x.session.held ≡ []) lanes l made.held held;
+    }
+
+pub made_ready : (engine : Engine) (count : ℕ) (seen : Seen) (first : Pass) (lanes : List Lane) → count ≤ 64 → AreMade engine count seen first lanes → AreReady engine first lanes
+made_ready engine count seen first lanes few made = record {
+  own = made.own;
+  made = subst (λ (n : ℕ). IsFirst n first) (sym made.many) made.made;
+  many = (let m = made.many in omega arith);
+  numbered = made.numbered;
+  all = made.all;
+  seen = All-weaker (λ (l : Lane). seen_of l.session.pass ≡ seen) (λ (l : Lane). seen_of l.session.pass ≡ seen_of first) (λ l is. is ∙ sym made.same) lanes made.all_seen;
+}

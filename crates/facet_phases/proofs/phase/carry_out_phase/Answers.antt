@@ -1,0 +1,47 @@
+use Rattle.std.proofs.Common.{rules, List}
+use Rattle.std.specs.Prelude.{All, IsOk, OnOk}
+use Rattle.facet_engine.specs.Steps.{seen_of}
+use Rattle.facet_phases.specs.declared.lane.Lane.{Lane}
+use Rattle.facet_phases.proofs.Carrying.{still_ready, still_idle, carries_out, dealt_ready, may_run, all_ran, none_ran}
+use Rattle.facet_phases.proofs.Did.{all_did}
+use Rattle.facet_phases.proofs.phase.carry_out_phase.Goals as goal
+
+pub returns-in_err-deal-clause-ran : goal.returns-in_err-deal-clause-ran
+returns-in_err-deal-clause-ran g c = none_ran c.args.system.now _ c.args.first.now c.args.lanes.now c.deal.new.lanes c.from_residual.result (search rules)
+
+pub run_at_once-requires-clause-run : goal.run_at_once-requires-clause-run
+run_at_once-requires-clause-run g c κs within = may_run c.args.system.now c.args.first.now c.args.orders.items c.args.lanes.now c.deal.new.lanes c.requires.ready c.requires.idle (search rules) c.in_ok-deal.ensures.dealt
+
+pub tell_all-requires-clause-own : goal.tell_all-requires-clause-own
+tell_all-requires-clause-own g c κs within = (
+  c.requires.ready.own,
+  all_ran c.args.system.now c.deal.new.lanes c.run_at_once.new.lanes c.run_at_once.ensures.ran (dealt_ready c.args.system.now c.args.first.now c.args.lanes.now c.deal.new.lanes c.requires.ready (search rules) c.in_ok-deal.ensures.sessions).all,
+)
+
+pub returns-then-are_whole-clause-ready : goal.returns-then-are_whole-clause-ready
+returns-then-are_whole-clause-ready g c = still_ready c.args.system.now c.args.orders.items c.args.first.now c.tell_all.new.first c.args.lanes.now c.tell_all.new.lanes c.requires.ready
+    (all_did c.args.system.now c.args.orders.items (seen_of c.tell_all.new.first) c.args.lanes.now c.deal.new.lanes c.run_at_once.new.lanes c.tell_all.new.lanes (search rules) c.requires.idle c.in_ok-deal.ensures.dealt c.run_at_once.ensures.ran c.tell_all.ensures.told)
+    c.tell_all.ensures.gathered
+
+pub returns-then-are_whole-clause-idle : goal.returns-then-are_whole-clause-idle
+returns-then-are_whole-clause-idle g c = still_idle c.args.system.now c.args.orders.items c.args.first.now c.tell_all.new.first c.args.lanes.now c.tell_all.new.lanes c.requires.ready
+    (all_did c.args.system.now c.args.orders.items (seen_of c.tell_all.new.first) c.args.lanes.now c.deal.new.lanes c.run_at_once.new.lanes c.tell_all.new.lanes (search rules) c.requires.idle c.in_ok-deal.ensures.dealt c.run_at_once.ensures.ran c.tell_all.ensures.told)
+    c.tell_all.ensures.gathered
+
+pub returns-then-are_whole-clause-ran : goal.returns-then-are_whole-clause-ran
+returns-then-are_whole-clause-ran g c =
+    let ok : All (λ (l : Lane). IsOk l.lines) c.tell_all.new.lanes = search rules in
+    carries_out c.args.system.now c.args.orders.items c.args.first.now c.tell_all.new.first c.args.lanes.now c.tell_all.new.lanes c.requires.ready
+    (all_did c.args.system.now c.args.orders.items (seen_of c.tell_all.new.first) c.args.lanes.now c.deal.new.lanes c.run_at_once.new.lanes c.tell_all.new.lanes (search rules) c.requires.idle c.in_ok-deal.ensures.dealt c.run_at_once.ensures.ran c.tell_all.ensures.told)
+    c.tell_all.ensures.gathered _ c.requires.sessions c.requires.rise ok
+
+pub returns-else-are_whole-clause-ready : goal.returns-else-are_whole-clause-ready
+returns-else-are_whole-clause-ready g c = still_ready c.args.system.now c.args.orders.items c.args.first.now c.tell_all.new.first c.args.lanes.now c.tell_all.new.lanes c.requires.ready
+    (all_did c.args.system.now c.args.orders.items (seen_of c.tell_all.new.first) c.args.lanes.now c.deal.new.lanes c.run_at_once.new.lanes c.tell_all.new.lanes (search rules) c.requires.idle c.in_ok-deal.ensures.dealt c.run_at_once.ensures.ran c.tell_all.ensures.told)
+    c.tell_all.ensures.gathered
+
+pub returns-else-are_whole-clause-ran : goal.returns-else-are_whole-clause-ran
+returns-else-are_whole-clause-ran g c =
+    carries_out c.args.system.now c.args.orders.items c.args.first.now c.tell_all.new.first c.args.lanes.now c.tell_all.new.lanes c.requires.ready
+    (all_did c.args.system.now c.args.orders.items (seen_of c.tell_all.new.first) c.args.lanes.now c.deal.new.lanes c.run_at_once.new.lanes c.tell_all.new.lanes (search rules) c.requires.idle c.in_ok-deal.ensures.dealt c.run_at_once.ensures.ran c.tell_all.ensures.told)
+    c.tell_all.ensures.gathered _ c.requires.sessions c.requires.rise tt

@@ -1,0 +1,15 @@
+use Rattle.std.proofs.Common.{◌≡◌, Ok, length, map}
+use Rattle.facet_phases.specs.Ending.{EndsPhases, moment}
+use Rattle.facet_phases.specs.Lanes.{AreIdle}
+use Rattle.facet_words.specs.Sessions.CommandViews.{order_view}
+use Rattle.facet_phases.specs.Running.{AreReady}
+use Rattle.facet_phases.proofs.phase.run_phases.Given as goal
+
+abbrev pub invariant-loop-orders : goal.invariant-loop-orders
+invariant-loop-orders g l = record {
+  ready : AreReady l.system l.first l.lanes;
+  many : length l.lanes ≡ length l.fn.lanes;
+  idle : AreIdle l.lanes;
+  ended : EndsPhases l.system (map (λ phase. map order_view phase.items) l.yielded) l.fn.first l.first l.fn.lanes l.lanes
+      (moment (g.K.Sink.faults l.fn.sink) (g.K.Sink.written l.fn.sink)) (moment (g.K.Sink.faults l.sink) (g.K.Sink.written l.sink)) (Ok tt);
+}

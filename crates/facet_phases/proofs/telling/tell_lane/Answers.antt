@@ -1,0 +1,19 @@
+use Rattle.std.proofs.Common.{rules, ◌≡◌, refl, subst}
+use Rattle.facet_output.specs.Seen.{Seen, IsTold}
+use Rattle.facet_engine.specs.Notes.{noted}
+use Rattle.facet_engine.specs.Steps.{seen_of}
+use Rattle.facet_phases.proofs.telling.tell_lane.Goals as goal
+
+pub returns-clause-told : goal.returns-clause-told
+returns-clause-told g c =
+    let old = c.args.lane.now.session in
+    let shown : Seen = noted c.args.notes.now in
+    let is : seen_of c.spread.new.to.pass ≡ shown = c.spread.ensures.told.all c.requires.knows in
+    record {
+      same = search rules;
+      held = search rules;
+      seen = is;
+      told = subst (λ (s : Seen). IsTold old.number (seen_of old.pass) s) is c.spread.ensures.told.told;
+      orders = refl;
+      lines = refl;
+    }

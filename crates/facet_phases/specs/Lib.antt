@@ -1,0 +1,5 @@
+pub mod Phases
+pub mod Orders
+pub mod Lanes
+pub mod Running
+pub mod Ending

@@ -1,0 +1,31 @@
+ghost use Rattle.std.specs.Prelude.{◌≡◌, ◌≤◌, [], ◌∷◌, length, All, OnOk};
+ghost use Rattle.facet_phases.specs.Lanes.{AreNumbered, Each, IsDealt};
+
+use crate::lane::Lane;
+use facet_names::NoMemory;
+use facet_words::sessions::Order;
+
+// Gives the order to its session.
+fn deal_one(lanes: &mut [Lane], order: Order) -> Result<(), NoMemory>
+    requires session { (1 ≤ order.session) × (order.session ≤ length lanes.old) }
+    requires numbered { AreNumbered 1 lanes.old }
+    ensures sessions { Each (λ old new. new.session ≡ old.session) lanes.old lanes.new }
+    ensures dealt { OnOk result (Each (IsDealt (order ∷ [])) lanes.old lanes.new) }
+{
+    let at = order.session as usize - 1;
+    lanes[at].orders.push(order)?;
+    Ok(())
+}
+
+/// Gives each session its orders, in their order. Where memory is wanting, some were not given.
+pub(crate) fn deal(lanes: &mut [Lane], orders: Vec<Order>) -> Result<(), NoMemory>
+    requires sessions { All (λ o. (1 ≤ o.session) × (o.session ≤ length lanes.old)) orders.items }
+    requires numbered { AreNumbered 1 lanes.old }
+    ensures sessions { Each (λ old new. new.session ≡ old.session) lanes.old lanes.new }
+    ensures dealt { OnOk result (Each (IsDealt orders.items) lanes.old lanes.new) }
+{
+    for order in orders {
+        deal_one(lanes, order)?;
+    }
+    Ok(())
+}

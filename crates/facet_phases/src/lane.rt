@@ -1,0 +1,62 @@
+ghost use Rattle.std.specs.Prelude.{All};
+ghost use Rattle.std.specs.List.{AllZip};
+ghost use Rattle.facet_phases.specs.Lanes.{LaneRan, MayRun};
+
+use crate::answering::answer_all;
+use crate::gate::Gate;
+use commit_turns::Start;
+use facet_disk::Disk;
+use facet_engine::{Session, System};
+use facet_names::NoMemory;
+use facet_words::sessions::Order;
+use std::alloc::Global;
+use std::sync::Wait;
+use std::thread::Threads;
+use std::{mem, thread};
+use taxo_cache::Name;
+
+/// A session with its orders of a phase, and the lines of its replies once it has run.
+#[derive(Drop)]
+pub struct Lane {
+    pub session: Session,
+    pub orders: Vec<Order>,
+    pub lines: Result<Vec<u8>, NoMemory>,
+}
+
+fn run_lane<D: Disk, N: Name + Start, R: Wait, G: Gate>(
+    rt: &R,
+    alloc: Global,
+    system: &System<D, N>,
+    gate: &G,
+    lane: &mut Lane,
+)
+    requires run { MayRun system.now lane.old }
+    ensures ran { LaneRan system.now lane.old lane.new }
+{
+    let orders = mem::replace(&mut lane.orders, Vec::new(alloc));
+    lane.lines = answer_all(rt, alloc, system, gate, &mut lane.session, orders);
+}
+
+/// Carries out the orders of all lanes at once, each lane on a thread of its own, and waits for all of them.
+pub(crate) fn run_at_once<
+    D: Disk,
+    N: Name + Start + Send + Sync,
+    R: Threads + Wait + Sync,
+    G: Gate + Sync,
+>(rt: &R, alloc: Global, system: &System<D, N>, gate: &G, lanes: &mut [Lane])
+    requires run { All (MayRun system.now) lanes.old }
+    ensures ran { AllZip (LaneRan system.now) lanes.old lanes.new }
+{
+    let threads = lanes.len().max(1);
+    thread::for_each_mut(
+        rt,
+        lanes,
+        threads,
+        &|_, lane| -> ()
+            requires { MayRun system.now lane.now }
+            ensures { LaneRan system.entry.now lane.entry.now lane.exit.now }
+        {
+            run_lane(rt, alloc, system, gate, lane);
+        },
+    );
+}

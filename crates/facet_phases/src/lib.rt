@@ -1,0 +1,21 @@
+//! Sessions that run at once, each on a thread of its own, phase after phase, over one engine.
+//!
+//! In a phase each session carries out its orders, one after the other, beside the other sessions. Between two phases each session is told what all others have
+//! seen.
+#![tactic(auto)]
+
+mod answering;
+mod dealing;
+mod fault;
+mod gate;
+mod lane;
+mod making;
+mod phase;
+mod telling;
+mod writing;
+
+pub use fault::PhaseFault;
+pub use gate::{Gate, OpenGate};
+pub use lane::Lane;
+pub use making::make_lanes;
+pub use phase::{carry_out_phase, run_phase, run_phases};

@@ -1,0 +1,42 @@
+ghost use Rattle.std.specs.Prelude.{◌≡◌, ◌≤◌, [], length, All, IfOk};
+ghost use Rattle.facet_engine.specs.Steps.{seen_of};
+ghost use Rattle.facet_engine.specs.Systems.{BelongsTo};
+ghost use Rattle.facet_phases.specs.Lanes.{AreIdle};
+ghost use Rattle.facet_phases.specs.Running.{AreReady, IsFirst};
+
+use crate::lane::Lane;
+use commit_turns::Start;
+use facet_disk::Disk;
+use facet_engine::System;
+use facet_names::NoMemory;
+use pair_manager::Pass;
+use std::alloc::Global;
+use taxo_cache::Name;
+
+/// The sessions 1 to `sessions`, which have seen what the first pass has, hold nothing and have no orders.
+pub fn make_lanes<D: Disk, N: Name + Start>(
+    alloc: Global,
+    system: &System<D, N>,
+    first: &mut Pass,
+    sessions: u32,
+) -> Result<Vec<Lane>, NoMemory>
+    requires own { BelongsTo system.now first.old }
+    requires first { IsFirst 0 first.old }
+    requires many { sessions ≤ 64 }
+    ensures seen { seen_of first.new ≡ seen_of first.old }
+    ensures ready { IfOk result (λ lanes. AreReady system.now first.new lanes.items) }
+    ensures many { IfOk result (λ lanes. length lanes.items ≡ sessions) }
+    ensures idle { IfOk result (λ lanes. AreIdle lanes.items) }
+    ensures held { IfOk result (λ lanes. All (λ l. l.session.held ≡ []) lanes.items) }
+{
+    let mut lanes = Vec::new(alloc);
+    for _ in 0..sessions {
+        let session = system.session(first);
+        lanes.push(Lane {
+            session,
+            orders: Vec::new(alloc),
+            lines: Ok(Vec::new(alloc)),
+        })?;
+    }
+    Ok(lanes)
+}
