@@ -1,5 +1,5 @@
 -- What the value stands for, carried over a longer note and over a commit.
-use Rattle.std.proofs.Common.{◌≡◌, ℕ, ◌≤◌, ◌+◌, List, [], ◌∷◌, ◌++◌, length, Option, Some, None, Ok, refl, sym, ap, subst, ◌∙◌, arith, inl, inr, All}
+use Rattle.std.proofs.Common.{◌≡◌, ℕ, ◌≤◌, ◌+◌, ◌-◌, ◌^◌, List, [], ◌∷◌, ◌++◌, length, Option, Some, None, Ok, refl, sym, ap, subst, ◌∙◌, arith, inl, inr, All}
 use Rattle.std.proofs.lemmas.List.{length-append}
 use Rattle.std.proofs.lemmas.List.Elements.{All-push, All-weaker}
 use Rattle.facet_disk.specs.Calls.{Rose}
@@ -34,6 +34,11 @@ pub none_unless : (o : Option ℕ) → ((n : ℕ) → o ≡ Some n → ⊥) → 
 none_unless None never = refl
 none_unless (Some n) never = absurd (never n refl)
 
+-- a count that rose from one on rose from each earlier one on
+rose_since : (first before now count : ℕ) → first ≤ before → count ≡ now → Rose before now → Rose first count
+rose_since first before now count later is (inl less) = inl (omega arith)
+rose_since first before now count later is (inr most) = inr (subst (λ (n : ℕ). 2 ^ 64 - 1 ≤ n) (sym is) most)
+
 one_longer : (p : CommitPoint) (es : List CommitPoint) → length (es ++ p ∷ []) ≡ length es + 1
 one_longer p es = length-append es (p ∷ [])
 
@@ -63,6 +68,7 @@ module _ {D : Type 0} (disk : Ghosts D) where
       };
       closed = st.closed;
       counted = st.counted;
+      rose = st.rose;
       numbers = st.numbers;
       tells = st.tells;
       followed = st.followed;
@@ -170,12 +176,13 @@ module _ {D : Type 0} (disk : Ghosts D) where
             failed = λ k is. subst (λ (n : ℕ). Rose n (disk.failures new.disk)) (known.unfailed none) (fails tells.0 tells.1 before.listed before.fresh);
           }
 
-      pub stands_failed : (count : ℕ) → new.closed ≡ Some count → count ≡ disk.faults new.disk → disk.faults old.disk ≤ disk.faults new.disk → new.state ≡ old.state → ((s : Told) → disk.told old.disk ≡ Some s → (u : Told) × (disk.told new.disk ≡ Some u))
+      pub stands_failed : (count : ℕ) → new.closed ≡ Some count → Rose (disk.faults old.disk) (disk.faults new.disk) → count ≡ disk.faults new.disk → disk.faults old.disk ≤ disk.faults new.disk → new.state ≡ old.state → ((s : Told) → disk.told old.disk ≡ Some s → (u : Told) × (disk.told new.disk ≡ Some u))
           → FailsDevice disk old new → PassesThree disk old new view segments → LeavesThree disk old new view segments → On new (failed_after last count) view docs (es ++ failed_after last count ∷ [])
-      stands_failed count closed is_count later state tells fails leaves ends = record {
+      stands_failed count closed rises is_count later state tells fails leaves ends = record {
         points = points_failed (disk.faults old.disk) (length view) (length docs) last es st.points count unfailed (disk.faults new.disk) (omega (arith, is_count));
         closed = sym closed;
         counted = omega (arith, st.counted, later);
+        rose = λ k is. let same : count ≡ k = cc is in subst (Rose (disk.faults start)) same (rose_since (disk.faults start) (disk.faults old.disk) (disk.faults new.disk) count st.counted is_count rises);
         numbers = let n : new.state.next ≡ old.state.next = ap (λ (s : Committed). s.next) state in omega (arith, n, one_longer (failed_after last count) es, st.numbers);
         tells = λ is. let before = st.tells is in tells before.0 before.1;
         followed = follows_failed count closed fails;
@@ -210,6 +217,7 @@ module _ {D : Type 0} (disk : Ghosts D) where
         points = points_made (disk.faults old.disk) (length view) (length docs) last es st.points unfailed (disk.faults new.disk);
         closed = sym unclosed;
         counted = omega (arith, st.counted, still);
+        rose = λ count is. absurd (cc is);
         numbers = omega (arith, one_longer (made (length docs) (length view)) es, st.numbers, takes);
         tells = λ is. let before = st.tells is in tells before.0 before.1;
         followed = followed;

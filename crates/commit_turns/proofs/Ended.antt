@@ -1,6 +1,7 @@
 -- What the value says when it is taken for good.
 use Rattle.std.proofs.Common.{◌≡◌, ℕ, ◌≤◌, List, Some, None, sym, ap, subst, ◌∙◌, All}
 use Rattle.std.proofs.lemmas.List.Elements.{All-push, All-weaker}
+use Rattle.facet_disk.specs.Calls.{Rose}
 use Rattle.facet_disk.specs.Images.{Image, Told}
 use Rattle.facet_disk.specs.declared.disk.Disk.{Ghosts}
 use Rattle.facet_model.specs.Documents.{Doc}
@@ -17,16 +18,22 @@ use Rattle.pair_manager.specs.declared.point.CommitPoint.{CommitPoint}
 use Rattle.commit_turns.proofs.Carried.{On, last_files}
 use Rattle.commit_turns.proofs.Pointed.{last_push}
 
-abbrev Counts : ℕ → CommitPoint → Type 0
-Counts faults p = (count : ℕ) → p.failed ≡ Some count → count ≤ faults
+-- where a commit failed, so of the count
+abbrev AtFailure : (ℕ → Type 0) → CommitPoint → Type 0
+AtFailure P p = (count : ℕ) → p.failed ≡ Some count → P count
 
 module _ {D : Type 0} (disk : Ghosts D) (told settled : Type 0) (start : D) (begun : Committed) (committer : CommitterView D) (last : CommitPoint) (labels : Labels) (docs : List Doc) (es : List CommitPoint)
     (st : On disk told settled start begun committer last labels docs es) where
-  pub counts : All (Counts (disk.faults committer.disk)) es
-  counts =
-      let few : ℕ = disk.faults committer.disk in
-      subst (λ (l : List CommitPoint). All (Counts few) l) (sym st.points.ends)
-      (All-push (Counts few) st.points.before last (All-weaker (λ (p : CommitPoint). p.failed ≡ None) (Counts few) (λ p none count some. absurd (cc (sym none ∙ some))) st.points.before st.points.unfailed) st.points.counts)
+  -- what holds of the last count holds of each
+  each_failed : (P : ℕ → Type 0) → AtFailure P last → All (AtFailure P) es
+  each_failed P here = subst (λ (l : List CommitPoint). All (AtFailure P) l) (sym st.points.ends)
+      (All-push (AtFailure P) st.points.before last (All-weaker (λ (p : CommitPoint). p.failed ≡ None) (AtFailure P) (λ p none count some. absurd (cc (sym none ∙ some))) st.points.before st.points.unfailed) here)
+
+  pub counts : All (AtFailure (λ count. count ≤ disk.faults committer.disk)) es
+  counts = each_failed (λ count. count ≤ disk.faults committer.disk) st.points.counts
+
+  pub rose : All (AtFailure (Rose (disk.faults start))) es
+  rose = each_failed (Rose (disk.faults start)) st.rose
 
   ends : last_of es ≡ last
   ends = ap last_of st.points.ends ∙ last_push st.points.before last

@@ -65,6 +65,7 @@ module _ {D : Type 0} (disk : Ghosts D) where
     pub points : ArePoints (disk.faults committer.disk) (length labels) (length docs) last es
     pub closed : last.failed ≡ committer.closed
     pub counted : disk.faults start ≤ disk.faults committer.disk
+    pub rose : (count : ℕ) → last.failed ≡ Some count → Rose (disk.faults start) count
     pub numbers : committer.state.next + 1000003 ≤ begun.next + 1000003 * length es
     pub tells : told → (s : Told) × (disk.told committer.disk ≡ Some s)
     pub followed : told → IsFollowed start committer

@@ -1,6 +1,7 @@
 ghost use Rattle.std.specs.Prelude.{◌≡◌, ◌≤◌, ◌∷◌, [], ℕ, Some, All};
 ghost use Rattle.chronicle.specs.History.{entries};
 ghost use Rattle.chronicle.specs.Shown.{SeesOn, EndsWith, MayTake};
+ghost use Rattle.facet_disk.specs.Calls.{Rose};
 ghost use Rattle.facet_disk.specs.Images.{Told};
 ghost use Rattle.facet_model.specs.ConfigTexts.{config_texts};
 ghost use Rattle.facet_model.specs.Flags.{Config};
@@ -40,8 +41,10 @@ pub fn end_commits<
     requires idle { MayTake seen_labels.old × MayTake seen_operations.old × MayTake token.old }
     requires tied { token.old.frame.identities ≡ seen_operations.old.identity ∷ seen_labels.old.identity ∷ [] }
 
-    // The disk counts at least the faults of each commit that failed on it, and no fewer than when opening began.
+    // The disk counts at least the faults of each commit that failed on it, whose count rose since opening began, and no fewer than then.
     ensures counts { All (λ p. (count : ℕ) → p.failed ≡ Some count → count ≤ D.faults result) (entries token.new.seen) }
+    ensures rose { (first moment faults failures : ℕ) → HasNumbers first moment faults failures token.old.frame
+        → All (λ p. (count : ℕ) → p.failed ≡ Some count → Rose faults count) (entries token.new.seen) }
     ensures later { (first moment faults failures : ℕ) → HasNumbers first moment faults failures token.old.frame → faults ≤ D.faults result }
 
     // Where the disk told its files when opening began, it still does, and its device failed exactly where a commit failed on it.

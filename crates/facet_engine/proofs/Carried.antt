@@ -9,7 +9,7 @@ use Rattle.facet_output.specs.Commands.{Command}
 use Rattle.facet_output.specs.Held.{Held, held_after, after_command, is_numbered}
 use Rattle.facet_output.specs.Replies.{Reply}
 use Rattle.facet_engine.specs.declared.session.Session.{Session}
-use Rattle.facet_engine.specs.Calls.{SameSession, IsCall, HoldsAfter, IsCarriedOut}
+use Rattle.facet_engine.specs.Calls.{SameSession, IsCall, HoldsAfter, SpendsWithin, IsCarriedOut}
 use Rattle.facet_engine.specs.Systems.{Engine}
 use Rattle.facet_engine.specs.HeldPairs.{HeldPair, without, numbers_of, numbers_held}
 use Rattle.facet_engine.specs.Steps.{step_of, pair_held, released}
@@ -42,5 +42,5 @@ module _ (engine : Engine) (old new : Session) where
 
   -- a call was carried out that is such a step
   pub carried : (command : Command) (took : Option (ℕ × ℕ)) (place : Option ℕ) (reply given : Reply) → given ≡ reply → SameSession old new → HoldsAfter old new (step_of command took place reply old.pass new.pass)
-      → IsCall engine old (step_of command took place reply old.pass new.pass) → IsCarriedOut engine old new command given
-  carried command took place reply given is same holds step = subst (λ (r : Reply). IsCarriedOut engine old new command r) (sym is) (record { same = same; took = took; place = place; step = step; holds = holds })
+      → IsCall engine old (step_of command took place reply old.pass new.pass) → SpendsWithin old.pass new.pass reply → IsCarriedOut engine old new command given
+  carried command took place reply given is same holds step spent = subst (λ (r : Reply). IsCarriedOut engine old new command r) (sym is) (record { same = same; took = took; place = place; step = step; holds = holds; spent = spent })

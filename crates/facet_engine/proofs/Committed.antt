@@ -26,7 +26,7 @@ use Rattle.facet_engine.specs.Sessions.{HaveOneNumber}
 use Rattle.facet_engine.specs.Replies.{commit_reply}
 use Rattle.facet_engine.specs.Steps.{seen_of, point_of, committed}
 use Rattle.facet_engine.proofs.Seeing.{told, told_begins, told_none, told_behind, labels_none, operations_none, pairs_none, same_sees_on}
-use Rattle.facet_engine.proofs.Refreshed.{many_operations, many_in_history}
+use Rattle.facet_engine.proofs.Refreshed.{many_operations, many_in_history, more_labels}
 
 -- ---- failures among points
 
@@ -59,7 +59,7 @@ none_between {A} n old before new ps begins seen own mine_is =
 pub one_own : {A : Type 0} (n : ℕ) (x : A) → entered_by n ((n, x) ∷ []) ≡ (n, x) ∷ []
 one_own n x = let e : eqb n n ≡ true = eq-eqb n n refl in rw e refl
 
-module _ (labels n : ℕ) (old new : Shown Point) (is : old.is_note ≡ false) (at : old.number ≡ n) (same : SameToken old new) where
+module _ (labels least n : ℕ) (old new : Shown Point) (is : old.is_note ≡ false) (at : old.number ≡ n) (same : SameToken old new) (enough : least ≤ labels) where
   own_old : mine old ≡ entered_by n old.seen
   own_old = λ i. own_of (is i) (at i) old.seen
 
@@ -82,8 +82,8 @@ module _ (labels n : ℕ) (old new : Shown Point) (is : old.is_note ≡ false) (
   all_unfailed : (result : Result ℕ CommitFault) (e : Enters labels old new result) → ((count : ℕ) → result ≢ Err (faults.Closed count)) → failures (told point_of e.before) ≡ []
   all_unfailed result e never = told_failures e.before ∙ none_failed (entries e.before) (e.unfailed never)
 
-  pub commit_enters : (result : Result ℕ CommitFault) → Enters labels old new result → EntersCommit n (commit_reply result) (told point_of old.seen) (told point_of new.seen)
-  commit_enters (Ok k) e = ((told point_of e.before, point_of (made k labels), entered_one (Ok k) e (made k labels) e.seen e.mine, all_unfailed (Ok k) e (λ count f. absurd (cc f)), refl), refl)
+  pub commit_enters : (result : Result ℕ CommitFault) → Enters labels old new result → EntersCommit n least (commit_reply result) (told point_of old.seen) (told point_of new.seen)
+  commit_enters (Ok k) e = ((told point_of e.before, point_of (made k labels), entered_one (Ok k) e (made k labels) e.seen e.mine, all_unfailed (Ok k) e (λ count f. absurd (cc f)), refl), refl, enough)
   commit_enters (Err (faults.Disk count)) e =
       let p = failed_after (last_of (entries e.before)) count in
       (told point_of e.before, point_of p, entered_one (Err (faults.Disk count)) e p e.seen e.mine, all_unfailed (Err (faults.Disk count)) e (λ k f. absurd (cc f)), refl)
@@ -123,8 +123,9 @@ module _ (settings : Settings) (held : Held) (phase line number : ℕ) (old new 
       → IfErr result (λ e. (number : ℕ) → e ≡ faults.NumbersSpent number → 2 ^ 63 ≤ number) → IsStep settings held (committed old new result phase line)
   commit_step result e answer limit = by result e answer limit
     where
-      refusal : (result : Result ℕ CommitFault) → Enters (length (labels_of new.labels.seen)) old.commits new.commits result → EntersCommit n (commit_reply result) (seen_of old).commits (seen_of new).commits
-      refusal result e = commit_enters (length (labels_of new.labels.seen)) n old.commits new.commits old.commits_rest.0 (have.3 ∙ sym have.0) same.commits result e
+      refusal : (result : Result ℕ CommitFault) → Enters (length (labels_of new.labels.seen)) old.commits new.commits result → EntersCommit n (length (labels_of old.labels.seen)) (commit_reply result) (seen_of old).commits (seen_of new).commits
+      refusal result e = commit_enters (length (labels_of new.labels.seen)) (length (labels_of old.labels.seen)) n old.commits new.commits old.commits_rest.0 (have.3 ∙ sym have.0) same.commits
+          (more_labels old.labels.seen new.labels.seen labels.0) result e
 
       by : (result : Result ℕ CommitFault) → Enters (length (labels_of new.labels.seen)) old.commits new.commits result → IfOk result (λ k. k ≡ length new.operations.seen)
           → IfErr result (λ e. (number : ℕ) → e ≡ faults.NumbersSpent number → 2 ^ 63 ≤ number) → IsStep settings held (committed old new result phase line)

@@ -26,9 +26,9 @@ use Rattle.pair_manager.specs.declared.publication.Publication.{Publication}
 use Rattle.pair_manager.specs.Published.{numbers}
 use Rattle.facet_output.specs.Seen.{IsTold, EntersNone, history_of}
 use Rattle.facet_engine.specs.declared.notes.Notes.{Notes}
-use Rattle.facet_engine.specs.Ending.{AreUpTo, ArePublished}
+use Rattle.facet_engine.specs.Ending.{AreUpTo, ArePublished, NamesOwn}
 use Rattle.facet_engine.specs.Notes.{noted}
-use Rattle.facet_engine.specs.Sessions.{HaveOneNumber}
+use Rattle.facet_engine.specs.Sessions.{HaveOneNumber, NamesSession}
 use Rattle.facet_engine.specs.Steps.{seen_of, point_of}
 use Rattle.facet_engine.specs.Telling.{HaveMade}
 use Rattle.facet_engine.proofs.Seeing.{told, told_none}
@@ -110,6 +110,13 @@ module _ (first : Pass) (have : HaveOneNumber 0 first) (notes : Notes) (labels :
     pairs = no_pairs.1;
     commits = no_commits.1;
   }
+
+  -- each of its own operations tells its session
+  pub ended_named : NamesSession 0 first → NamesOwn 0 notes
+  ended_named named =
+      let none = ends_none 0 first.operations operations notes.operations first.operations_rest.0 have.1 operations_end in
+      subst (All (λ (e : ℕ × Operation). e.1.session ≡ 0)) (sym none.1)
+      (subst (All (λ (e : ℕ × Operation). e.1.session ≡ 0)) (λ i. own_of (first.operations_rest.0 i) (have.1 i) first.operations.seen) named)
 
   -- under numbers that were given
   pub ended_up_to : (made : ℕ) → HaveMade made first → AreUpTo made (noted notes)

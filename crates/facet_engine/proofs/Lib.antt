@@ -15,4 +15,5 @@ pub mod Stored
 pub mod Entered
 pub mod Appended
 pub mod Added
+pub mod Spent
 pub mod Carried

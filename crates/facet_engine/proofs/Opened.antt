@@ -1,7 +1,10 @@
 -- What was opened, as the first tokens have seen it.
-use Rattle.std.proofs.Common.{◌≡◌, ◌∙◌, ℕ, List, [], ◌∷◌, length, drop, map, refl, ap, arith}
+use Rattle.std.proofs.Common.{◌≡◌, ◌∙◌, ℕ, eqb, Bool, true, false, List, [], ◌∷◌, length, drop, map, refl, sym, ap, subst, arith}
+use Rattle.std.specs.Prelude.{All}
 use Rattle.std.proofs.lemmas.List.{length-map}
-use Rattle.chronicle.specs.History.{entries, numbered}
+use Rattle.std.proofs.lemmas.List.Elements.{All-cons, All-filter, All-nil}
+use Rattle.chronicle.specs.History.{entries, numbered, own_of}
+use Rattle.chronicle.specs.Shown.{Shown, mine}
 use Rattle.chronicle.proofs.Entries.{entries-numbered}
 use Rattle.commit_turns.specs.Points.{made}
 use Rattle.commit_turns.specs.Seen.{docs_of}
@@ -44,6 +47,22 @@ docs_seen ds operations is = ap docs_of is ∙ ap docs (entries-numbered 0 (open
 
 pub many_seen : (ds : List Doc) (operations : List (ℕ × Operation)) → operations ≡ numbered 0 (opened ds) → length operations ≡ length ds
 many_seen ds operations is = ap length is ∙ opened_many ds
+
+-- an operation of what was opened
+abbrev IsOpened : ℕ × Operation → Type 0
+IsOpened e = e.1.session ≡ 0
+
+all_opened : (ds : List Doc) → All IsOpened (numbered 0 (opened ds))
+all_opened [] = All-nil IsOpened
+all_opened (d ∷ ds) = All-cons IsOpened (0, record { session = 0; doc = d }) (numbered 0 (opened ds)) refl (all_opened ds)
+
+own_opened : (note : Bool) (n : ℕ) (es : List (ℕ × Operation)) → All IsOpened es → All IsOpened (own_of note n es)
+own_opened true n es all = All-nil IsOpened
+own_opened false n es all = All-filter (λ (e : ℕ × Operation). eqb e.0 n) IsOpened es all
+
+-- those that a token entered are of session 0
+pub opened_named : (ds : List Doc) (token : Shown Operation) → token.seen ≡ numbered 0 (opened ds) → All (λ (e : ℕ × Operation). e.1.session ≡ 0) (mine token)
+opened_named ds token is = own_opened token.is_note token.number token.seen (subst (λ (l : List (ℕ × Operation)). All IsOpened l) (sym is) (all_opened ds))
 
 -- all four, as plain data
 abbrev pub all_of : List (ℕ × List (List ℕ)) → List (ℕ × Operation) → List (ℕ × Publication) → List (ℕ × Point) → Seen

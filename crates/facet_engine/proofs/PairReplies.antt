@@ -73,13 +73,13 @@ module _ (settings : Settings) (held : List HeldPair) (phase line number : ℕ) 
   -- a right reply of the last pair
   last_step : (command : Command) (reply : Reply) (p : Publication) → IsLast p (entries new.pairs.seen) → p.operations ≤ length new.operations.seen → p.labels ≤ length (labels_of new.labels.seen)
       → IsRight settings (plain_labels (seen_of new)) (history_of (seen_of new)) (numbers_held held) n command (Some (numbers p)) reply → placed_by n command reply ≡ None → refreshed_by command reply ≡ None → stood_by command reply ≡ None
-      → (EntersNone n (seen_of old).commits (seen_of new).commits → EntersPoints n command reply (seen_of old).commits (seen_of new).commits) → IsStep settings (numbers_held held) (taking command (last_pair new) reply old new phase line)
+      → (EntersNone n (seen_of old).commits (seen_of new).commits → EntersPoints n (length (plain_labels (seen_of old))) command reply (seen_of old).commits (seen_of new).commits) → IsStep settings (numbers_held held) (taking command (last_pair new) reply old new phase line)
   last_step command reply p last few_operations few_labels right placed refreshed stood points =
       taking_last settings (numbers_held held) phase line number old new have same labels operations pairs commits command reply p last few_operations few_labels (inl right) placed refreshed stood points
 
   -- a right reply, or one that there was no memory, of no pair that was taken
   none_step : (command : Command) (reply : Reply) → RightReply settings (plain_labels (seen_of new)) (history_of (seen_of new)) (numbers_held held) (taking command None reply old new phase line).answered → placed_by n command reply ≡ None → refreshed_by command reply ≡ None → stood_by command reply ≡ None
-      → (EntersNone n (seen_of old).commits (seen_of new).commits → EntersPoints n command reply (seen_of old).commits (seen_of new).commits) → IsStep settings (numbers_held held) (taking command None reply old new phase line)
+      → (EntersNone n (seen_of old).commits (seen_of new).commits → EntersPoints n (length (plain_labels (seen_of old))) command reply (seen_of old).commits (seen_of new).commits) → IsStep settings (numbers_held held) (taking command None reply old new phase line)
   none_step = taking_none settings (numbers_held held) phase line number old new have same labels operations pairs commits
 
   module _ (pair : Published) (seen : HasSeen new pair) where

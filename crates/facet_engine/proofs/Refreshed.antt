@@ -26,6 +26,12 @@ many_operations seen = let doc : ℕ × Operation → ℕ × Doc = λ e. (e.0, e
 pub many_in_history : (pass : Pass) → length (history_of (seen_of pass)) ≡ length pass.operations.seen
 many_in_history pass = length-map (seen_of pass).operations (λ (e : ℕ × Doc). record { session = e.0; doc = e.1 }) ∙ many_operations pass.operations.seen
 
+-- who has seen more has seen no fewer labels
+pub more_labels : (xs ys : List (ℕ × List (List ℕ))) → IsPrefix xs ys → length (labels_of xs) ≤ length (labels_of ys)
+more_labels xs ys begins =
+    let path : ℕ × List (List ℕ) → List (List ℕ) = λ e. e.1 in
+    omega (arith, length-map xs path, length-map ys path, ap length (sym begins.1) ∙ length-append xs begins.0)
+
 module _ (settings : Settings) (held : Held) (phase line number : ℕ) (old new : Pass) (have : HaveOneNumber number old) (same : SamePass old new) (labels : SeesOn old.labels new.labels) (operations : SeesOn old.operations new.operations)
     (pairs : IsPrefix old.pairs.seen new.pairs.seen) (commits : new.commits ≡ old.commits) where
   abbrev n : ℕ
@@ -52,7 +58,6 @@ module _ (settings : Settings) (held : Held) (phase line number : ℕ) (old new 
       let size : length new.pairs.seen ≡ length enters.between + 1 = ap length enters.seen ∙ length-append enters.between ((old.pairs.number, all) ∷ []) in
       let number : ℕ × Publication → ℕ × (ℕ × ℕ) = λ e. (e.0, numbers e.1) in
       let pairs_told : length (told numbers new.pairs.seen) ≡ length new.pairs.seen = length-map new.pairs.seen number in
-      let grown : length (labels_of old.labels.seen) ≤ length (labels_of new.labels.seen) = omega (arith, length-map old.labels.seen (λ (x : ℕ × List (List ℕ)). x.1), length-map new.labels.seen (λ (x : ℕ × List (List ℕ)). x.1), ap length (sym labels.0.1) ∙ length-append old.labels.seen labels.0.0) in
       record {
         sees = sees_all;
         right = inl (k, omega (arith, answer, many_in_history new), refl);
@@ -62,7 +67,7 @@ module _ (settings : Settings) (held : Held) (phase line number : ℕ) (old new 
           told numbers enters.between,
           length (labels_of new.labels.seen),
           subst (λ (j : ℕ). Behind n (j, length (labels_of new.labels.seen)) (seen_of old).pairs (told numbers enters.between) (seen_of new).pairs) (sym answer) own,
-          grown,
+          more_labels old.labels.seen new.labels.seen labels.0,
           omega arith,
         );
         commits = no_commits;

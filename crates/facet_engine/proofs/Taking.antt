@@ -104,7 +104,7 @@ module _ (settings : Settings) (held : Held) (phase line number : ℕ) (old new 
   -- a command that enters nothing, and takes no pair
   pub taking_none : (command : Command) (reply : Reply) → RightReply settings (plain_labels (seen_of new)) (history_of (seen_of new)) held (taking command None reply old new phase line).answered
       → placed_by n command reply ≡ None → refreshed_by command reply ≡ None → stood_by command reply ≡ None
-      → (EntersNone n (seen_of old).commits (seen_of new).commits → EntersPoints n command reply (seen_of old).commits (seen_of new).commits)
+      → (EntersNone n (seen_of old).commits (seen_of new).commits → EntersPoints n (length (plain_labels (seen_of old))) command reply (seen_of old).commits (seen_of new).commits)
       → IsStep settings held (taking command None reply old new phase line)
   taking_none command reply right placed refreshed stood points = record {
     sees = sees_all;
@@ -122,7 +122,7 @@ module _ (settings : Settings) (held : Held) (phase line number : ℕ) (old new 
   pub taking_last : (command : Command) (reply : Reply) (p : Publication) → IsLast p (entries new.pairs.seen) → p.operations ≤ length new.operations.seen → p.labels ≤ length (labels_of new.labels.seen)
       → RightReply settings (plain_labels (seen_of new)) (history_of (seen_of new)) held (taking command (Some (numbers p)) reply old new phase line).answered
       → placed_by n command reply ≡ None → refreshed_by command reply ≡ None → stood_by command reply ≡ None
-      → (EntersNone n (seen_of old).commits (seen_of new).commits → EntersPoints n command reply (seen_of old).commits (seen_of new).commits)
+      → (EntersNone n (seen_of old).commits (seen_of new).commits → EntersPoints n (length (plain_labels (seen_of old))) command reply (seen_of old).commits (seen_of new).commits)
       → IsStep settings held (taking command (last_pair new) reply old new phase line)
   taking_last command reply p last within_operations within_labels right placed refreshed stood points =
       subst (λ (took : Option (ℕ × ℕ)). IsStep settings held (taking command took reply old new phase line)) (sym (last_is new p last)) (record {

@@ -62,7 +62,7 @@ many_told {A} {B} f xs = let each : ℕ × A → ℕ × B = λ e. (e.0, f e.1) i
 
 module _ {A B : Type 0} (f : A → B) (old new other : Shown A) (met : HasMet old new other) where
   -- where it had seen no more than the other, it has seen just that
-  meets_all : IsPrefix (told f old.seen) (told f other.seen) → new.seen ≡ other.seen
+  pub meets_all : IsPrefix (told f old.seen) (told f other.seen) → new.seen ≡ other.seen
   meets_all p =
       let within = prefix_length (told f old.seen) (told f other.seen) p in
       met.longest ∙ longer_is old.seen other.seen met.one (omega (arith, within, many_told f old.seen, many_told f other.seen))

@@ -88,7 +88,7 @@ fn entry_of(
     })
 }
 
-// The ordinals of the prefixes of each label. Each label has the turn of the labels for itself, and it is not held afterwards.
+// The ordinals of the prefixes of each label. The labels have one turn together where any is missing, and it is not held afterwards.
 fn resolve_labels<N: Name, R: Wait>(
     rt: &R,
     manager: &Manager<N>,
@@ -188,8 +188,8 @@ impl<D: Disk, N: Name + Start> System<D, N> {
     /// Adds a document behind all others, and answers its place. Its labels are resolved first, and stay where it is refused then. What the config does not
     /// accept is refused before that.
     ///
-    /// For each label that is not in the cache it waits for the turn of the labels, and then for that of the operations; it holds one at a time. The document
-    /// is copied once before.
+    /// Where a label is not in the cache it waits for the turn of the labels, once for all of them, and then for that of the operations; it holds one at a
+    /// time. The document is copied once before.
     pub fn add<R: Wait>(
         &self,
         rt: &R,

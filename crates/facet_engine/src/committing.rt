@@ -1,6 +1,7 @@
 ghost use Rattle.std.specs.Prelude.{◌≡◌};
 ghost use Rattle.facet_engine.specs.Systems.{BelongsTo};
-ghost use Rattle.facet_engine.specs.Calls.{IsCall, SameSession};
+ghost use Rattle.facet_engine.specs.Calls.{IsCall, SameSession, SpendsWithin};
+ghost use Rattle.facet_engine.specs.Replies.{commit_reply};
 ghost use Rattle.facet_engine.specs.Steps.{committed};
 
 use crate::session::Session;
@@ -21,6 +22,7 @@ impl<D: Disk, N: Name + Start> System<D, N> {
         ensures same { SameSession session.old session.new }
         ensures held { session.new.held ≡ session.old.held }
         ensures step { IsCall self.now session.old (committed session.old.pass session.new.pass result) }
+        ensures spent { SpendsWithin session.old.pass session.new.pass (commit_reply result) }
     {
         commit(rt, &self.commits, &self.manager, &mut session.pass)
     }

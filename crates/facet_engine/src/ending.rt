@@ -1,5 +1,6 @@
 ghost use Rattle.std.specs.Prelude.{◌≡◌, ◌≤◌, ℕ, Some, All, map};
 ghost use Rattle.chronicle.specs.History.{entries};
+ghost use Rattle.facet_disk.specs.Calls.{Rose};
 ghost use Rattle.facet_disk.specs.Images.{Told};
 ghost use Rattle.facet_model.specs.ConfigTexts.{config_texts};
 ghost use Rattle.facet_model.specs.Flags.{Config};
@@ -9,9 +10,9 @@ ghost use Rattle.commit_turns.specs.Ending.{Lasts, FailsWith};
 ghost use Rattle.commit_turns.specs.Frames.{HasNumbers};
 ghost use Rattle.commit_turns.specs.Points.{last_of};
 ghost use Rattle.commit_turns.specs.Seen.{docs_of};
-ghost use Rattle.facet_engine.specs.Ending.{AreUpTo, ArePublished};
+ghost use Rattle.facet_engine.specs.Ending.{AreUpTo, ArePublished, NamesOwn};
 ghost use Rattle.facet_engine.specs.Notes.{noted, AreOf};
-ghost use Rattle.facet_engine.specs.Sessions.{HaveOneNumber};
+ghost use Rattle.facet_engine.specs.Sessions.{HaveOneNumber, NamesSession};
 ghost use Rattle.facet_engine.specs.Steps.{seen_of};
 ghost use Rattle.facet_engine.specs.Systems.{BelongsTo};
 ghost use Rattle.facet_engine.specs.Telling.{HaveMade};
@@ -57,9 +58,12 @@ impl<D: Disk, N: Name + Start> System<D, N> {
         ensures own { AreOf self.now result.notes }
         ensures told { IsTold 0 (seen_of first) (noted result.notes) }
         ensures numbers { (made : ℕ) → HaveMade made first → AreUpTo made (noted result.notes) }
+        ensures named { NamesSession 0 first → NamesOwn 0 result.notes }
 
-        // The disk counts at least the faults of each commit that failed on it, and no fewer than when opening began.
+        // The disk counts at least the faults of each commit that failed on it, whose count rose since opening began, and no fewer than then.
         ensures counts { All (λ p. (count : ℕ) → p.failed ≡ Some count → count ≤ D.faults result.disk) (entries result.notes.commits.seen) }
+        ensures rose { (next moment faults failures : ℕ) → HasNumbers next moment faults failures first.commits.frame
+            → All (λ p. (count : ℕ) → p.failed ≡ Some count → Rose faults count) (entries result.notes.commits.seen) }
         ensures later { (next moment faults failures : ℕ) → HasNumbers next moment faults failures first.commits.frame → faults ≤ D.faults result.disk }
 
         // Where the disk told its files when opening began, it still does, and its device failed exactly where a commit failed on it.

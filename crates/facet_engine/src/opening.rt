@@ -19,7 +19,7 @@ ghost use Rattle.pair_manager.specs.Published.{ArePublications, pair_frame, seen
 ghost use Rattle.taxo_cache.specs.Seen.{labels_of, SeesLabels};
 ghost use Rattle.commit_turns.specs.Opening.{WasSettled};
 ghost use Rattle.facet_engine.specs.Opening.{IsReady, opened_of};
-ghost use Rattle.facet_engine.specs.Sessions.{HaveOneNumber};
+ghost use Rattle.facet_engine.specs.Sessions.{HaveOneNumber, NamesSession};
 ghost use Rattle.facet_engine.specs.Steps.{seen_of};
 ghost use Rattle.facet_engine.specs.Systems.{BelongsTo, HasSettings};
 ghost use Rattle.facet_engine.specs.Telling.{HaveMade};
@@ -181,6 +181,7 @@ impl<D: Disk, N: Name + Start> System<D, N> {
         // The pass has seen what was opened.
         ensures own { IfOk result (λ r. BelongsTo r.0 r.1) }
         ensures first { IfOk result (λ r. HaveOneNumber 0 r.1 × HaveMade 0 r.1) }
+        ensures named { IfOk result (λ r. NamesSession 0 r.1) }
         ensures settings { IfOk result (λ r. HasSettings r.0 r.1 (settings_view settings)) }
         ensures seen { IfOk result (λ r. seen_of r.1 ≡ opened_seen (opened_of store)) }
 

@@ -2,6 +2,7 @@ ghost use Rattle.std.specs.Prelude.{◌≡◌, ◌<◌, ◌+◌, ◌-◌, ◌^�
 ghost use Rattle.chronicle.specs.History.{entries};
 ghost use Rattle.chronicle.specs.Shown.{IsCounted, IsNoteOf};
 ghost use Rattle.taxo_cache.specs.Seen.{SeesLabels};
+ghost use Rattle.facet_output.specs.Seen.{Sees};
 ghost use Rattle.pair_manager.specs.Published.{ArePublications};
 ghost use Rattle.facet_engine.specs.Calls.{SameSession};
 ghost use Rattle.facet_engine.specs.Notes.{noted, AreOf};
@@ -75,6 +76,7 @@ impl<D: Disk, N: Name + Start> System<D, N> {
         ensures notes { of.new ≡ of.old }
         ensures own { AreOf self.now result }
         ensures seen { noted result ≡ noted of.old }
+        ensures operations { result.operations.seen ≡ of.old.operations.seen }
     {
         self.note_each(
             &mut of.labels,
@@ -87,7 +89,8 @@ impl<D: Disk, N: Name + Start> System<D, N> {
     // Tells the pass what the notes show.
     fn meet_all(&self, pass: &mut Pass, notes: Notes)
         requires own { BelongsTo self.now pass.old × AreOf self.now notes }
-        ensures told { (number : ℕ) → HaveOneNumber number pass.old → Meets number pass.old pass.new (noted notes) }
+        ensures told { (number : ℕ) → HaveOneNumber number pass.old → Meets number pass.old pass.new (noted notes)
+            × (Sees (seen_of pass.old) (noted notes) → pass.new.operations.seen ≡ notes.operations.seen) }
     {
         let Notes {
             labels,
@@ -113,6 +116,7 @@ impl<D: Disk, N: Name + Start> System<D, N> {
         ensures own { BelongsTo self.now first.new × BelongsTo self.now result.pass }
         ensures counted { AreCounted first.new }
         ensures seen { (seen_of first.new ≡ seen_of first.old) × (seen_of result.pass ≡ seen_of first.old) }
+        ensures frames { (result.pass.operations.frame ≡ first.old.operations.frame) × (result.pass.commits.frame ≡ first.old.commits.frame) }
         ensures number { result.number ≡ first.old.labels.made + 1 }
         ensures held { result.held ≡ [] }
     {
@@ -152,6 +156,7 @@ impl<D: Disk, N: Name + Start> System<D, N> {
         ensures same { SameSession to.old to.new }
         ensures held { to.new.held ≡ to.old.held }
         ensures told { Meets to.old.number to.old.pass to.new.pass (noted notes.old) }
+        ensures operations { Sees (seen_of to.old.pass) (noted notes.old) → to.new.pass.operations.seen ≡ notes.old.operations.seen }
     {
         let notes = self.notes_again(notes);
         self.meet_all(&mut to.pass, notes);

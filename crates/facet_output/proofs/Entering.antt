@@ -12,7 +12,7 @@ use Rattle.facet_words.specs.Commands.{Settings}
 use Rattle.facet_output.specs.Answered.{comes_after}
 use Rattle.facet_words.specs.Sessions.Commands.{Command, Order, add, refresh, hold, release, search, document, stats, commit}
 use Rattle.facet_output.specs.Held.{Held}
-use Rattle.facet_output.specs.Output.{Opened, is_entered}
+use Rattle.facet_output.specs.Output.{Opened, has_shown, is_entered}
 use Rattle.facet_replies.specs.Replies.{Reply, refused, no_memory}
 use Rattle.facet_output.specs.Replying.{IsAdded, IsResolved, IsOf, IsRight, pair_seen, numbers_of}
 use Rattle.facet_output.specs.Seen.{Seen, labels_of, history_of}
@@ -109,6 +109,17 @@ module _ (settings : Settings) (phases : List (List Order)) (opened : Opened) (r
       by_place None each = refl
       by_place (Some k) each = each k refl
 
+  -- what had been shown to the session of a step is among the first labels, where what the step began with is
+  pub shown_among : (x : Step) → In x (steps_of ran) → (n : ℕ) → length (labels_of x.before) ≤ n → has_shown (labels_of last) last.pairs (answers (steps_of ran)) x.answered n ≡ true
+  shown_among x there n many = all_steps (steps_of ran) (λ b. not (comes_after x.answered b) || labels_among last.pairs (take n (labels_of last)) b) (λ b among.
+      implied (comes_after x.answered b.answered) _ (λ after.
+      let g = facts settings phases opened ran last all b among in
+      let sees = after_sees settings phases opened ran last all b x among there after in
+      let l = prefix_length b.after.labels x.before.labels sees.labels in
+      let size = labels_size b.after in let size' = labels_size x.before in
+      step_among b among (take n (labels_of last))
+      (take_begins (labels_of b.after) (labels_of last) n (labels_begin settings phases opened ran last all b.after last g.1) (omega arith))))
+
   each_entered : (k : ℕ) (path : List (List ℕ)) → length opened.labels ≤ k → slice_get (labels_of last) k ≡ Some path → is_entered settings.config (labels_of last) last.pairs (answers (steps_of ran)) (k, path) ≡ true
   each_entered zero path le at = let s = opened_size settings phases opened ran last all in absurd (omega arith)
   each_entered (suc k) path le at =
@@ -127,16 +138,9 @@ module _ (settings : Settings) (phases : List (List Order)) (opened : Opened) (r
       subst (λ (l : List (List (List ℕ))). skips_none l (paths_of b.0.answered.order.command) path ≡ true) (sym front)
       (subst (λ (p : List (List ℕ)). skips_none (take (suc k) (labels_of b.0.after)) (paths_of b.0.answered.order.command) p ≡ true) path_is
       (subst (λ (n : ℕ). skips_none (take n (labels_of b.0.after)) (paths_of b.0.answered.order.command) e.0.1 ≡ true) place b.3.2)) in
-      let shown = all_steps (steps_of ran) (λ a. not (comes_after b.0.answered a) || labels_among last.pairs (take (suc k) (labels_of last)) a) (λ a there.
-      implied (comes_after b.0.answered a.answered) _ (λ after.
-      let g = facts settings phases opened ran last all a there in
-      let sees = after_sees settings phases opened ran last all a b.0 there b.1 after in
-      let l = prefix_length a.after.labels b.0.before.labels sees.labels in
-      let size = labels_size a.after in let m = b.2 in
-      step_among a there (take (suc k) (labels_of last))
-      (take_begins (labels_of a.after) (labels_of last) (suc k) (labels_begin settings phases opened ran last all a.after last g.1) (omega arith)))) in
+      let shown = shown_among b.0 b.1 (suc k) (let m = b.2 in let size = labels_size b.0.before in omega arith) in
       any_step (steps_of ran) (λ b. brings settings.config path b.order.command && skips_none (take (suc k) (labels_of last)) (paths_of b.order.command) path
-      && list_all (λ a. not (comes_after b a) || labels_among last.pairs (take (suc k) (labels_of last)) a) (answers (steps_of ran))) b.0 b.1 (and_from _ _ (and_from _ _ brings_it none) shown)
+      && has_shown (labels_of last) last.pairs (answers (steps_of ran)) b (suc k)) b.0 b.1 (and_from _ _ (and_from _ _ brings_it none) shown)
 
   pub entered_so : IsTrue (list_all (is_entered settings.config (labels_of last) last.pairs (answers (steps_of ran))) (enumerate_from (length opened.labels) (drop (length opened.labels) (labels_of last))))
   entered_so = all_in (is_entered settings.config (labels_of last) last.pairs (answers (steps_of ran))) (enumerate_from (length opened.labels) (drop (length opened.labels) (labels_of last))) (λ e there.

@@ -51,63 +51,63 @@ in_fails (x ∷ xs) c there = by x.1.failed refl (in_fails xs c) there
 
 -- ---- what a failed commit, and one that tells of it, entered
 
-failed_commit : (n c : ℕ) (reply : Reply) (old new : Entries CommitPoint) → failed_in reply ≡ Some c → EntersCommit n reply old new → EntersPoint n (Some c) old new
-failed_commit n c (refused (disk_failed k)) old new e enters = subst (λ (d : ℕ). EntersPoint n (Some d) old new) (ap (λ o. unwrap_or o k) e) enters
-failed_commit n c (placed at) old new e enters = absurd cc
-failed_commit n c (numbered k) old new e enters = absurd cc
-failed_commit n c (found f) old new e enters = absurd cc
-failed_commit n c (shown s) old new e enters = absurd cc
-failed_commit n c (numbers s) old new e enters = absurd cc
-failed_commit n c (refused (broken b)) old new e enters = absurd cc
-failed_commit n c (refused (labels_full k)) old new e enters = absurd cc
-failed_commit n c (refused (docs_full k)) old new e enters = absurd cc
-failed_commit n c (refused not_held) old new e enters = absurd cc
-failed_commit n c (refused held_already) old new e enters = absurd cc
-failed_commit n c (refused (top_zero k)) old new e enters = absurd cc
-failed_commit n c (refused (dim_value_not_kept k)) old new e enters = absurd cc
-failed_commit n c (refused (no_such_document k)) old new e enters = absurd cc
-failed_commit n c (refused (closed k)) old new e enters = absurd cc
-failed_commit n c (refused (numbers_spent k)) old new e enters = absurd cc
-failed_commit n c (refused no_memory) old new e enters = absurd cc
+failed_commit : (n least c : ℕ) (reply : Reply) (old new : Entries CommitPoint) → failed_in reply ≡ Some c → EntersCommit n least reply old new → EntersPoint n (Some c) old new
+failed_commit n least c (refused (disk_failed k)) old new e enters = subst (λ (d : ℕ). EntersPoint n (Some d) old new) (ap (λ o. unwrap_or o k) e) enters
+failed_commit n least c (placed at) old new e enters = absurd cc
+failed_commit n least c (numbered k) old new e enters = absurd cc
+failed_commit n least c (found f) old new e enters = absurd cc
+failed_commit n least c (shown s) old new e enters = absurd cc
+failed_commit n least c (numbers s) old new e enters = absurd cc
+failed_commit n least c (refused (broken b)) old new e enters = absurd cc
+failed_commit n least c (refused (labels_full k)) old new e enters = absurd cc
+failed_commit n least c (refused (docs_full k)) old new e enters = absurd cc
+failed_commit n least c (refused not_held) old new e enters = absurd cc
+failed_commit n least c (refused held_already) old new e enters = absurd cc
+failed_commit n least c (refused (top_zero k)) old new e enters = absurd cc
+failed_commit n least c (refused (dim_value_not_kept k)) old new e enters = absurd cc
+failed_commit n least c (refused (no_such_document k)) old new e enters = absurd cc
+failed_commit n least c (refused (closed k)) old new e enters = absurd cc
+failed_commit n least c (refused (numbers_spent k)) old new e enters = absurd cc
+failed_commit n least c (refused no_memory) old new e enters = absurd cc
 
-failed_point : (n c : ℕ) (command : Command) (reply : Reply) (old new : Entries CommitPoint) → failed_by command reply ≡ Some c → EntersPoints n command reply old new → EntersPoint n (Some c) old new
-failed_point n c commit reply old new e enters = failed_commit n c reply old new e enters
-failed_point n c (add doc) reply old new e enters = absurd cc
-failed_point n c refresh reply old new e enters = absurd cc
-failed_point n c (hold name) reply old new e enters = absurd cc
-failed_point n c (release name) reply old new e enters = absurd cc
-failed_point n c (search on s) reply old new e enters = absurd cc
-failed_point n c (document on at) reply old new e enters = absurd cc
-failed_point n c (stats on) reply old new e enters = absurd cc
+failed_point : (n least c : ℕ) (command : Command) (reply : Reply) (old new : Entries CommitPoint) → failed_by command reply ≡ Some c → EntersPoints n least command reply old new → EntersPoint n (Some c) old new
+failed_point n least c commit reply old new e enters = failed_commit n least c reply old new e enters
+failed_point n least c (add doc) reply old new e enters = absurd cc
+failed_point n least c refresh reply old new e enters = absurd cc
+failed_point n least c (hold name) reply old new e enters = absurd cc
+failed_point n least c (release name) reply old new e enters = absurd cc
+failed_point n least c (search on s) reply old new e enters = absurd cc
+failed_point n least c (document on at) reply old new e enters = absurd cc
+failed_point n least c (stats on) reply old new e enters = absurd cc
 
-closed_commit : (n c : ℕ) (reply : Reply) (old new : Entries CommitPoint) → closed_in reply ≡ Some c → EntersCommit n reply old new → (failures new ≡ c ∷ []) × (failed_in reply ≡ None)
-closed_commit n c (refused (closed k)) old new e enters = (subst (λ (d : ℕ). failures new ≡ d ∷ []) (ap (λ o. unwrap_or o k) e) enters.1, refl)
-closed_commit n c (placed at) old new e enters = absurd cc
-closed_commit n c (numbered k) old new e enters = absurd cc
-closed_commit n c (found f) old new e enters = absurd cc
-closed_commit n c (shown s) old new e enters = absurd cc
-closed_commit n c (numbers s) old new e enters = absurd cc
-closed_commit n c (refused (broken b)) old new e enters = absurd cc
-closed_commit n c (refused (labels_full k)) old new e enters = absurd cc
-closed_commit n c (refused (docs_full k)) old new e enters = absurd cc
-closed_commit n c (refused not_held) old new e enters = absurd cc
-closed_commit n c (refused held_already) old new e enters = absurd cc
-closed_commit n c (refused (top_zero k)) old new e enters = absurd cc
-closed_commit n c (refused (dim_value_not_kept k)) old new e enters = absurd cc
-closed_commit n c (refused (no_such_document k)) old new e enters = absurd cc
-closed_commit n c (refused (disk_failed k)) old new e enters = absurd cc
-closed_commit n c (refused (numbers_spent k)) old new e enters = absurd cc
-closed_commit n c (refused no_memory) old new e enters = absurd cc
+closed_commit : (n least c : ℕ) (reply : Reply) (old new : Entries CommitPoint) → closed_in reply ≡ Some c → EntersCommit n least reply old new → (failures new ≡ c ∷ []) × (failed_in reply ≡ None)
+closed_commit n least c (refused (closed k)) old new e enters = (subst (λ (d : ℕ). failures new ≡ d ∷ []) (ap (λ o. unwrap_or o k) e) enters.1, refl)
+closed_commit n least c (placed at) old new e enters = absurd cc
+closed_commit n least c (numbered k) old new e enters = absurd cc
+closed_commit n least c (found f) old new e enters = absurd cc
+closed_commit n least c (shown s) old new e enters = absurd cc
+closed_commit n least c (numbers s) old new e enters = absurd cc
+closed_commit n least c (refused (broken b)) old new e enters = absurd cc
+closed_commit n least c (refused (labels_full k)) old new e enters = absurd cc
+closed_commit n least c (refused (docs_full k)) old new e enters = absurd cc
+closed_commit n least c (refused not_held) old new e enters = absurd cc
+closed_commit n least c (refused held_already) old new e enters = absurd cc
+closed_commit n least c (refused (top_zero k)) old new e enters = absurd cc
+closed_commit n least c (refused (dim_value_not_kept k)) old new e enters = absurd cc
+closed_commit n least c (refused (no_such_document k)) old new e enters = absurd cc
+closed_commit n least c (refused (disk_failed k)) old new e enters = absurd cc
+closed_commit n least c (refused (numbers_spent k)) old new e enters = absurd cc
+closed_commit n least c (refused no_memory) old new e enters = absurd cc
 
-closed_points : (n c : ℕ) (command : Command) (reply : Reply) (old new : Entries CommitPoint) → closed_by command reply ≡ Some c → EntersPoints n command reply old new → (failures new ≡ c ∷ []) × (failed_by command reply ≡ None)
-closed_points n c commit reply old new e enters = closed_commit n c reply old new e enters
-closed_points n c (add doc) reply old new e enters = absurd cc
-closed_points n c refresh reply old new e enters = absurd cc
-closed_points n c (hold name) reply old new e enters = absurd cc
-closed_points n c (release name) reply old new e enters = absurd cc
-closed_points n c (search on s) reply old new e enters = absurd cc
-closed_points n c (document on at) reply old new e enters = absurd cc
-closed_points n c (stats on) reply old new e enters = absurd cc
+closed_points : (n least c : ℕ) (command : Command) (reply : Reply) (old new : Entries CommitPoint) → closed_by command reply ≡ Some c → EntersPoints n least command reply old new → (failures new ≡ c ∷ []) × (failed_by command reply ≡ None)
+closed_points n least c commit reply old new e enters = closed_commit n least c reply old new e enters
+closed_points n least c (add doc) reply old new e enters = absurd cc
+closed_points n least c refresh reply old new e enters = absurd cc
+closed_points n least c (hold name) reply old new e enters = absurd cc
+closed_points n least c (release name) reply old new e enters = absurd cc
+closed_points n least c (search on s) reply old new e enters = absurd cc
+closed_points n least c (document on at) reply old new e enters = absurd cc
+closed_points n least c (stats on) reply old new e enters = absurd cc
 
 -- ---- who entered a failed point
 
@@ -126,55 +126,55 @@ point_entered n o old new k p enters ge at = ⊎_elim
     ap (λ (e : ℕ × CommitPoint). e.1.failed) (sym same) ∙ enters.4)
     (cases_lt k (length enters.0))
 
-commit_entered : (n c : ℕ) (reply : Reply) (old new : Entries CommitPoint) (k : ℕ) (p : CommitPoint) → EntersCommit n reply old new → length old ≤ k → slice_get new k ≡ Some (n, p) → p.failed ≡ Some c → failed_in reply ≡ Some c
-commit_entered n c (refused (disk_failed d)) old new k p enters ge at e = sym (point_entered n (Some d) old new k p enters ge at) ∙ e
-commit_entered n c (numbered j) old new k p enters ge at e = let no : None ≡ Some c = sym (point_entered n None old new k p enters.0 ge at) ∙ e in absurd cc
-commit_entered n c (refused (closed d)) old new k p enters ge at e = absurd (none_entered n old new k p enters.0 ge at)
-commit_entered n c (refused (numbers_spent d)) old new k p enters ge at e = absurd (none_entered n old new k p enters.0 ge at)
-commit_entered n c (placed j) old new k p enters ge at e = absurd (none_entered n old new k p enters ge at)
-commit_entered n c (found f) old new k p enters ge at e = absurd (none_entered n old new k p enters ge at)
-commit_entered n c (shown s) old new k p enters ge at e = absurd (none_entered n old new k p enters ge at)
-commit_entered n c (numbers s) old new k p enters ge at e = absurd (none_entered n old new k p enters ge at)
-commit_entered n c (refused (broken b)) old new k p enters ge at e = absurd (none_entered n old new k p enters ge at)
-commit_entered n c (refused (labels_full d)) old new k p enters ge at e = absurd (none_entered n old new k p enters ge at)
-commit_entered n c (refused (docs_full d)) old new k p enters ge at e = absurd (none_entered n old new k p enters ge at)
-commit_entered n c (refused not_held) old new k p enters ge at e = absurd (none_entered n old new k p enters ge at)
-commit_entered n c (refused held_already) old new k p enters ge at e = absurd (none_entered n old new k p enters ge at)
-commit_entered n c (refused (top_zero d)) old new k p enters ge at e = absurd (none_entered n old new k p enters ge at)
-commit_entered n c (refused (dim_value_not_kept d)) old new k p enters ge at e = absurd (none_entered n old new k p enters ge at)
-commit_entered n c (refused (no_such_document d)) old new k p enters ge at e = absurd (none_entered n old new k p enters ge at)
-commit_entered n c (refused no_memory) old new k p enters ge at e = absurd (none_entered n old new k p enters ge at)
+commit_entered : (n least c : ℕ) (reply : Reply) (old new : Entries CommitPoint) (k : ℕ) (p : CommitPoint) → EntersCommit n least reply old new → length old ≤ k → slice_get new k ≡ Some (n, p) → p.failed ≡ Some c → failed_in reply ≡ Some c
+commit_entered n least c (refused (disk_failed d)) old new k p enters ge at e = sym (point_entered n (Some d) old new k p enters ge at) ∙ e
+commit_entered n least c (numbered j) old new k p enters ge at e = let no : None ≡ Some c = sym (point_entered n None old new k p enters.0 ge at) ∙ e in absurd cc
+commit_entered n least c (refused (closed d)) old new k p enters ge at e = absurd (none_entered n old new k p enters.0 ge at)
+commit_entered n least c (refused (numbers_spent d)) old new k p enters ge at e = absurd (none_entered n old new k p enters.0 ge at)
+commit_entered n least c (placed j) old new k p enters ge at e = absurd (none_entered n old new k p enters ge at)
+commit_entered n least c (found f) old new k p enters ge at e = absurd (none_entered n old new k p enters ge at)
+commit_entered n least c (shown s) old new k p enters ge at e = absurd (none_entered n old new k p enters ge at)
+commit_entered n least c (numbers s) old new k p enters ge at e = absurd (none_entered n old new k p enters ge at)
+commit_entered n least c (refused (broken b)) old new k p enters ge at e = absurd (none_entered n old new k p enters ge at)
+commit_entered n least c (refused (labels_full d)) old new k p enters ge at e = absurd (none_entered n old new k p enters ge at)
+commit_entered n least c (refused (docs_full d)) old new k p enters ge at e = absurd (none_entered n old new k p enters ge at)
+commit_entered n least c (refused not_held) old new k p enters ge at e = absurd (none_entered n old new k p enters ge at)
+commit_entered n least c (refused held_already) old new k p enters ge at e = absurd (none_entered n old new k p enters ge at)
+commit_entered n least c (refused (top_zero d)) old new k p enters ge at e = absurd (none_entered n old new k p enters ge at)
+commit_entered n least c (refused (dim_value_not_kept d)) old new k p enters ge at e = absurd (none_entered n old new k p enters ge at)
+commit_entered n least c (refused (no_such_document d)) old new k p enters ge at e = absurd (none_entered n old new k p enters ge at)
+commit_entered n least c (refused no_memory) old new k p enters ge at e = absurd (none_entered n old new k p enters ge at)
 
-points_entered : (n c : ℕ) (command : Command) (reply : Reply) (old new : Entries CommitPoint) (k : ℕ) (p : CommitPoint) → EntersPoints n command reply old new → length old ≤ k → slice_get new k ≡ Some (n, p) → p.failed ≡ Some c → failed_by command reply ≡ Some c
-points_entered n c commit reply old new k p enters ge at e = commit_entered n c reply old new k p enters ge at e
-points_entered n c (add doc) reply old new k p enters ge at e = absurd (none_entered n old new k p enters ge at)
-points_entered n c refresh reply old new k p enters ge at e = absurd (none_entered n old new k p enters ge at)
-points_entered n c (hold name) reply old new k p enters ge at e = absurd (none_entered n old new k p enters ge at)
-points_entered n c (release name) reply old new k p enters ge at e = absurd (none_entered n old new k p enters ge at)
-points_entered n c (search on s) reply old new k p enters ge at e = absurd (none_entered n old new k p enters ge at)
-points_entered n c (document on at') reply old new k p enters ge at e = absurd (none_entered n old new k p enters ge at)
-points_entered n c (stats on) reply old new k p enters ge at e = absurd (none_entered n old new k p enters ge at)
+points_entered : (n least c : ℕ) (command : Command) (reply : Reply) (old new : Entries CommitPoint) (k : ℕ) (p : CommitPoint) → EntersPoints n least command reply old new → length old ≤ k → slice_get new k ≡ Some (n, p) → p.failed ≡ Some c → failed_by command reply ≡ Some c
+points_entered n least c commit reply old new k p enters ge at e = commit_entered n least c reply old new k p enters ge at e
+points_entered n least c (add doc) reply old new k p enters ge at e = absurd (none_entered n old new k p enters ge at)
+points_entered n least c refresh reply old new k p enters ge at e = absurd (none_entered n old new k p enters ge at)
+points_entered n least c (hold name) reply old new k p enters ge at e = absurd (none_entered n old new k p enters ge at)
+points_entered n least c (release name) reply old new k p enters ge at e = absurd (none_entered n old new k p enters ge at)
+points_entered n least c (search on s) reply old new k p enters ge at e = absurd (none_entered n old new k p enters ge at)
+points_entered n least c (document on at') reply old new k p enters ge at e = absurd (none_entered n old new k p enters ge at)
+points_entered n least c (stats on) reply old new k p enters ge at e = absurd (none_entered n old new k p enters ge at)
 
 -- ---- a commit that comes after a failure
 
-module _ (n c : ℕ) (old new : Entries CommitPoint) (was : In c (failures old)) where
+module _ (n least c : ℕ) (old new : Entries CommitPoint) (was : In c (failures old)) where
   still : (later : Entries CommitPoint) → IsPrefix old later → In c (failures later)
   still later begins = let r = in_fails old c was in fails_in later r.0 r.1 c r.2 (prefix_get old later r.0 (r.1, r.2) begins r.3) r.4
 
   none_failed : (o : Option ℕ) → EntersPoint n o old new → ⊥
   none_failed o enters = subst (λ (l : List ℕ). In c l) enters.3 (still enters.0 enters.2.0.0)
 
-  told_after : (history : List Operation) (reply : Reply) → EntersCommit n reply old new → IsCommitted history reply ⊎ (reply ≡ refused no_memory) → tells_of_failure c commit reply ≡ true
+  told_after : (history : List Operation) (reply : Reply) → EntersCommit n least reply old new → IsCommitted history reply ⊎ (reply ≡ refused no_memory) → tells_of_failure c commit reply ≡ true
   told_after history reply enters right = ⊎_elim
       (λ right. ⊎_elim
-      (λ counts. let e : EntersCommit n (numbered counts.0) old new = subst (λ (r : Reply). EntersCommit n r old new) counts.2 enters in absurd (none_failed None e.0))
+      (λ counts. let e : EntersCommit n least (numbered counts.0) old new = subst (λ (r : Reply). EntersCommit n least r old new) counts.2 enters in absurd (none_failed None e.0))
       (λ r. ⊎_elim
-      (λ disk. absurd (none_failed (Some disk.0) (subst (λ (r : Reply). EntersCommit n r old new) disk.1 enters)))
+      (λ disk. absurd (none_failed (Some disk.0) (subst (λ (r : Reply). EntersCommit n least r old new) disk.1 enters)))
       (λ r. ⊎_elim
-      (λ shut. let e = subst (λ (r : Reply). EntersCommit n r old new) shut.1 enters in
+      (λ shut. let e = subst (λ (r : Reply). EntersCommit n least r old new) shut.1 enters in
       let among : In c (shut.0 ∷ []) = subst (λ (l : List ℕ). In c l) e.1 (still new e.0.0) in
       subst (λ (r : Reply). tells_of_failure c commit r ≡ true) (sym shut.1) (⊎_elim (λ is. eq-eqb shut.0 c (sym is)) (λ none. absurd none) among))
-      (λ spent. let e = subst (λ (r : Reply). EntersCommit n r old new) spent.2 enters in absurd (subst (λ (l : List ℕ). In c l) e.1 (still new e.0.0)))
+      (λ spent. let e = subst (λ (r : Reply). EntersCommit n least r old new) spent.2 enters in absurd (subst (λ (l : List ℕ). In c l) e.1 (still new e.0.0)))
       r) r) right)
       (λ lacks. subst (λ (r : Reply). tells_of_failure c commit r ≡ true) (sym lacks) refl) right
 
@@ -197,7 +197,7 @@ module _ (settings : Settings) (phases : List (List Order)) (opened : Opened) (r
   failed_at x there c e =
       let f = facts settings phases opened ran last all x there in
       let session = x.answered.order.session in
-      let p : EntersPoint session (Some c) x.before.commits x.after.commits = failed_point session c x.answered.order.command x.answered.reply x.before.commits x.after.commits e f.2.1.commits in
+      let p : EntersPoint session (Some c) x.before.commits x.after.commits = failed_point session (length (labels_of x.before)) c x.answered.order.command x.answered.reply x.before.commits x.after.commits e f.2.1.commits in
       let entry : ℕ × CommitPoint = (session, p.1) in
       let at : slice_get x.after.commits (length p.0) ≡ Some entry = subst (λ (ps : Entries CommitPoint). slice_get ps (length p.0) ≡ Some entry) (sym p.2.1) (get_last p.0 entry) in
       let begins : IsPrefix p.0 x.after.commits = (entry ∷ [], sym p.2.1) in
@@ -291,7 +291,7 @@ module _ (settings : Settings) (phases : List (List Order)) (opened : Opened) (r
   pub closed_so : IsTrue (list_all (λ a. option_map_or (has_failure (answers (steps_of ran)) a) (closed_at a) true) (answers (steps_of ran)))
   closed_so = all_some (steps_of ran) (has_failure (answers (steps_of ran))) closed_at (λ x there c e.
       let f = facts settings phases opened ran last all x there in
-      let p = closed_points x.answered.order.session c x.answered.order.command x.answered.reply x.before.commits x.after.commits e f.2.1.commits in
+      let p = closed_points x.answered.order.session (length (labels_of x.before)) c x.answered.order.command x.answered.reply x.before.commits x.after.commits e f.2.1.commits in
       let among : In c (failures x.after.commits) = subst (λ (l : List ℕ). In c l) (sym p.0) (inl refl) in
       let r = in_fails x.after.commits c among in
       by x there c p.1 r.0 r.1 r.2 r.3 (prefix_get x.after.commits last.commits r.0 (r.1, r.2) f.1.commits r.3) r.4)
@@ -310,7 +310,7 @@ module _ (settings : Settings) (phases : List (List Order)) (opened : Opened) (r
           let b = r.0 in
           let f = facts settings phases opened ran last all b r.1 in
           let own : slice_get b.after.commits (suc k) ≡ Some (b.answered.order.session, p) = subst (λ (m : ℕ). slice_get b.after.commits (suc k) ≡ Some (m, p)) (sym r.2) r.4 in
-          let is : failed b.answered ≡ Some c = points_entered b.answered.order.session c b.answered.order.command b.answered.reply b.before.commits b.after.commits (suc k) p f.2.1.commits r.3 own e in
+          let is : failed b.answered ≡ Some c = points_entered b.answered.order.session (length (labels_of b.before)) c b.answered.order.command b.answered.reply b.before.commits b.after.commits (suc k) p f.2.1.commits r.3 own e in
           let lt = get_below x.after.commits (suc k) (n, p) seen in
           let later : comes_after b.answered x.answered ≡ true → ⊥ = λ after. let l = prefix_length x.after.commits b.before.commits (after_sees settings phases opened ran last all x b there r.1 after).commits in let g = r.3 in omega arith in
           let other : x ≡ b → ⊥ = λ same. let wrong : None ≡ Some c = sym unfailed ∙ (λ i. failed (same i).answered) ∙ is in cc in
@@ -329,9 +329,9 @@ module _ (settings : Settings) (phases : List (List Order)) (opened : Opened) (r
       right_or : (held : Held) → IsStep settings held b → IsRight settings (labels_of b.after) (history_of b.after) held b.answered.order.session b.answered.order.command b.answered.took b.answered.reply ⊎ (b.answered.reply ≡ refused no_memory)
       right_or held step = ⊎_elim (λ r. inl r) (λ lacks. inr lacks.1) step.right
 
-      by : (b : Step) → In c (failures b.before.commits) → (held : Held) (command : Command) (reply : Reply) → EntersPoints b.answered.order.session command reply b.before.commits b.after.commits
+      by : (b : Step) → In c (failures b.before.commits) → (held : Held) (command : Command) (reply : Reply) → EntersPoints b.answered.order.session (length (labels_of b.before)) command reply b.before.commits b.after.commits
           → IsRight settings (labels_of b.after) (history_of b.after) held b.answered.order.session command b.answered.took reply ⊎ (reply ≡ refused no_memory) → tells_of_failure c command reply ≡ true
-      by b was held commit reply enters right = told_after b.answered.order.session c b.before.commits b.after.commits was (history_of b.after) reply enters right
+      by b was held commit reply enters right = told_after b.answered.order.session (length (labels_of b.before)) c b.before.commits b.after.commits was (history_of b.after) reply enters right
       by b was held (add doc) reply enters right = refl
       by b was held refresh reply enters right = refl
       by b was held (hold name) reply enters right = refl
@@ -348,7 +348,7 @@ module _ (settings : Settings) (phases : List (List Order)) (opened : Opened) (r
   tells_closed : (a b : Step) → In a (steps_of ran) → In b (steps_of ran) → (c : ℕ) → closed_at a.answered ≡ Some c → comes_after b.answered a.answered ≡ true → tells_of_failure c b.answered.order.command b.answered.reply ≡ true
   tells_closed a b there there' c e after =
       let f = facts settings phases opened ran last all a there in
-      let p = closed_points a.answered.order.session c a.answered.order.command a.answered.reply a.before.commits a.after.commits e f.2.1.commits in
+      let p = closed_points a.answered.order.session (length (labels_of a.before)) c a.answered.order.command a.answered.reply a.before.commits a.after.commits e f.2.1.commits in
       tells_of_seen a b there there' c (subst (λ (l : List ℕ). In c l) (sym p.0) (inl refl)) after
 
   pub stays_closed_so : IsTrue (list_all (λ a. option_map_or (is_last_commit (answers (steps_of ran)) a) (closed_at a) true) (answers (steps_of ran)))

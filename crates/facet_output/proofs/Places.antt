@@ -8,7 +8,7 @@ use Rattle.facet_model.specs.CoreStates.{is_same_pair}
 use Rattle.facet_words.specs.Commands.{Settings}
 use Rattle.facet_output.specs.Answered.{comes_after}
 use Rattle.facet_words.specs.Sessions.Commands.{Order}
-use Rattle.facet_output.specs.Output.{Opened, is_pair_of, is_no_further, has_labels, is_at, has_place}
+use Rattle.facet_output.specs.Output.{Opened, is_pair_of, is_no_further, has_shown, has_labels, is_at, has_place}
 use Rattle.facet_output.specs.Seen.{Seen, labels_of}
 use Rattle.facet_output.specs.Sessions.{AllRan, steps_of}
 use Rattle.facet_output.specs.Steps.{Step, EntersPair, IsPlace}
@@ -16,7 +16,7 @@ use Rattle.facet_output.specs.Telling.{labels_among, refreshed, sees_no_pair}
 use Rattle.facet_output.proofs.Among.{In}
 use Rattle.facet_output.proofs.Answers.{answers, all_steps, all_some}
 use Rattle.facet_output.proofs.Bringing.{labels_begin}
-use Rattle.facet_output.proofs.Entering.{step_among, take_begins}
+use Rattle.facet_output.proofs.Entering.{shown_among}
 use Rattle.facet_output.proofs.Fresh.{implied}
 use Rattle.facet_output.proofs.HeldPairs.{labels_size}
 use Rattle.facet_output.proofs.Fronts.{prefix_length, get_there}
@@ -57,17 +57,10 @@ module _ (settings : Settings) (phases : List (List Order)) (opened : Opened) (r
       let here : q.0 ≡ k = (let s = q.3 in omega arith) in
       let same = same_entry k r.0 (x.answered.order.session, (n, q.1)) r.1 (subst (λ (j : ℕ). slice_get last.pairs j ≡ Some (x.answered.order.session, (n, q.1))) here q.2) in
       let m = ap (λ (y : ℕ × (ℕ × ℕ)). y.1.1) same in let l = q.4 in
-      all_steps (steps_of ran) (λ b. not (comes_after x.answered b) || labels_among last.pairs (take r.0.1.1 (labels_of last)) b) (λ b among.
-      implied (comes_after x.answered b.answered) _ (λ after.
-      let g = facts settings phases opened ran last all b among in
-      let sees = after_sees settings phases opened ran last all b x among there after in
-      let s = prefix_length b.after.labels x.before.labels sees.labels in
-      let size = labels_size b.after in let size' = labels_size x.before in
-      step_among settings phases opened ran last all b among (take r.0.1.1 (labels_of last))
-      (take_begins (labels_of b.after) (labels_of last) r.0.1.1 (labels_begin settings phases opened ran last all b.after last g.1) (omega arith)))))))
+      shown_among settings phases opened ran last all x there r.0.1.1 (omega arith))))
     where
-      labels_there : (e : ℕ × (ℕ × ℕ)) (o : Option ℕ) → ((n : ℕ) → o ≡ Some n → list_all (λ b. not (comes_after x.answered b) || labels_among last.pairs (take e.1.1 (labels_of last)) b) (answers (steps_of ran)) ≡ true)
-          → (is_none o || list_all (λ b. not (comes_after x.answered b) || labels_among last.pairs (take e.1.1 (labels_of last)) b) (answers (steps_of ran))) ≡ true
+      labels_there : (e : ℕ × (ℕ × ℕ)) (o : Option ℕ) → ((n : ℕ) → o ≡ Some n → has_shown (labels_of last) last.pairs (answers (steps_of ran)) x.answered e.1.1 ≡ true)
+          → (is_none o || has_shown (labels_of last) last.pairs (answers (steps_of ran)) x.answered e.1.1) ≡ true
       labels_there e None each = refl
       labels_there e (Some n) each = each n refl
 

@@ -1,6 +1,6 @@
 -- Commits have their points.
 use Rattle.std.proofs.Common.{◌≡◌, inl, inr, ⊎_elim, ℕ, zero, suc, ◌+◌, ◌≤◌, ◌<◌, eqb, Bool, true, false, cond, List, [], ◌∷◌, length, map, Option, Some, None, slice_get, refl, sym, ap, ◌∙◌, subst, arith, length-append, ne_eqb}
-use Rattle.std.specs.Prelude.{◌==◌, ◌&&◌, filter, count_by, is_none, unwrap_or, IsTrue}
+use Rattle.std.specs.Prelude.{◌==◌, ◌&&◌, filter, count_by, is_none, take, unwrap_or, IsTrue}
 use Rattle.std.specs.List.{list_all}
 use Rattle.std.specs.Option.{option_map_or}
 use Rattle.std.proofs.lemmas.Bool.{and_from, eq-eqb, cases_lt}
@@ -12,37 +12,39 @@ use Rattle.facet_output.specs.Commits.{CommitsHavePoints, is_durable_at, has_fai
 use Rattle.facet_replies.specs.Replies.{broken, labels_full, docs_full, not_held, held_already, top_zero, dim_value_not_kept, no_such_document, disk_failed, closed, numbers_spent, no_memory, Reply, placed, numbered, found, shown, stats as numbers, refused}
 use Rattle.facet_output.specs.Answered.{Answered, is_of}
 use Rattle.facet_output.specs.Held.{Held, held_after}
-use Rattle.facet_output.specs.Output.{Opened}
+use Rattle.facet_output.specs.Output.{Opened, has_shown}
 use Rattle.facet_output.specs.Telling.{durable, durable_by, failed, is_commit, number_in}
-use Rattle.facet_output.specs.Seen.{CommitPoint, Entries, Seen, failures, EntersNone, entered_by, opened_seen}
+use Rattle.facet_output.specs.Seen.{CommitPoint, Entries, Seen, failures, EntersNone, entered_by, labels_of, opened_seen}
 use Rattle.facet_output.specs.Steps.{Step, EntersPoint, EntersCommit, EntersPoints}
 use Rattle.facet_output.specs.Sessions.{SessionRan, AllRan, steps_of, own_steps}
 use Rattle.facet_output.proofs.Among.{In, any_in, at_in}
 use Rattle.facet_output.proofs.Answers.{answers, all_some}
+use Rattle.facet_output.proofs.Bringing.{opened_sees}
+use Rattle.facet_output.proofs.Entering.{shown_among}
 use Rattle.facet_output.proofs.Failing.{fails_in, failed_at}
-use Rattle.facet_output.proofs.Fronts.{prefix_get, get_last}
+use Rattle.facet_output.proofs.Fronts.{prefix_get, get_last, take_prefix}
 use Rattle.facet_output.proofs.Known.{facts}
 use Rattle.facet_output.proofs.Placing.{of_own, own_answers}
 
 -- ---- a commit that was acknowledged
 
-durable_commit : (n k : ℕ) (reply : Reply) (old new : Entries CommitPoint) → number_in reply ≡ Some k → EntersCommit n reply old new → EntersCommit n (numbered k) old new
-durable_commit n k (numbered j) old new e enters = subst (λ (i : ℕ). EntersCommit n (numbered i) old new) (ap (λ o. unwrap_or o j) e) enters
-durable_commit n k (placed at) old new e enters = absurd cc
-durable_commit n k (found f) old new e enters = absurd cc
-durable_commit n k (shown s) old new e enters = absurd cc
-durable_commit n k (numbers s) old new e enters = absurd cc
-durable_commit n k (refused r) old new e enters = absurd cc
+durable_commit : (n least k : ℕ) (reply : Reply) (old new : Entries CommitPoint) → number_in reply ≡ Some k → EntersCommit n least reply old new → EntersCommit n least (numbered k) old new
+durable_commit n least k (numbered j) old new e enters = subst (λ (i : ℕ). EntersCommit n least (numbered i) old new) (ap (λ o. unwrap_or o j) e) enters
+durable_commit n least k (placed at) old new e enters = absurd cc
+durable_commit n least k (found f) old new e enters = absurd cc
+durable_commit n least k (shown s) old new e enters = absurd cc
+durable_commit n least k (numbers s) old new e enters = absurd cc
+durable_commit n least k (refused r) old new e enters = absurd cc
 
-durable_points : (n k : ℕ) (command : Command) (reply : Reply) (old new : Entries CommitPoint) → durable_by command reply ≡ Some k → EntersPoints n command reply old new → EntersCommit n (numbered k) old new
-durable_points n k commit reply old new e enters = durable_commit n k reply old new e enters
-durable_points n k (add doc) reply old new e enters = absurd cc
-durable_points n k refresh reply old new e enters = absurd cc
-durable_points n k (hold name) reply old new e enters = absurd cc
-durable_points n k (release name) reply old new e enters = absurd cc
-durable_points n k (search on s) reply old new e enters = absurd cc
-durable_points n k (document on at) reply old new e enters = absurd cc
-durable_points n k (stats on) reply old new e enters = absurd cc
+durable_points : (n least k : ℕ) (command : Command) (reply : Reply) (old new : Entries CommitPoint) → durable_by command reply ≡ Some k → EntersPoints n least command reply old new → EntersCommit n least (numbered k) old new
+durable_points n least k commit reply old new e enters = durable_commit n least k reply old new e enters
+durable_points n least k (add doc) reply old new e enters = absurd cc
+durable_points n least k refresh reply old new e enters = absurd cc
+durable_points n least k (hold name) reply old new e enters = absurd cc
+durable_points n least k (release name) reply old new e enters = absurd cc
+durable_points n least k (search on s) reply old new e enters = absurd cc
+durable_points n least k (document on at) reply old new e enters = absurd cc
+durable_points n least k (stats on) reply old new e enters = absurd cc
 
 -- ---- how many points
 
@@ -61,34 +63,34 @@ point_one n o old new enters =
 none_one : (n : ℕ) (old new : Entries CommitPoint) → EntersNone n old new → entered_one n old new
 none_one n old new enters = let same = ap length enters.1 in omega arith
 
-commit_one : (n : ℕ) (reply : Reply) (old new : Entries CommitPoint) → EntersCommit n reply old new → entered_one n old new
-commit_one n (numbered k) old new enters = point_one n None old new enters.0
-commit_one n (refused (disk_failed c)) old new enters = point_one n (Some c) old new enters
-commit_one n (refused (closed c)) old new enters = none_one n old new enters.0
-commit_one n (refused (numbers_spent c)) old new enters = none_one n old new enters.0
-commit_one n (placed j) old new enters = none_one n old new enters
-commit_one n (found f) old new enters = none_one n old new enters
-commit_one n (shown s) old new enters = none_one n old new enters
-commit_one n (numbers s) old new enters = none_one n old new enters
-commit_one n (refused (broken b)) old new enters = none_one n old new enters
-commit_one n (refused (labels_full d)) old new enters = none_one n old new enters
-commit_one n (refused (docs_full d)) old new enters = none_one n old new enters
-commit_one n (refused not_held) old new enters = none_one n old new enters
-commit_one n (refused held_already) old new enters = none_one n old new enters
-commit_one n (refused (top_zero d)) old new enters = none_one n old new enters
-commit_one n (refused (dim_value_not_kept d)) old new enters = none_one n old new enters
-commit_one n (refused (no_such_document d)) old new enters = none_one n old new enters
-commit_one n (refused no_memory) old new enters = none_one n old new enters
+commit_one : (n least : ℕ) (reply : Reply) (old new : Entries CommitPoint) → EntersCommit n least reply old new → entered_one n old new
+commit_one n least (numbered k) old new enters = point_one n None old new enters.0
+commit_one n least (refused (disk_failed c)) old new enters = point_one n (Some c) old new enters
+commit_one n least (refused (closed c)) old new enters = none_one n old new enters.0
+commit_one n least (refused (numbers_spent c)) old new enters = none_one n old new enters.0
+commit_one n least (placed j) old new enters = none_one n old new enters
+commit_one n least (found f) old new enters = none_one n old new enters
+commit_one n least (shown s) old new enters = none_one n old new enters
+commit_one n least (numbers s) old new enters = none_one n old new enters
+commit_one n least (refused (broken b)) old new enters = none_one n old new enters
+commit_one n least (refused (labels_full d)) old new enters = none_one n old new enters
+commit_one n least (refused (docs_full d)) old new enters = none_one n old new enters
+commit_one n least (refused not_held) old new enters = none_one n old new enters
+commit_one n least (refused held_already) old new enters = none_one n old new enters
+commit_one n least (refused (top_zero d)) old new enters = none_one n old new enters
+commit_one n least (refused (dim_value_not_kept d)) old new enters = none_one n old new enters
+commit_one n least (refused (no_such_document d)) old new enters = none_one n old new enters
+commit_one n least (refused no_memory) old new enters = none_one n old new enters
 
-points_one : (n : ℕ) (command : Command) (reply : Reply) (old new : Entries CommitPoint) → EntersPoints n command reply old new → length (entered_by n new) ≤ length (entered_by n old) + cond (is_commit command) 1 0
-points_one n commit reply old new enters = commit_one n reply old new enters
-points_one n (add doc) reply old new enters = let same = ap length enters.1 in omega arith
-points_one n refresh reply old new enters = let same = ap length enters.1 in omega arith
-points_one n (hold name) reply old new enters = let same = ap length enters.1 in omega arith
-points_one n (release name) reply old new enters = let same = ap length enters.1 in omega arith
-points_one n (search on s) reply old new enters = let same = ap length enters.1 in omega arith
-points_one n (document on at) reply old new enters = let same = ap length enters.1 in omega arith
-points_one n (stats on) reply old new enters = let same = ap length enters.1 in omega arith
+points_one : (n least : ℕ) (command : Command) (reply : Reply) (old new : Entries CommitPoint) → EntersPoints n least command reply old new → length (entered_by n new) ≤ length (entered_by n old) + cond (is_commit command) 1 0
+points_one n least commit reply old new enters = commit_one n least reply old new enters
+points_one n least (add doc) reply old new enters = let same = ap length enters.1 in omega arith
+points_one n least refresh reply old new enters = let same = ap length enters.1 in omega arith
+points_one n least (hold name) reply old new enters = let same = ap length enters.1 in omega arith
+points_one n least (release name) reply old new enters = let same = ap length enters.1 in omega arith
+points_one n least (search on s) reply old new enters = let same = ap length enters.1 in omega arith
+points_one n least (document on at) reply old new enters = let same = ap length enters.1 in omega arith
+points_one n least (stats on) reply old new enters = let same = ap length enters.1 in omega arith
 
 -- ---- counted by their sessions
 
@@ -166,8 +168,8 @@ own_points settings session held seen [] last ran own = let e = ap length ran.co
 own_points settings session held seen (x ∷ xs) last ran own =
     let rest = own_points settings session (held_after held x.answered) x.after xs last ran.2 (λ y there. own y (inr there)) in
     let told = ap length ran.0.commits in
-    let enters : EntersPoints session x.answered.order.command x.answered.reply x.before.commits x.after.commits = subst (λ (n : ℕ). EntersPoints n x.answered.order.command x.answered.reply x.before.commits x.after.commits) (own x (inl refl)) ran.1.commits in
-    let one = points_one session x.answered.order.command x.answered.reply x.before.commits x.after.commits enters in
+    let enters : EntersPoints session (length (labels_of x.before)) x.answered.order.command x.answered.reply x.before.commits x.after.commits = subst (λ (n : ℕ). EntersPoints n (length (labels_of x.before)) x.answered.order.command x.answered.reply x.before.commits x.after.commits) (own x (inl refl)) ran.1.commits in
+    let one = points_one session (length (labels_of x.before)) x.answered.order.command x.answered.reply x.before.commits x.after.commits enters in
     let counted = sum_by-cons (λ a. cond (commits_of a) 1 0) x.answered (map (λ (x : Step). x.answered) xs) in
     omega arith
 
@@ -202,26 +204,31 @@ module _ (settings : Settings) (phases : List (List Order)) (opened : Opened) (r
       let count = counted_all commits_of (answers (steps_of ran)) in
       omega arith
 
-  durable_so : IsTrue (list_all (λ a. option_map_or (is_durable_at last.commits) (durable a) true) (answers (steps_of ran)))
-  durable_so = all_some (steps_of ran) (λ a n. is_durable_at last.commits n) durable (λ x there n e.
+  durable_so : IsTrue (list_all (λ a. option_map_or (is_durable_at last (answers (steps_of ran)) a) (durable a) true) (answers (steps_of ran)))
+  durable_so = all_some (steps_of ran) (is_durable_at last (answers (steps_of ran))) durable (λ x there n e.
       let f = facts settings phases opened ran last all x there in
       let session = x.answered.order.session in
-      let p = durable_points session n x.answered.order.command x.answered.reply x.before.commits x.after.commits e f.2.1.commits in
+      let p = durable_points session (length (labels_of x.before)) n x.answered.order.command x.answered.reply x.before.commits x.after.commits e f.2.1.commits in
       let q : EntersPoint session None x.before.commits x.after.commits = p.0 in
       let entry : ℕ × CommitPoint = (session, q.1) in
       let at : slice_get x.after.commits (length q.0) ≡ Some entry = subst (λ (ps : Entries CommitPoint). slice_get ps (length q.0) ≡ Some entry) (sym q.2.1) (get_last q.0 entry) in
       let among : In entry last.commits = at_in last.commits (length q.0) entry (prefix_get x.after.commits last.commits (length q.0) entry f.1.commits at) in
       let unfailed : is_none q.1.failed ≡ true = subst (λ (o : Option ℕ). is_none o ≡ true) (sym q.4) refl in
-      any_in (λ e. is_none e.1.failed && e.1.operations == n) last.commits entry among (and_from _ _ unfailed (eq-eqb q.1.operations n p.1)))
+      any_in (λ e. is_none e.1.failed && e.1.operations == n && has_shown (labels_of last) last.pairs (answers (steps_of ran)) x.answered e.1.labels) last.commits entry among
+      (and_from _ _ (and_from _ _ unfailed (eq-eqb q.1.operations n p.1)) (shown_among settings phases opened ran last all x there q.1.labels p.2)))
 
   failed_so : IsTrue (list_all (λ a. option_map_or (has_failed_at last.commits) (failed a) true) (answers (steps_of ran)))
   failed_so = all_some (steps_of ran) (λ a c. has_failed_at last.commits c) failed (λ x there c e.
       let p = failed_at settings phases opened ran last all x there c e in
       any_in (λ d. d == c) (failures last.commits) c (fails_in last.commits (length p.between) x.answered.order.session c p.point p.at p.failed_so) (eq-eqb c c refl))
 
+  first_so : take 1 last.commits ≡ (opened_seen opened).commits
+  first_so = take_prefix (opened_seen opened).commits last.commits 1 (opened_sees settings phases opened ran last all).commits (omega arith)
+
 pub commits_have_points : CommitsHavePoints
 commits_have_points settings phases opened ran last all = record {
   durable_points = durable_so settings phases opened ran last all;
   failed_points = failed_so settings phases opened ran last all;
   many = many_so settings phases opened ran last all;
+  first = first_so settings phases opened ran last all;
 }

@@ -120,7 +120,7 @@ record Facts (settings : Settings) (before after : Seen) (held : Held) (session 
   leaves : Leaves settings (labels_of before) command reply (labels_of after)
   operations : EntersOperation session (placed_by session command reply) before.operations after.operations
   pairs : EntersPair session (length (labels_of before)) (length (labels_of after)) (refreshed_by command reply) before.pairs after.pairs
-  commits : EntersPoints session command reply before.commits after.commits
+  commits : EntersPoints session (length (labels_of before)) command reply before.commits after.commits
   fresh : IfSome (stood_by command reply) (λ n. length before.operations ≤ n)
   taken : IfSome took (λ pair. IsLastPair after pair × (refreshed_by command reply ≡ None))
 
@@ -450,8 +450,8 @@ module _ (settings : Settings) (before after : Seen) (held : Held) (session : �
         closed_so = c;
       }
 
-      enters : (r : Reply) → reply ≡ r → EntersCommit session r before.commits after.commits
-      enters r e = subst (λ (q : Reply). EntersCommit session q before.commits after.commits) e f.commits
+      enters : (r : Reply) → reply ≡ r → EntersCommit session (length (labels_of before)) r before.commits after.commits
+      enters r e = subst (λ (q : Reply). EntersCommit session (length (labels_of before)) q before.commits after.commits) e f.commits
 
       -- a point behind those before, none of which has failed
       pointed : (o : Option ℕ) → EntersPoint session o before.commits after.commits → (store.closed ≡ None) × (failures after.commits ≡ option_to_list o)
@@ -558,7 +558,7 @@ module _ (settings : Settings) (phases : List (List Order)) (opened : Opened) (r
         leaves = step_leaves settings phases opened ran last session all one held x there since until step;
         operations = subst (λ (n : ℕ). EntersOperation n (placed_by n x.answered.order.command x.answered.reply) x.before.operations x.after.operations) mine step.operations;
         pairs = subst (λ (n : ℕ). EntersPair n (length (labels_of x.before)) (length (labels_of x.after)) (refreshed_by x.answered.order.command x.answered.reply) x.before.pairs x.after.pairs) mine step.pairs;
-        commits = subst (λ (n : ℕ). EntersPoints n x.answered.order.command x.answered.reply x.before.commits x.after.commits) mine step.commits;
+        commits = subst (λ (n : ℕ). EntersPoints n (length (labels_of x.before)) x.answered.order.command x.answered.reply x.before.commits x.after.commits) mine step.commits;
         fresh = step.fresh;
         taken = step.took;
       } in

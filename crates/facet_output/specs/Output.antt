@@ -53,11 +53,15 @@ refreshes_of session published = map (λ e. e.1.0) (filter (λ e. e.0 == session
 abbrev pub is_brought : Config → (Answered → Bool) → List Answered → List (List ℕ) → Bool
 is_brought config passes answered label = list_any (λ b. brings config label b.order.command && passes b) answered
 
+-- the first labels, so many of them, have all that the session of an order had been shown
+abbrev pub has_shown : List (List (List ℕ)) → Published → List Answered → Answered → ℕ → Bool
+has_shown labels published answered a n = list_all (λ b. not (comes_after a b) || labels_among published (take n labels) b) answered
+
 -- A label with its ordinal was entered by an order that brings it. Before it no earlier path of the order's document was skipped, and there were all labels that
 -- the session had been shown.
 abbrev pub is_entered : Config → List (List (List ℕ)) → Published → List Answered → ℕ × List (List ℕ) → Bool
 is_entered config labels published answered e = list_any (λ b. brings config e.1 b.order.command && skips_none (take e.0 labels) (paths_of b.order.command) e.1
-    && list_all (λ a. not (comes_after b a) || labels_among published (take e.0 labels) a) answered) answered
+    && has_shown labels published answered b e.0) answered
 
 -- where an add was refused for labels, each new label was brought by an order that did not come after it
 abbrev pub was_full : Config → List (List (List ℕ)) → List Answered → Answered → Bool
@@ -93,7 +97,7 @@ is_no_further a place earlier = if is_none (refreshed a) then nat_le earlier pla
 
 -- a refresh publishes all labels that the session had been shown
 abbrev pub has_labels : List (List (List ℕ)) → Published → List Answered → Answered → ℕ × (ℕ × ℕ) → Bool
-has_labels labels published answered a e = is_none (refreshed a) || list_all (λ b. not (comes_after a b) || labels_among published (take e.1.1 labels) b) answered
+has_labels labels published answered a e = is_none (refreshed a) || has_shown labels published answered a e.1.1
 
 -- At the place of a pair that was taken or published there is this pair, and those of all earlier orders do not stand further.
 abbrev pub is_at : List (List (List ℕ)) → Published → List Answered → Answered → ℕ → Bool

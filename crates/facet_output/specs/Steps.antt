@@ -32,18 +32,19 @@ EntersPair n least most (Some operations) old new = (between : Entries (ℕ × �
 abbrev pub EntersPoint : ℕ → Option ℕ → Entries CommitPoint → Entries CommitPoint → Type 0
 EntersPoint n failed old new = (between : Entries CommitPoint) × (point : CommitPoint) × EntersBehind n point old between new × (failures between ≡ []) × (point.failed ≡ failed)
 
--- What a commit enters, by its reply: a point where it made so many operations durable, or failed on the disk. Where it tells of an earlier failure, that is the one.
-abbrev pub EntersCommit : ℕ → Reply → Entries CommitPoint → Entries CommitPoint → Type 0
-EntersCommit n (numbered k) old new = (enters : EntersPoint n None old new) × (enters.1.operations ≡ k)
-EntersCommit n (refused (disk_failed count)) old new = EntersPoint n (Some count) old new
-EntersCommit n (refused (closed count)) old new = EntersNone n old new × (failures new ≡ count ∷ [])
-EntersCommit n (refused (numbers_spent number)) old new = EntersNone n old new × (failures new ≡ [])
-EntersCommit n _ old new = EntersNone n old new
+-- What a commit enters, by its reply: a point where it made so many operations and at least so many labels durable, or failed on the disk. Where it tells of an
+-- earlier failure, that is the one.
+abbrev pub EntersCommit : ℕ → ℕ → Reply → Entries CommitPoint → Entries CommitPoint → Type 0
+EntersCommit n least (numbered k) old new = (enters : EntersPoint n None old new) × (enters.1.operations ≡ k) × (least ≤ enters.1.labels)
+EntersCommit n least (refused (disk_failed count)) old new = EntersPoint n (Some count) old new
+EntersCommit n least (refused (closed count)) old new = EntersNone n old new × (failures new ≡ count ∷ [])
+EntersCommit n least (refused (numbers_spent number)) old new = EntersNone n old new × (failures new ≡ [])
+EntersCommit n least _ old new = EntersNone n old new
 
 -- no other command enters a point
-abbrev pub EntersPoints : ℕ → Command → Reply → Entries CommitPoint → Entries CommitPoint → Type 0
-EntersPoints n commit reply old new = EntersCommit n reply old new
-EntersPoints n _ reply old new = EntersNone n old new
+abbrev pub EntersPoints : ℕ → ℕ → Command → Reply → Entries CommitPoint → Entries CommitPoint → Type 0
+EntersPoints n least commit reply old new = EntersCommit n least reply old new
+EntersPoints n least _ reply old new = EntersNone n old new
 
 -- A label that is entered, at its place behind the root: a document that the config accepts brings it, it is below the limit, and none before it was skipped.
 abbrev pub IsEntered : Settings → Command → List (List (List ℕ)) → ℕ → List (List ℕ) → Type 0
@@ -71,7 +72,7 @@ pub record IsStep (settings : Settings) (held : Held) (x : Step) : Type 0 where
   pub labels : EachNew x.answered.order.session (IsEntered settings x.answered.order.command (labels_of x.after)) x.before.labels x.after.labels
   pub operations : EntersOperation x.answered.order.session (placed_operation x.answered) x.before.operations x.after.operations
   pub pairs : EntersPair x.answered.order.session (length (labels_of x.before)) (length (labels_of x.after)) (refreshed x.answered) x.before.pairs x.after.pairs
-  pub commits : EntersPoints x.answered.order.session x.answered.order.command x.answered.reply x.before.commits x.after.commits
+  pub commits : EntersPoints x.answered.order.session (length (labels_of x.before)) x.answered.order.command x.answered.reply x.before.commits x.after.commits
   -- an add, a refresh and a commit come behind all that was seen before
   pub fresh : IfSome (stood x.answered) (λ n. length x.before.operations ≤ n)
   -- an order that takes a pair takes the last one, and publishes none

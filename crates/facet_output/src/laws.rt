@@ -18,8 +18,8 @@ pub fn sessions_give_bytes()
     ensures first { FirstPhasesGivePart }
 {}
 
-/// Each acknowledged commit has a point of as many operations in the history of commits, each failed one a point with its count, and there are at most as many
-/// points as commits beside the opened one.
+/// Each acknowledged commit has a point of as many operations in the history of commits, with all labels that its session had been shown, each failed one a
+/// point with its count, and there are at most as many points as commits beside the opened one, which is the first.
 pub fn commits_have_points()
     ensures { CommitsHavePoints }
 {}

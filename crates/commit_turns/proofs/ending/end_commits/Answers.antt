@@ -1,5 +1,6 @@
 use Rattle.std.proofs.Common.{◌≡◌, ◌∙◌, ℕ, ◌≤◌, ◌∷◌, [], sym, ap, subst, arith, All, Some}
 use Rattle.chronicle.specs.History.{entries}
+use Rattle.facet_disk.specs.Calls.{Rose}
 use Rattle.facet_model.proofs.ConfigTexts.{config_told}
 use Rattle.taxo_cache.specs.Seen.{labels_of}
 use Rattle.commit_turns.specs.Ending.{Lasts, FailsWith}
@@ -7,7 +8,7 @@ use Rattle.commit_turns.specs.Points.{last_of}
 use Rattle.commit_turns.specs.Seen.{docs_of}
 use Rattle.pair_manager.specs.declared.point.CommitPoint.{CommitPoint}
 use Rattle.commit_turns.proofs.Carried.{stands_more}
-use Rattle.commit_turns.proofs.Ended.{counts, fails_with, lasts}
+use Rattle.commit_turns.proofs.Ended.{counts, rose, fails_with, lasts}
 use Rattle.commit_turns.proofs.Prefixed.{labels_on, docs_on}
 use Rattle.commit_turns.proofs.ending.end_commits.Goals as goal
 
@@ -19,6 +20,18 @@ returns-clause-counts g c =
     let points = entries c.end-committer.new.token.seen in
     subst (λ x. All (λ (p : CommitPoint). (count : ℕ) → p.failed ≡ Some count → count ≤ d.faults x) points) (sym c.into_disk.ensures)
     (counts d n.told n.settled v.start.value v.begun.value.state v.committer v.last (labels_of v.labels.seen) (docs_of v.operations.seen) points c.end-committer.ensures.value.0)
+
+pub returns-clause-rose : goal.returns-clause-rose
+returns-clause-rose g c first moment faults failures numbers =
+    let d = g.D.Disk in
+    let n = g.N.Start in
+    let v = c.end-committer.result in
+    let points = entries c.end-committer.new.token.seen in
+    let frame = c.end-committer.ensures.value.1 ∙ ap (λ t. t.frame) c.end-committer.ensures.ended in
+    let are : v.begun.value.state.next ∷ d.moment v.start.value ∷ d.faults v.start.value ∷ d.failures v.start.value ∷ [] ≡ first ∷ moment ∷ faults ∷ failures ∷ [] = ap (λ f. f.numbers) frame ∙ numbers in
+    let same : d.faults v.start.value ≡ faults = cc are in
+    subst (λ x. All (λ (p : CommitPoint). (count : ℕ) → p.failed ≡ Some count → Rose x count) points) same
+    (rose d n.told n.settled v.start.value v.begun.value.state v.committer v.last (labels_of v.labels.seen) (docs_of v.operations.seen) points c.end-committer.ensures.value.0)
 
 pub returns-clause-later : goal.returns-clause-later
 returns-clause-later g c first moment faults failures numbers =

@@ -11,6 +11,7 @@ use Rattle.facet_engine.specs.Names.{name_in}
 use Rattle.facet_engine.specs.Replies.{add_reply, refresh_reply, hold_reply, release_reply, search_reply, document_reply, stats_reply, commit_reply}
 use Rattle.facet_engine.specs.Steps.{step_of, last_place, refresh_place, hold_took, pair_taken}
 use Rattle.facet_engine.proofs.Carried.{carried, holds_still}
+use Rattle.facet_engine.proofs.Spent.{spends_none, add_tells, refresh_tells, hold_tells, release_tells, search_tells, document_tells, stats_tells}
 use Rattle.facet_engine.proofs.carrying.carry_out.Goals as goal
 
 pub returns-in-Add : goal.returns-in-Add
@@ -22,7 +23,7 @@ returns-in-Add g c =
     let command = add c.in-Add.doc in
     let reply = add_reply c.add.result in
     subst (λ (command : Command). IsCarriedOut engine old new command (reply_view c.added.result)) (sym (ap command_view c.in-Add.is))
-    (carried engine old new command None None reply (reply_view c.added.result) c.added.ensures e.same (holds_still engine old new command None None reply refl e.held) e.step)
+    (carried engine old new command None None reply (reply_view c.added.result) c.added.ensures e.same (holds_still engine old new command None None reply refl e.held) e.step (spends_none old.pass new.pass reply (add_tells c.add.result)))
 
 pub returns-in-Refresh : goal.returns-in-Refresh
 returns-in-Refresh g c =
@@ -33,7 +34,7 @@ returns-in-Refresh g c =
     let place = refresh_place (last_place new.pass) c.refresh.result in
     let reply = refresh_reply c.refresh.result in
     subst (λ (command : Command). IsCarriedOut engine old new command (reply_view c.refreshed.result)) (sym (ap command_view c.in-Refresh.is))
-    (carried engine old new refresh None place reply (reply_view c.refreshed.result) c.refreshed.ensures e.same (holds_still engine old new refresh None place reply refl e.held) e.step)
+    (carried engine old new refresh None place reply (reply_view c.refreshed.result) c.refreshed.ensures e.same (holds_still engine old new refresh None place reply refl e.held) e.step (spends_none old.pass new.pass reply (refresh_tells c.refresh.result)))
 
 pub returns-in-Hold : goal.returns-in-Hold
 returns-in-Hold g c =
@@ -43,7 +44,7 @@ returns-in-Hold g c =
     let e = c.hold.ensures in
     let took = hold_took c.hold.result new.pass in
     subst (λ (command : Command). IsCarriedOut engine old new command (reply_view c.held.result)) (ap hold c.text.ensures ∙ sym (ap command_view c.in-Hold.is))
-    (carried engine old new (hold c.text.result.now) took (option_map (λ pair. last_place new.pass) took) (hold_reply c.hold.result) (reply_view c.held.result) c.held.ensures e.same e.holds e.step)
+    (carried engine old new (hold c.text.result.now) took (option_map (λ pair. last_place new.pass) took) (hold_reply c.hold.result) (reply_view c.held.result) c.held.ensures e.same e.holds e.step (spends_none old.pass new.pass (hold_reply c.hold.result) (hold_tells c.hold.result)))
 
 pub returns-in-Release : goal.returns-in-Release
 returns-in-Release g c =
@@ -55,7 +56,7 @@ returns-in-Release g c =
     let reply = release_reply c.release.result in
     subst (λ (command : Command). IsCarriedOut engine old new command (reply_view c.released.result)) (ap release c.text-in-Release.ensures ∙ sym (ap command_view c.in-Release.is))
     (carried engine old new command None None reply (reply_view c.released.result) c.released.ensures e.same e.holds
-    (subst (λ (pass : Pass). IsCall engine old (step_of command None None reply old.pass pass)) (sym e.pass) e.step))
+    (subst (λ (pass : Pass). IsCall engine old (step_of command None None reply old.pass pass)) (sym e.pass) e.step) (spends_none old.pass new.pass reply (release_tells c.release.result)))
 
 pub returns-in-Search : goal.returns-in-Search
 returns-in-Search g c =
@@ -69,7 +70,7 @@ returns-in-Search g c =
     let took = pair_taken on reply new.pass in
     let place = option_map (λ pair. last_place new.pass) took in
     subst (λ (command : Command). IsCarriedOut engine old new command (reply_view c.found.result)) (ap (λ (name : Option (List ℕ)). search name s) c.text_of.ensures ∙ sym (ap command_view c.in-Search.is))
-    (carried engine old new (search on s) took place reply (reply_view c.found.result) c.found.ensures e.same (holds_still engine old new (search on s) took place reply refl e.held) e.step)
+    (carried engine old new (search on s) took place reply (reply_view c.found.result) c.found.ensures e.same (holds_still engine old new (search on s) took place reply refl e.held) e.step (spends_none old.pass new.pass reply (search_tells c.search.result)))
 
 pub returns-in-Document : goal.returns-in-Document
 returns-in-Document g c =
@@ -83,7 +84,7 @@ returns-in-Document g c =
     let took = pair_taken on reply new.pass in
     let place = option_map (λ pair. last_place new.pass) took in
     subst (λ (command : Command). IsCarriedOut engine old new command (reply_view c.shown.result)) (ap (λ (name : Option (List ℕ)). document name at) c.text_of-in-Document.ensures ∙ sym (ap command_view c.in-Document.is))
-    (carried engine old new (document on at) took place reply (reply_view c.shown.result) c.shown.ensures e.same (holds_still engine old new (document on at) took place reply refl e.held) e.step)
+    (carried engine old new (document on at) took place reply (reply_view c.shown.result) c.shown.ensures e.same (holds_still engine old new (document on at) took place reply refl e.held) e.step (spends_none old.pass new.pass reply (document_tells at c.document.result)))
 
 pub returns-in-Stats : goal.returns-in-Stats
 returns-in-Stats g c =
@@ -96,7 +97,7 @@ returns-in-Stats g c =
     let took = pair_taken on reply new.pass in
     let place = option_map (λ pair. last_place new.pass) took in
     subst (λ (command : Command). IsCarriedOut engine old new command (reply_view c.counted.result)) (ap (λ (name : Option (List ℕ)). stats name) c.text_of-in-Stats.ensures ∙ sym (ap command_view c.in-Stats.is))
-    (carried engine old new (stats on) took place reply (reply_view c.counted.result) c.counted.ensures e.same (holds_still engine old new (stats on) took place reply refl e.held) e.step)
+    (carried engine old new (stats on) took place reply (reply_view c.counted.result) c.counted.ensures e.same (holds_still engine old new (stats on) took place reply refl e.held) e.step (spends_none old.pass new.pass reply (stats_tells c.stats.result)))
 
 pub returns-in-Commit : goal.returns-in-Commit
 returns-in-Commit g c =
@@ -106,4 +107,4 @@ returns-in-Commit g c =
     let e = c.commit.ensures in
     let reply = commit_reply c.commit.result in
     subst (λ (command : Command). IsCarriedOut engine old new command (reply_view c.committed.result)) (sym (ap command_view c.in-Commit.is))
-    (carried engine old new commit None None reply (reply_view c.committed.result) c.committed.ensures e.same (holds_still engine old new commit None None reply refl e.held) e.step)
+    (carried engine old new commit None None reply (reply_view c.committed.result) c.committed.ensures e.same (holds_still engine old new commit None None reply refl e.held) e.step e.spent)

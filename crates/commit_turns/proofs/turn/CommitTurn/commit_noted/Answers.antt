@@ -62,7 +62,7 @@ returns-in-Err-Disk-clause-stands g c points st =
     let none = none_unless v.committer.closed (λ k some. cc ((e.closed k).0 some, c.in-Err-Disk.field-0-is)) in
     let closes = e.disk c.in-Err-Disk.count c.in-Err-Disk.field-0-is in
     let after = stands_failed d n.told n.settled v.start.value v.begun.value.state v.committer new v.last view docs segments points none e.config c.requires.list all before
-    c.in-Err-Disk.count closes.2 closes.1 e.later e.known e.tells (e.failed c.in-Err-Disk.count c.in-Err-Disk.field-0-is) (e.any_moment none) (e.now none) in
+    c.in-Err-Disk.count closes.2 closes.0 closes.1 e.later e.known e.tells (e.failed c.in-Err-Disk.count c.in-Err-Disk.field-0-is) (e.any_moment none) (e.now none) in
     subst (λ (T : Type 0). T) (λ i. On d n.told n.settled v.start.value v.begun.value.state new (failed_after v.last c.in-Err-Disk.count) (c.requires.labels i) docs (points ++ failed_after v.last c.in-Err-Disk.count ∷ [])) after
 
 pub returns-in-Err-Disk-clause-closed : goal.returns-in-Err-Disk-clause-closed

@@ -2,6 +2,7 @@ use Rattle.std.proofs.Common.{◌≡◌, ◌∙◌, ◌≤◌, ℕ, List, Some, 
 use mathlib.Core.List.{IsPrefix}
 use Rattle.chronicle.specs.History.{entries}
 use Rattle.chronicle.proofs.Prefixes.{prefix_trans}
+use Rattle.facet_disk.specs.Calls.{Rose}
 use Rattle.facet_model.specs.Histories.{Operation}
 use Rattle.commit_turns.specs.Ending.{Lasts, FailsWith}
 use Rattle.commit_turns.specs.Points.{last_of}
@@ -10,7 +11,7 @@ use Rattle.commit_turns.proofs.Prefixed.{labels_on, docs_on}
 use Rattle.pair_manager.specs.declared.point.CommitPoint.{CommitPoint}
 use Rattle.pair_manager.proofs.Publishing.{still_right}
 use Rattle.taxo_cache.specs.Seen.{labels_of}
-use Rattle.facet_engine.proofs.Ended.{ends_later, ends_now, ends_still, ended_told, ended_up_to, sessions_are, are_published, lasts_more}
+use Rattle.facet_engine.proofs.Ended.{ends_later, ends_now, ends_still, ended_named, ended_told, ended_up_to, sessions_are, are_published, lasts_more}
 use Rattle.facet_engine.proofs.system.System.end.Goals as goal
 
 pub note_each-notes-requires-clause-right : goal.note_each-notes-requires-clause-right
@@ -52,10 +53,25 @@ returns-clause-numbers g c =
     (ends_still first.pairs n.result.pairs n.ensures.pairs.1 n.ensures.pairs.2)
     (ends_now first.commits e.new.token n.result.commits e.ensures.commits.0 e.ensures.commits.1 n.ensures.commits.1 n.ensures.commits.2)
 
+pub returns-clause-named : goal.returns-clause-named
+returns-clause-named g c =
+    let first = c.args.first in
+    let e = c.end_commits-disk in
+    let n = c.note_each-notes in
+    ended_named first c.requires.numbers n.result c.end-list.new.token c.end-index.new.token first.pairs e.new.token
+    (ends_later first.labels e.new.seen_labels c.end-list.new.token n.result.labels e.ensures.labels c.end-list.ensures.ended c.end-list.ensures.more n.ensures.labels.1 n.ensures.labels.2)
+    (ends_later first.operations e.new.seen_operations c.end-index.new.token n.result.operations e.ensures.operations c.end-index.ensures.ended c.end-index.ensures.more n.ensures.operations.1 n.ensures.operations.2)
+    (ends_still first.pairs n.result.pairs n.ensures.pairs.1 n.ensures.pairs.2)
+    (ends_now first.commits e.new.token n.result.commits e.ensures.commits.0 e.ensures.commits.1 n.ensures.commits.1 n.ensures.commits.2)
+
 pub returns-clause-counts : goal.returns-clause-counts
 returns-clause-counts g c =
     let faults = g.D.Disk.faults c.end_commits-disk.result in
     subst (λ (l : List (ℕ × CommitPoint)). All (λ (p : CommitPoint). (count : ℕ) → p.failed ≡ Some count → count ≤ faults) (entries l)) (sym c.note_each-notes.ensures.commits.1.2) c.end_commits-disk.ensures.counts
+
+pub returns-clause-rose : goal.returns-clause-rose
+returns-clause-rose g c next moment faults failures numbers =
+    subst (λ (l : List (ℕ × CommitPoint)). All (λ (p : CommitPoint). (count : ℕ) → p.failed ≡ Some count → Rose faults count) (entries l)) (sym c.note_each-notes.ensures.commits.1.2) (c.end_commits-disk.ensures.rose next moment faults failures numbers)
 
 pub returns-clause-failed : goal.returns-clause-failed
 returns-clause-failed g c next moment faults failures told numbers =

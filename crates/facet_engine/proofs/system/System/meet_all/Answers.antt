@@ -1,4 +1,5 @@
-use Rattle.facet_engine.proofs.Told.{meets, met_list, met_right}
+use Rattle.facet_model.specs.Histories.{Operation}
+use Rattle.facet_engine.proofs.Told.{HasMet, meets, meets_all, met_list, met_right}
 use Rattle.facet_engine.proofs.system.System.meet_all.Goals as goal
 
 pub invariant_of-pass-clause-right : goal.invariant_of-pass-clause-right
@@ -21,11 +22,14 @@ returns g c = record {
       let o = c.meet-2.ensures in
       let p = c.meet-3.ensures in
       let k = c.meet-4.ensures in
-      meets number c.args.pass.now _ c.args.notes have
-      (record { same = l.same; one = l.one; longest = l.longer; told = l.told; more = l.more; counted = l.counted })
-      (record { same = o.same; one = o.one; longest = o.longer; told = o.told; more = o.more; counted = o.counted })
-      (record { same = p.same; one = p.one; longest = p.longer; told = p.told; more = p.more; counted = p.counted })
-      (record { same = k.same; one = k.one; longest = k.longer; told = k.told; more = k.more; counted = k.counted });
+      let operations : HasMet c.args.pass.now.operations c.meet-2.new.into c.args.notes.operations = record { same = o.same; one = o.one; longest = o.longer; told = o.told; more = o.more; counted = o.counted } in (
+        meets number c.args.pass.now _ c.args.notes have
+            (record { same = l.same; one = l.one; longest = l.longer; told = l.told; more = l.more; counted = l.counted })
+            operations
+            (record { same = p.same; one = p.one; longest = p.longer; told = p.told; more = p.more; counted = p.counted })
+            (record { same = k.same; one = k.one; longest = k.longer; told = k.told; more = k.more; counted = k.counted }),
+        λ sees. meets_all (λ (x : Operation). x.doc) c.args.pass.now.operations c.meet-2.new.into c.args.notes.operations operations sees.operations,
+      );
 }
 
 pub invariant_of-pass-clause-list : goal.invariant_of-pass-clause-list

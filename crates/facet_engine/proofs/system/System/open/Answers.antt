@@ -7,7 +7,10 @@ use Rattle.commit_turns.specs.Points.{made}
 use Rattle.commit_turns.specs.Seen.{docs_of}
 use Rattle.seg_decoding.specs.Decoding.{docs_in, records_in}
 use Rattle.taxo_cache.specs.Seen.{labels_of}
-use Rattle.facet_engine.proofs.Opened.{all_of, docs_many, docs_seen, many_seen, opened_is}
+use Rattle.chronicle.specs.Shown.{mine}
+use Rattle.std.specs.Prelude.{All}
+use Rattle.facet_model.specs.Histories.{Operation}
+use Rattle.facet_engine.proofs.Opened.{all_of, docs_many, docs_seen, many_seen, opened_is, opened_named}
 use Rattle.facet_engine.proofs.system.System.open.Goals as goal
 
 pub open_commits-opened-requires-clause-opened : goal.open_commits-opened-requires-clause-opened
@@ -42,3 +45,9 @@ returns-clause-opened g c =
     c.count_documents.ensures ∙ ap (λ l. length (records_in (map arc_value l))) c.deref.ensures.value ∙ sym (docs_many (labels_of store.first.seen) segments) in
     let size : c.size.result ≡ length (labels_of store.first.seen) = c.size.ensures.size ∙ ap length c.requires.ready.viewed in
     λ i. (documents i, size i)
+
+pub returns-clause-named : goal.returns-clause-named
+returns-clause-named g c =
+    let store = c.args.store in
+    let ds = docs_in (labels_of store.first.seen) (map arc_value store.segments.items) in
+    subst (λ (t : Shown Operation). All (λ (e : ℕ × Operation). e.1.session ≡ 0) (mine t)) (sym c.open_commits-opened.ensures.tokens.1) (opened_named ds c.in-Ok.opened.2 c.in-Ok.ensures.operations.seen)
