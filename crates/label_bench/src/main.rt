@@ -1,4 +1,5 @@
-//! What labels and pairs cost: resolving new and known labels by one thread and by four, and refreshing and acquiring a pair of an index and a taxonomy.
+//! What labels and pairs cost: resolving new and known labels by one thread and by four, one and four labels in a call, and refreshing and acquiring a pair
+//! of an index and a taxonomy.
 //!
 //! `label_bench 200000 120000 times` resolves 200,000 new labels in each thread and those of the first thread again in each, and publishes 120,000 documents.
 //! It prints what there was at the end, and, where the last word is there, what each took.
@@ -30,12 +31,15 @@ fn main(rt: HostRuntime) -> io::Result<()> {
     let labels = number(args.next());
     let documents = number(args.next());
     let timed = args.next().is_some();
-    for threads in [1u32, 4] {
-        let Some(took) = resolve_by(&rt, rt.alloc(), threads, labels) else {
-            println!(rt; "{threads} threads: no memory")?;
+    for (threads, each) in [(1u32, 1usize), (1, 4), (4, 1), (4, 4)] {
+        let Some(took) = resolve_by(&rt, rt.alloc(), threads, labels, each) else {
+            println!(rt; "{threads} threads, {each} in a call: no memory")?;
             continue;
         };
-        println!(rt; "{threads} threads: {} labels", took.labels)?;
+        println!(rt;
+            "{threads} threads, {each} in a call: {} labels",
+            took.labels
+        )?;
         if timed {
             let count = threads as u64 * labels as u64;
             println!(rt;

@@ -30,19 +30,25 @@ pub struct Resolving {
     pub known: Duration,
 }
 
+// Resolves the paths, so many in a call, as those of a document; one at least.
 fn resolve_list<N: Name, R: Wait>(
     rt: &R,
     writer: &TaxoWriter<N>,
     token: &mut Token<Path>,
     paths: &[Path],
+    each: usize,
 ) -> bool
     requires own { token.old.identity ≡ writer.now.labels }
     requires rests { MayTake token.old × SeesLabels token.old }
     ensures own { token.new.identity ≡ writer.now.labels }
     ensures rests { MayTake token.new × SeesLabels token.new }
 {
-    let resolved = writer.resolve_each(rt, token, paths);
-    resolved.is_ok()
+    for document in paths.chunks(each.max(1)) {
+        if writer.resolve_each(rt, token, document).is_err() {
+            return false;
+        }
+    }
+    true
 }
 
 // A token for each thread.
@@ -73,6 +79,7 @@ fn resolve_lists<N: Name + Send + Sync, R: Threads + Wait + Sync>(
     writer: &TaxoWriter<N>,
     tokens: &mut [Token<Path>],
     lists: &[Vec<Path>],
+    each: usize,
     own: bool,
 )
     requires { All (λ t. (t.identity ≡ writer.now.labels) × MayTake t × SeesLabels t) tokens.old }
@@ -91,7 +98,7 @@ fn resolve_lists<N: Name + Send + Sync, R: Threads + Wait + Sync>(
             ensures { (token.exit.now.identity ≡ writer.entry.now.labels) × MayTake token.exit.now × SeesLabels token.exit.now }
         {
             if let Some(paths) = lists.get(if own { i } else { 0 }) {
-                resolve_list(rt, writer, token, paths);
+                resolve_list(rt, writer, token, paths, each);
             }
         },
     );
@@ -113,14 +120,15 @@ fn resolve_twice<N: Name + Send + Sync, R: Threads + Wait + Clock + Sync>(
     writer: &TaxoWriter<N>,
     tokens: &mut [Token<Path>],
     lists: &[Vec<Path>],
+    each: usize,
 ) -> Option<(Duration, Duration)>
     requires { All (λ t. (t.identity ≡ writer.now.labels) × MayTake t × SeesLabels t) tokens.old }
 {
     let start = Instant::now(rt).ok()?;
-    resolve_lists(rt, writer, tokens, lists, true);
+    resolve_lists(rt, writer, tokens, lists, each, true);
     let new = start.elapsed(rt).ok()?;
     let again = Instant::now(rt).ok()?;
-    resolve_lists(rt, writer, tokens, lists, false);
+    resolve_lists(rt, writer, tokens, lists, each, false);
     let known = again.elapsed(rt).ok()?;
     Some((new, known))
 }
@@ -131,25 +139,27 @@ fn resolve_opened<N: Name + Send + Sync, R: Threads + Wait + Clock + Sync>(
     opened: Opened,
     threads: u32,
     lists: &[Vec<Path>],
+    each: usize,
 ) -> Option<Resolving>
     requires { opened.labels ≡ N.labels }
 {
     let Opened { labels, mut first } = opened;
     let writer = TaxoWriter::<N>::open(alloc, labels, &mut first, STRIPES, ROOM, 1_000_000).ok()?;
     let mut tokens = tokens_for(alloc, &writer, &mut first, threads)?;
-    let (new, known) = resolve_twice(rt, &writer, tokens.as_mut_slice(), lists)?;
+    let (new, known) = resolve_twice(rt, &writer, tokens.as_mut_slice(), lists, each)?;
     let labels = writer.end(rt, &mut first).size();
     Some(Resolving { labels, new, known })
 }
 
-/// Each thread resolves so many labels of its own, all new, and then each those of the first thread, which the cache has.
+/// Each thread resolves so many labels of its own, all new, and then each those of the first thread, which the cache has; `each` of them in a call.
 pub fn resolve_by<R: Threads + Wait + Clock + Sync>(
     rt: &R,
     alloc: Global,
     threads: u32,
     labels: u32,
+    each: usize,
 ) -> Option<Resolving> {
     let lists = lists_for(alloc, threads, labels)?;
     let opened = open_labels(alloc)?;
-    resolve_opened::<Brand, R>(rt, alloc, opened, threads, &lists)
+    resolve_opened::<Brand, R>(rt, alloc, opened, threads, &lists, each)
 }

@@ -1,11 +1,11 @@
 -- Several paths, one after the other.
 use Rattle.std.proofs.Common.{Contains, ◌≡◌, ◌∙◌, ℕ, zero, suc, ◌<◌, ◌≤◌, ◌+◌, Bool, true, false, not, cond, eqb, List, [], ◌∷◌, ◌++◌, ◌||◌, ◌&&◌, length, take, drop, map, get_or, slice_get, Some, None, option_map, Option, refl, ap, sym, subst, arith, append-nil, append_assoc}
-use Rattle.std.specs.Prelude.{flat_map}
+use Rattle.std.specs.Prelude.{◌≢◌, flat_map, Result, IfErr}
 use Rattle.std.specs.Option.{option_map_or}
 use Rattle.std.specs.List.{AllZip, list_all, position_or_len}
 use Rattle.std.proofs.Math.Bool.{or-true}
 use Rattle.std.proofs.lemmas.Grind.{flat_map-append}
-use Rattle.std.proofs.lemmas.List.{length-append, length-map, nil_from_length, take_more, take-append-drop, take-append-le}
+use Rattle.std.proofs.lemmas.List.{length-append, length-map, nil_from_length, take_all, take_more, take-append-drop, take-append-le}
 use Rattle.std.proofs.lemmas.List.Elements.{Contains-get_or, filter-append}
 use Rattle.std.proofs.lemmas.List.Folds.{list_any-append}
 use Rattle.std.proofs.lemmas.Option.{slice_get_within, slice_get-get_or, slice_get-map}
@@ -14,7 +14,7 @@ use native.Mathlib.Decide.{dec_lt}
 use mathlib.Core.Logic.{dite}
 use mathlib.Core.List.{IsPrefix}
 use Rattle.chronicle.specs.History.{numbered, entered_by, own_of}
-use Rattle.chronicle.specs.Shown.{Shown, mine}
+use Rattle.chronicle.specs.Shown.{Shown, SeesOn, mine}
 use Rattle.chronicle.proofs.Entries.{entries-prefix}
 use Rattle.chronicle.proofs.Prefixes.{prefix_append, prefix_get}
 use Rattle.facet_names.specs.Paths.{path_eq, path_eq_equiv}
@@ -22,9 +22,12 @@ use Rattle.facet_names.specs.Labels.{place, prefixes, stands}
 use Rattle.facet_names.proofs.LabelLists.{label_at}
 use Rattle.facet_model.specs.CountedPaths.{AreResolved}
 use Rattle.taxo_cache.specs.Seen.{labels_of}
+use Rattle.taxo_list.specs.declared.fault.TaxoFault.{TaxoFault}
+use Rattle.taxo_list.specs.declared.fault.TaxoFault.TheVariants.{NoMemory as Memory}
 use Rattle.taxo_writer.specs.Adding.{lacking, HaveOrdinals, Adds}
-use Rattle.taxo_writer.specs.Several.{skips_none, EachNew, IsInTurn}
-use Rattle.taxo_writer.proofs.Ordinals.{ordinals_seen, none_missing, labels_entered}
+use Rattle.taxo_writer.specs.Several.{skips_none, EachNew, IsInTurn, EachHaveOrdinals, EachHaveFirst, IsFullForOne}
+use Rattle.taxo_writer.proofs.Ordinals.{ordinals_seen, none_missing, labels_entered, as_many_prefixes}
+use Rattle.taxo_writer.proofs.Entering.{adds_none}
 
 -- ---- entries of a number
 
@@ -209,22 +212,75 @@ module _ (limit : ℕ) (paths : List (List (List ℕ))) where
       turn_stays limit now new paths i p more lt (first i p low here))
       (λ behind. second i p (omega (arith, behind)) at)
 
+  -- by none, where it only saw more
+  pub none_new : (old new : Shown (List (List ℕ))) → old.is_note ≡ false → new.is_note ≡ false → new.number ≡ old.number → SeesOn old new → EachNew old.number (IsInTurn limit (labels_of new.seen) paths) old.seen new.seen
+  none_new old new is_old is_new same on = each_one [] [] paths old new refl (λ seen more. refl) is_old is_new same (adds_none [] limit old new on)
+
+  -- the same as since a later moment, where it only saw more till then, and as till an earlier one, where it saw no more from then on
+  pub new_since : (inside : ℕ) (old mid now new : Shown (List (List ℕ))) → inside ≡ limit → old.is_note ≡ false → mid.is_note ≡ false → mid.number ≡ old.number → SeesOn old mid → IsPrefix mid.seen now.seen → new.seen ≡ now.seen
+      → EachNew mid.number (IsInTurn inside (labels_of now.seen) paths) mid.seen now.seen → EachNew old.number (IsInTurn limit (labels_of new.seen) paths) old.seen new.seen
+  new_since inside old mid now new is is_old is_mid same on more seen adds =
+      let turned : EachNew old.number (IsInTurn inside (labels_of now.seen) paths) mid.seen now.seen = subst (λ (m : ℕ). EachNew m (IsInTurn inside (labels_of now.seen) paths) mid.seen now.seen) same adds in
+      let limited : EachNew old.number (IsInTurn limit (labels_of now.seen) paths) mid.seen now.seen = subst (λ (k : ℕ). EachNew old.number (IsInTurn k (labels_of now.seen) paths) mid.seen now.seen) is turned in
+      subst (λ (l : List (ℕ × List (List ℕ))). EachNew old.number (IsInTurn limit (labels_of l) paths) old.seen l) (sym seen)
+      (each_more old.number old.seen mid.seen now.seen more (none_new old mid is_old is_mid same on) limited)
+
+-- the turn was given back
+pub full_given_each : {A : Type 0} (r : Result A TaxoFault) (paths : List (List (List ℕ))) (inside limit : ℕ) (now new : Shown (List (List ℕ))) → inside ≡ limit → now.seen ≡ new.seen
+    → IfErr r (λ e. e ≢ Memory → IsFullForOne e inside (labels_of now.seen) paths) → IfErr r (λ e. e ≢ Memory → IsFullForOne e limit (labels_of new.seen) paths)
+full_given_each r paths inside limit now new same seen full = subst (λ (l : List (ℕ × List (List ℕ))). IfErr r (λ e. e ≢ Memory → IsFullForOne e limit (labels_of l) paths)) seen
+    (subst (λ (k : ℕ). IfErr r (λ e. e ≢ Memory → IsFullForOne e k (labels_of now.seen) paths)) same full)
+
+-- ---- lists side by side
+
+module _ {A B : Type 0} where
+  zip_kept : (R S : A → B → Type 0) → ((a : A) (b : B) → R a b → S a b) → (xs : List A) (ys : List B) → AllZip R xs ys → AllZip S xs ys
+  zip_kept R S keeps [] [] all = tt
+  zip_kept R S keeps [] (y ∷ ys) all = absurd all
+  zip_kept R S keeps (x ∷ xs) [] all = absurd all
+  zip_kept R S keeps (x ∷ xs) (y ∷ ys) all = (keeps x y all.0, zip_kept R S keeps xs ys all.1)
+
+  zip_push : (R : A → B → Type 0) (xs : List A) (ys : List B) (a : A) (b : B) → AllZip R xs ys → R a b → AllZip R (xs ++ a ∷ []) (ys ++ b ∷ [])
+  zip_push R [] [] a b all here = (here, tt)
+  zip_push R [] (y ∷ ys) a b all here = absurd all
+  zip_push R (x ∷ xs) [] a b all here = absurd all
+  zip_push R (x ∷ xs) (y ∷ ys) a b all here = (all.0, zip_push R xs ys a b all.1 here)
+
+  zip_many : (R : A → B → Type 0) (xs : List A) (ys : List B) → AllZip R xs ys → length xs ≡ length ys
+  zip_many R [] [] all = refl
+  zip_many R [] (y ∷ ys) all = absurd all
+  zip_many R (x ∷ xs) [] all = absurd all
+  zip_many R (x ∷ xs) (y ∷ ys) all = ap suc (zip_many R xs ys all.1)
+
+  zip_at : (R : A → B → Type 0) (xs : List A) (ys : List B) → AllZip R xs ys → (i : ℕ) (a : A) (b : B) → i < length xs → R (get_or xs i a) (get_or ys i b)
+  zip_at R [] ys all i a b lt = absurd (omega arith)
+  zip_at R (x ∷ xs) [] all i a b lt = absurd all
+  zip_at R (x ∷ xs) (y ∷ ys) all zero a b lt = all.0
+  zip_at R (x ∷ xs) (y ∷ ys) all (suc i) a b lt = zip_at R xs ys all.1 i a b (omega arith)
+
 -- ---- the ordinals of each
 
-abbrev pub EachHaveOrdinals : List (List (List ℕ)) → List (List (List ℕ)) → List (List ℕ) → Type 0
-EachHaveOrdinals labels paths resolved = AllZip (λ path ords. HaveOrdinals labels (prefixes path) ords) paths resolved
+abbrev IsWhole : List (List (List ℕ)) → List (List ℕ) → List ℕ → Type 0
+IsWhole labels path ords = HaveOrdinals labels (prefixes path) ords
+
+abbrev IsFirst : List (List (List ℕ)) → List (List ℕ) → List ℕ → Type 0
+IsFirst labels path ords = HaveOrdinals labels (take (length ords) (prefixes path)) ords
 
 pub each_seen : (old new : List (ℕ × List (List ℕ))) → IsPrefix old new → (paths : List (List (List ℕ))) (resolved : List (List ℕ)) → EachHaveOrdinals (labels_of old) paths resolved → EachHaveOrdinals (labels_of new) paths resolved
-each_seen old new more [] [] all = tt
-each_seen old new more [] (r ∷ rs) all = absurd all
-each_seen old new more (p ∷ ps) [] all = absurd all
-each_seen old new more (p ∷ ps) (r ∷ rs) all = (ordinals_seen old new more (prefixes p) r all.0, each_seen old new more ps rs all.1)
+each_seen old new more paths resolved all = zip_kept (IsWhole (labels_of old)) (IsWhole (labels_of new)) (λ path ords at. ordinals_seen old new more (prefixes path) ords at) paths resolved all
 
-pub each_push : (labels paths : List (List (List ℕ))) (resolved : List (List ℕ)) (p : List (List ℕ)) (r : List ℕ) → EachHaveOrdinals labels paths resolved → HaveOrdinals labels (prefixes p) r → EachHaveOrdinals labels (paths ++ p ∷ []) (resolved ++ r ∷ [])
-each_push labels [] [] p r all here = (here, tt)
-each_push labels [] (s ∷ rs) p r all here = absurd all
-each_push labels (q ∷ ps) [] p r all here = absurd all
-each_push labels (q ∷ ps) (s ∷ rs) p r all here = (all.0, each_push labels ps rs p r all.1 here)
+pub first_seen : (old new : List (ℕ × List (List ℕ))) → IsPrefix old new → (paths : List (List (List ℕ))) (found : List (List ℕ)) → EachHaveFirst (labels_of old) paths found → EachHaveFirst (labels_of new) paths found
+first_seen old new more paths found all = zip_kept (IsFirst (labels_of old)) (IsFirst (labels_of new)) (λ path ords at. ordinals_seen old new more (take (length ords) (prefixes path)) ords at) paths found all
+
+pub as_many_found : (labels paths : List (List (List ℕ))) (found : List (List ℕ)) → EachHaveFirst labels paths found → length paths ≡ length found
+as_many_found labels paths found all = zip_many (IsFirst labels) paths found all
+
+pub as_many_resolved : (labels paths : List (List (List ℕ))) (resolved : List (List ℕ)) → EachHaveOrdinals labels paths resolved → length paths ≡ length resolved
+as_many_resolved labels paths resolved all = zip_many (IsWhole labels) paths resolved all
+
+-- as many ordinals as there are prefixes are those of all
+pub all_found : (labels : List (List (List ℕ))) (path : List (List ℕ)) (ords : List ℕ) → length ords ≡ length path → HaveOrdinals labels (take (length ords) (prefixes path)) ords → HaveOrdinals labels (prefixes path) ords
+all_found labels path ords size at = subst (λ (ps : List (List (List ℕ))). HaveOrdinals labels ps ords) (take_all (length ords) (prefixes path) (omega (arith, size, as_many_prefixes path))) at
 
 -- the labels at the ordinals are the paths
 pub at_ordinals : (labels paths : List (List (List ℕ))) (ords : List ℕ) → HaveOrdinals labels paths ords → map (slice_get labels) ords ≡ map Some paths
@@ -283,7 +339,19 @@ module _ (paths : List (List (List ℕ))) (i : ℕ) (p : List (List ℕ)) (lt : 
   pub each_next : (seen later : List (ℕ × List (List ℕ))) → IsPrefix seen later → (resolved now : List (List ℕ)) (r : List ℕ) → EachHaveOrdinals (labels_of seen) (take i paths) resolved → HaveOrdinals (labels_of later) (prefixes p) r → now ≡ resolved ++ r ∷ [] → EachHaveOrdinals (labels_of later) (take (i + 1) paths) now
   each_next seen later more resolved now r before here pushed =
       subst (λ (rs : List (List ℕ)). EachHaveOrdinals (labels_of later) (take (i + 1) paths) rs) (sym pushed)
-      (subst (λ (ps : List (List (List ℕ))). EachHaveOrdinals (labels_of later) ps (resolved ++ r ∷ [])) (sym next_path) (each_push (labels_of later) (take i paths) resolved p r (each_seen seen later more (take i paths) resolved before) here))
+      (subst (λ (ps : List (List (List ℕ))). EachHaveOrdinals (labels_of later) ps (resolved ++ r ∷ [])) (sym next_path) (zip_push (IsWhole (labels_of later)) (take i paths) resolved p r (each_seen seen later more (take i paths) resolved before) here))
+
+  pub first_next : (seen later : List (ℕ × List (List ℕ))) → IsPrefix seen later → (found now : List (List ℕ)) (r : List ℕ) → EachHaveFirst (labels_of seen) (take i paths) found → HaveOrdinals (labels_of later) (take (length r) (prefixes p)) r → now ≡ found ++ r ∷ [] → EachHaveFirst (labels_of later) (take (i + 1) paths) now
+  first_next seen later more found now r before here pushed =
+      subst (λ (rs : List (List ℕ)). EachHaveFirst (labels_of later) (take (i + 1) paths) rs) (sym pushed)
+      (subst (λ (ps : List (List (List ℕ))). EachHaveFirst (labels_of later) ps (found ++ r ∷ [])) (sym next_path) (zip_push (IsFirst (labels_of later)) (take i paths) found p r (first_seen seen later more (take i paths) found before) here))
+
+  -- what was found for this one
+  pub first_at : (labels : List (List (List ℕ))) (found : List (List ℕ)) (r : List ℕ) → get_or found i r ≡ r → EachHaveFirst labels paths found → HaveOrdinals labels (take (length r) (prefixes p)) r
+  first_at labels found r is all = subst (IsFirst labels p) is (subst (λ (q : List (List ℕ)). IsFirst labels q (get_or found i r)) at (zip_at (IsFirst labels) paths found all i p r lt))
+
+  pub each_at : (labels : List (List (List ℕ))) (resolved : List (List ℕ)) (r : List ℕ) → get_or resolved i r ≡ r → EachHaveOrdinals labels paths resolved → HaveOrdinals labels (prefixes p) r
+  each_at labels resolved r is all = subst (IsWhole labels p) is (subst (λ (q : List (List ℕ)). IsWhole labels q (get_or resolved i r)) at (zip_at (IsWhole labels) paths resolved all i p r lt))
 
   pub contained : Contains paths p
   contained = subst (Contains paths) at (Contains-get_or paths i p lt)

@@ -1,12 +1,12 @@
 -- What resolving several paths adds to the labels.
 use Rattle.std.specs.Prelude.{◌≡◌, ◌≤◌, ◌<◌, ◌+◌, ℕ, Bool, List, length, take, slice_get, Some, Contains, IsTrue}
-use Rattle.std.specs.List.{list_all, position_or_len}
+use Rattle.std.specs.List.{AllZip, list_all, position_or_len}
 use Rattle.chronicle.specs.Shown.{Shown}
 use Rattle.facet_names.specs.Paths.{path_eq}
-use Rattle.facet_names.specs.Labels.{stands}
+use Rattle.facet_names.specs.Labels.{prefixes, stands}
 use Rattle.taxo_list.specs.declared.fault.TaxoFault.{TaxoFault}
 use Rattle.taxo_cache.specs.Seen.{labels_of}
-use Rattle.taxo_writer.specs.Adding.{IsFull}
+use Rattle.taxo_writer.specs.Adding.{HaveOrdinals, IsFull}
 
 -- of these paths, those before the first such one are among the labels
 abbrev pub skips_none : List (List (List ℕ)) → List (List (List ℕ)) → List (List ℕ) → Bool
@@ -28,3 +28,11 @@ AddsInTurn paths limit old new = EachNew old.number (IsInTurn limit (labels_of n
 -- the list is full for one of the paths
 abbrev pub IsFullForOne : TaxoFault → ℕ → List (List (List ℕ)) → List (List (List ℕ)) → Type 0
 IsFullForOne fault limit labels paths = (path : List (List ℕ)) × Contains paths path × IsFull fault limit labels path
+
+-- beside each path stand the ordinals of all its prefixes
+abbrev pub EachHaveOrdinals : List (List (List ℕ)) → List (List (List ℕ)) → List (List ℕ) → Type 0
+EachHaveOrdinals labels paths resolved = AllZip (λ path ords. HaveOrdinals labels (prefixes path) ords) paths resolved
+
+-- beside each path stand the ordinals of its first prefixes: of none, some or all
+abbrev pub EachHaveFirst : List (List (List ℕ)) → List (List (List ℕ)) → List (List ℕ) → Type 0
+EachHaveFirst labels paths found = AllZip (λ path ords. HaveOrdinals labels (take (length ords) (prefixes path)) ords) paths found

@@ -1,13 +1,16 @@
-ghost use Rattle.std.specs.Prelude.{◌≡◌, ◌≢◌, ◌≤◌, ◌++◌, [], ◌∷◌, true, false, length, take, Some, IsTrue, IfOk, IfErr, OnOk, OnErr};
+ghost use Rattle.std.specs.Prelude.{◌≡◌, ◌≢◌, ◌≤◌, ◌++◌, [], ◌∷◌, true, false, length, take, flat_map, Some, IsTrue, IfOk, IfErr, OnOk, OnErr};
+ghost use mathlib.Core.List.{IsPrefix};
 ghost use Rattle.chronicle.specs.History.{numbered};
 ghost use Rattle.chronicle.specs.Shown.{mine, MayEnter, SameToken};
 ghost use Rattle.facet_names.specs.Labels.{above, place, prefixes, stands};
 ghost use Rattle.taxo_cache.specs.Seen.{labels_of, SeesLabels};
 ghost use Rattle.taxo_writer.specs.Adding.{HaveOrdinals, Adds, HasNoRoom, IsFull, lacking};
+ghost use Rattle.taxo_writer.specs.Several.{AddsInTurn, EachHaveFirst, EachHaveOrdinals, IsFullForOne};
 ghost use Rattle.taxo_list.specs.declared.fault.TaxoFault.TheVariants.{NoMemory as Memory};
 
 use crate::label_list::LabelList;
 use chronicle::{Chronicle, Token};
+use facet_model::Resolved;
 use facet_names::Path;
 use std::alloc::Global;
 use taxo_list::{TaxoFault, Taxonomy};
@@ -81,4 +84,71 @@ pub fn add_each(
         }
     }
     Ok(())
+}
+
+// In the holder's turn: the ordinals of all prefixes of a path, of which the first were found before.
+fn add_behind(
+    alloc: Global,
+    labels: &Chronicle<LabelList>,
+    token: &mut Token<Path>,
+    list: &mut Taxonomy,
+    path: &Path,
+    found: &Resolved,
+    limit: u32,
+) -> Result<Resolved, TaxoFault>
+    requires limit { limit ≤ 1000000 }
+    requires own { token.old.identity ≡ labels.now }
+    requires turn { MayEnter token.old }
+    requires list { list.old ≡ labels_of token.old.seen }
+    requires labels { SeesLabels token.old }
+    requires known { HaveOrdinals (labels_of token.old.seen) (take (length found.now) (prefixes path.now)) found.now }
+    ensures turn { SameToken token.old token.new × (token.new.holds_turn ≡ true) }
+    ensures list { list.new ≡ labels_of token.new.seen }
+    ensures labels { SeesLabels token.new }
+    ensures adds { Adds path.now limit token.old token.new }
+    ensures ordinals { IfOk result (HaveOrdinals (labels_of token.new.seen) (prefixes path.now)) }
+    ensures full { IfErr result (λ e. e ≢ Memory → IsFull e limit (labels_of token.new.seen) path.now) }
+{
+    let mut ords = Vec::with_capacity(alloc, path.len())?;
+    ords.extend_from_slice(found.prefixes())?;
+    match add_each(alloc, labels, token, list, path, &mut ords, limit) {
+        Ok(()) => Ok(Resolved::new(ords)),
+        Err(fault) => Err(fault),
+    }
+}
+
+/// In the holder's turn: the ordinals of all prefixes of each path, path by path, of which the first were found before. They are put into `resolved`, which
+/// has room for them.
+pub fn add_behind_each(
+    alloc: Global,
+    labels: &Chronicle<LabelList>,
+    token: &mut Token<Path>,
+    list: &mut Taxonomy,
+    paths: &[Path],
+    found: &[Resolved],
+    mut resolved: Vec<Resolved>,
+    limit: u32,
+) -> Result<Vec<Resolved>, TaxoFault>
+    requires limit { limit ≤ 1000000 }
+    requires own { token.old.identity ≡ labels.now }
+    requires turn { MayEnter token.old }
+    requires list { list.old ≡ labels_of token.old.seen }
+    requires labels { SeesLabels token.old }
+    requires known { EachHaveFirst (labels_of token.old.seen) paths.now found.now }
+    requires none { resolved.items ≡ [] }
+    ensures turn { SameToken token.old token.new × (token.new.holds_turn ≡ true) }
+    ensures list { list.new ≡ labels_of token.new.seen }
+    ensures more { IsPrefix token.old.seen token.new.seen }
+    ensures labels { SeesLabels token.new }
+    ensures adds { AddsInTurn (flat_map prefixes paths.now) limit token.old token.new }
+    ensures ordinals { IfOk result (λ v. EachHaveOrdinals (labels_of token.new.seen) paths.now v.items) }
+    ensures full { IfErr result (λ e. e ≢ Memory → IsFullForOne e limit (labels_of token.new.seen) paths.now) }
+{
+    for at in 0..paths.len() {
+        match add_behind(alloc, labels, token, list, &paths[at], &found[at], limit) {
+            Ok(ordinals) => resolved.push(ordinals)?,
+            Err(fault) => return Err(fault),
+        }
+    }
+    Ok(resolved)
 }

@@ -8,11 +8,11 @@ ghost use Rattle.facet_model.specs.CountedPaths.{AreResolved};
 ghost use Rattle.taxo_cache.specs.Seen.{labels_of, SeesLabels};
 ghost use Rattle.taxo_cache.specs.declared.looked.Looked.TheVariants.{Hit};
 ghost use Rattle.taxo_writer.specs.Adding.{HaveOrdinals, Adds, IsFull};
-ghost use Rattle.taxo_writer.specs.Several.{AddsInTurn, IsFullForOne};
+ghost use Rattle.taxo_writer.specs.Several.{AddsInTurn, EachHaveFirst, EachHaveOrdinals, IsFullForOne};
 ghost use Rattle.taxo_list.specs.declared.fault.TaxoFault.TheVariants.{NoMemory as Memory};
 
 use crate::label_list::LabelList;
-use crate::resolving::add_each;
+use crate::resolving::{add_behind_each, add_each};
 use crate::viewing::renewed;
 use chronicle::{Chronicle, Token};
 use facet_model::Resolved;
@@ -44,6 +44,20 @@ impl<N: Name> Model for TaxoWriter<N> {
     ghost view = { λ w. record { labels = w.labels; limit = w.limit } };
 
     ghost invariant = { λ w. (w.labels ≡ N.labels) × (w.limit ≤ 1000000) };
+}
+
+// The ordinals of each path's first prefixes that are in the cache, and whether all are.
+#[derive(Drop)]
+struct Found {
+    each: Vec<Resolved>,
+    whole: bool,
+}
+
+// Whether so many ordinals are all of so many, and it was so before.
+fn is_whole(before: bool, known: usize, all: usize) -> bool
+    ensures { result ≡ true → (before ≡ true) × (known ≡ all) }
+{
+    before && known == all
 }
 
 impl<N: Name> TaxoWriter<N> {
@@ -230,8 +244,93 @@ impl<N: Name> TaxoWriter<N> {
         Ok(Resolved::new(ords))
     }
 
+    // The ordinals of each path's first prefixes, as far as the cache has them.
+    fn find_each<R: Wait>(
+        &self,
+        rt: &R,
+        token: &mut Token<Path>,
+        paths: &[Path],
+    ) -> Result<Found, NoMemory>
+        requires own { token.old.identity ≡ self.now.labels }
+        requires idle { MayTake token.old }
+        ensures token { SameToken token.old token.new × SeesOn token.old token.new × (token.new.holds_turn ≡ false) }
+        ensures labels { SeesLabels token.old → SeesLabels token.new }
+        ensures counted { IsCounted token.old → IsCounted token.new }
+        ensures first { IfOk result (λ f. EachHaveFirst (labels_of token.new.seen) paths.now f.each.items) }
+        ensures whole { IfOk result (λ f. f.whole ≡ true → EachHaveOrdinals (labels_of token.new.seen) paths.now f.each.items) }
+    {
+        let mut each = Vec::with_capacity(self.alloc, paths.len())?;
+        let mut whole = true;
+        for path in paths {
+            let ords = self.find_known(rt, token, path)?;
+            whole = is_whole(whole, ords.len(), path.len());
+            each.push(Resolved::new(ords))?;
+        }
+        Ok(Found { each, whole })
+    }
+
+    // Takes the labels' turn once and gives it back. In between it adds the prefixes that are missing, path by path.
+    fn add_missing_each<R: Wait>(
+        &self,
+        rt: &R,
+        token: &mut Token<Path>,
+        paths: &[Path],
+        found: &[Resolved],
+    ) -> Result<Vec<Resolved>, TaxoFault>
+        requires own { token.old.identity ≡ self.now.labels }
+        requires idle { MayTake token.old }
+        requires labels { SeesLabels token.old }
+        requires known { EachHaveFirst (labels_of token.old.seen) paths.now found.now }
+        ensures token { SameToken token.old token.new × (token.new.holds_turn ≡ false) }
+        ensures more { IsPrefix token.old.seen token.new.seen }
+        ensures labels { SeesLabels token.new }
+        ensures counted { IsCounted token.old → IsCounted token.new }
+        ensures adds { AddsInTurn (flat_map prefixes paths.now) self.now.limit token.old token.new }
+        ensures ordinals { IfOk result (λ v. EachHaveOrdinals (labels_of token.new.seen) paths.now v.items) }
+        ensures full { IfErr result (λ e. e ≢ Memory → IsFullForOne e self.now.limit (labels_of token.new.seen) paths.now) }
+    {
+        let resolved = Vec::with_capacity(self.alloc, paths.len())?;
+        let mut list = self.labels.take(rt, token).into_list();
+        let added = add_behind_each(
+            self.alloc,
+            &self.labels,
+            token,
+            &mut list,
+            paths,
+            found,
+            resolved,
+            self.limit,
+        );
+        self.labels.give(token, LabelList::new(list));
+        added
+    }
+
+    // Keeps the ordinals of the prefixes of each path behind those that were found, where there is memory.
+    fn remember_each<R: Wait>(
+        &self,
+        rt: &R,
+        token: &mut Token<Path>,
+        paths: &[Path],
+        found: &[Resolved],
+        resolved: &[Resolved],
+    )
+        requires own { token.old.identity ≡ self.now.labels }
+        requires labels { SeesLabels token.old }
+        requires as_many { length found.now ≡ length paths.now }
+        requires ordinals { EachHaveOrdinals (labels_of token.old.seen) paths.now resolved.now }
+        ensures token { token.new ≡ token.old }
+    {
+        for at in 0..paths.len() {
+            let known = found[at].prefixes().len();
+            self.remember_from(rt, token, &paths[at], resolved[at].prefixes(), known);
+        }
+    }
+
     /// The ordinals of the prefixes of each path, path by path, as [`resolve`](TaxoWriter::resolve). Labels that were added before a refusal stay; so each
     /// label that was added has all prefixes of the paths before its own as labels before it.
+    ///
+    /// It looks into the cache for the prefixes of all paths first. Where that has them all it takes no turn, and else it waits for the labels' turn once,
+    /// whatever is missing of how many paths.
     pub fn resolve_each<R: Wait>(
         &self,
         rt: &R,
@@ -249,14 +348,15 @@ impl<N: Name> TaxoWriter<N> {
         ensures full { IfErr result (λ e. e ≢ Memory → IsFullForOne e self.now.limit (labels_of token.new.seen) paths.now) }
         ensures counted { IsCounted token.old → IsCounted token.new }
     {
-        let mut resolved = Vec::with_capacity(self.alloc, paths.len())?;
-        for path in paths {
-            let ordinals = match self.resolve(rt, token, path) {
-                Ok(ordinals) => ordinals,
-                Err(fault) => return Err(fault),
-            };
-            resolved.push(ordinals)?;
+        let found = self.find_each(rt, token, paths)?;
+        if found.whole {
+            return Ok(found.each);
         }
+        let resolved = match self.add_missing_each(rt, token, paths, &found.each) {
+            Ok(resolved) => resolved,
+            Err(fault) => return Err(fault),
+        };
+        self.remember_each(rt, token, paths, &found.each, &resolved);
         Ok(resolved)
     }
 
