@@ -3,6 +3,7 @@ use Rattle.std.proofs.Common.{◌≡◌, ◌∙◌, ◌⊎◌, inl, inr, ⊎_eli
 use Rattle.std.specs.Prelude.{Result, Ok, Err, All, IsOk, IsErr, IsTrue, OnOk}
 use Rattle.std.specs.List.{AllZip}
 use Rattle.std.proofs.lemmas.List.Elements.{All-map, All-weaker, length_all_zip, AllZip-get_or, filter_passes}
+use Rattle.chronicle.specs.Frame.{Frame}
 use Rattle.chronicle.specs.History.{NumbersUpTo}
 use Rattle.facet_model.specs.Documents.{Doc}
 use Rattle.pair_manager.specs.declared.pass.Pass.{Pass}
@@ -26,12 +27,14 @@ use Rattle.facet_words.specs.declared.sessions.command.Order.{Order}
 use Rattle.facet_phases.specs.Lanes.{AreIdle, Each, Gathers, IsDealt, LaneRan, MayRun, all_lines}
 use Rattle.facet_phases.specs.Orders.{orders_of}
 use Rattle.facet_words.specs.Sessions.CommandViews.{order_view}
-use Rattle.facet_phases.specs.Phases.{PhaseRan, asked, lines_of}
+use Rattle.facet_phases.specs.Phases.{AreSpentWithin, PhaseRan, asked, lines_of}
 use Rattle.facet_phases.specs.Running.{AreReady, AreUnderway, CarriedOut, CarriesOut}
+use Rattle.facet_engine.proofs.SeenPairs.{still_named}
 use Rattle.facet_phases.proofs.Belonging.{still_belongs, still_set, still_numbered, still_made}
 use Rattle.facet_phases.proofs.Did.{LaneDid}
 use Rattle.facet_phases.proofs.Parts.{AreParts, own_part, sessions_asked, sessions_ran, phase_asked}
-use Rattle.facet_phases.proofs.Phasing.{each_new, new_numbered, parts, parts_many, are_parts, are_whole, held_at}
+use Rattle.facet_phases.proofs.Phasing.{each_new, new_numbered, parts, parts_many, parts_spent, are_parts, are_whole, held_at}
+use Rattle.facet_phases.proofs.Spent.{spent_none, spent_more}
 use Rattle.facet_phases.proofs.Stepping.{told_itself, held_append}
 
 -- under another number than those of the sessions nobody entered anything
@@ -64,6 +67,7 @@ module _ (engine : Engine) (dealt : List Order) (a b : Pass) (xs ws : List Lane)
       numbers = still_numbered 0 a b g.same ready.made.numbers;
       made = subst (λ (n : ℕ). HaveMade n b) (sym still_many) (still_made (length xs) a b g.same ready.made.made);
       counted = g.counted;
+      named = still_named 0 a b g.own ready.made.named;
     };
     many = (let m = still_many in let few = ready.many in omega arith);
     numbered = new_numbered engine dealt (seen_of b) 1 xs ws z ready.numbered;
@@ -78,7 +82,7 @@ module _ (engine : Engine) (dealt : List Order) (a b : Pass) (xs ws : List Lane)
   whole_phase : (settings : Settings) (phases : List (List commands.Order)) (opened : Opened) (ran : List (List Step)) → AreUnderway engine settings phases opened ran a xs → (set : All (λ (l : Lane). HasSettings engine l.session.pass settings) xs)
       → All (λ (o : Order). (1 ≤ o.session) × (o.session ≤ length xs)) dealt → IsTrue (lines_rise (map order_view dealt)) → All (λ (l : Lane). IsOk l.lines) ws
       → AreParts settings (length phases) (map order_view dealt) (λ session. held_by [] (own_steps session (steps_of ran))) (seen_of a) (seen_of b) 1 (parts engine dealt (seen_of b) settings (length phases) xs ws z set)
-      → PhaseRan settings ran (length phases) (seen_of a) (seen_of b) (map order_view dealt) (steps_of (parts engine dealt (seen_of b) settings (length phases) xs ws z set))
+      → PhaseRan settings a.commits.frame ran (length phases) (seen_of a) (seen_of b) (map order_view dealt) (steps_of (parts engine dealt (seen_of b) settings (length phases) xs ws z set))
       → AreUnderway engine settings (phases ++ map order_view dealt ∷ []) opened (ran ++ steps_of (parts engine dealt (seen_of b) settings (length phases) xs ws z set) ∷ []) b ws
       × (all_lines ws ≡ lines_of (steps_of (parts engine dealt (seen_of b) settings (length phases) xs ws z set)))
   whole_phase settings phases opened ran under set sessions rise ok are phase =
@@ -94,6 +98,9 @@ module _ (engine : Engine) (dealt : List Order) (a b : Pass) (xs ws : List Lane)
       (All-weaker (λ (o : Order). (1 ≤ o.session) × (o.session ≤ length xs)) (λ (o : Order). o.session ≤ length ps) (λ o s. let t = s.1 in omega arith) dealt sessions) in (
         record {
           so_far = one_more_phase settings phases opened ran (seen_of a) orders steps (seen_of b) under.so_far rise (phase_asked n orders ps few within all.0) phase.sessions;
+          frames = each_new engine dealt (seen_of b) (λ (l : Lane). l.session.pass.commits.frame ≡ a.commits.frame) (λ (l : Lane). l.session.pass.commits.frame ≡ b.commits.frame)
+              (λ x y did is. did.same.1.commits.4 ∙ is ∙ sym g.same.commits.4) xs ws z under.frames;
+          spent = subst (λ (f : Frame). AreSpentWithin f (steps_of (ran ++ steps ∷ []))) (sym g.same.commits.4) (spent_more a.commits.frame ran steps under.spent phase.spent);
           set = each_new engine dealt (seen_of b) (λ (l : Lane). HasSettings engine l.session.pass settings) (λ (l : Lane). HasSettings engine l.session.pass settings) (λ x y did has. still_set engine x.session.pass y.session.pass settings did.same.1 has) xs ws z set;
           held = λ i d lt.
               let in' : i < length xs = subst (λ n. i < n) still_many lt in
@@ -121,9 +128,10 @@ module _ (engine : Engine) (dealt : List Order) (a b : Pass) (xs ws : List Lane)
       let many : length ps ≡ length xs = parts_many engine dealt (seen_of b) settings n xs ws z under.set in
       let others : (session : ℕ) → (session ≡ 0) ⊎ (length ps < session) → IsTold session (seen_of a) (seen_of b) =
       λ session which. others_told (length ps) a b (still_numbered 0 a b g.same ready.made.numbers) (subst (λ (k : ℕ). HaveMade k b) (sym many) (still_made (length xs) a b g.same ready.made.made)) g session which in
-      let phase : PhaseRan settings ran n (seen_of a) (seen_of b) orders (steps_of ps) = record {
+      let phase : PhaseRan settings a.commits.frame ran n (seen_of a) (seen_of b) orders (steps_of ps) = record {
         asked = sessions_asked settings n orders held (seen_of a) (seen_of b) ps are;
         sessions = sessions_ran settings n orders held (seen_of a) (seen_of b) ps are others;
+        spent = parts_spent engine dealt (seen_of b) settings n a.commits.frame xs ws z under.set under.frames;
       } in
       record { steps = steps_of ps; phase = phase; whole = on_ok_then result whole (λ ok. whole_phase settings phases opened ran under under.set sessions rise ok are phase) }
 
@@ -133,7 +141,7 @@ module _ (engine : Engine) (dealt : List Order) (a b : Pass) (xs ws : List Lane)
 pub dealt_ready : (engine : Engine) (a : Pass) (xs ys : List Lane) → AreReady engine a xs → length ys ≡ length xs → Each (λ old new. new.session ≡ old.session) xs ys → AreReady engine a ys
 dealt_ready engine a xs ys ready many each = record {
   own = ready.own;
-  made = record { numbers = ready.made.numbers; made = subst (λ (n : ℕ). HaveMade n a) (sym many) ready.made.made; counted = ready.made.counted };
+  made = record { numbers = ready.made.numbers; made = subst (λ (n : ℕ). HaveMade n a) (sym many) ready.made.made; counted = ready.made.counted; named = ready.made.named };
   many = (let few = ready.many in omega arith);
   numbered = λ i d lt. let in' : i < length xs = subst (λ n. i < n) many lt in ap (λ (s : Session). s.number) (each i d in') ∙ ready.numbered i d in';
   all = λ i d lt. let in' : i < length xs = subst (λ n. i < n) many lt in subst (λ (s : Session). BelongsTo engine s.pass) (sym (each i d in')) (ready.all i d in');
@@ -165,6 +173,6 @@ pub none_ran : {E : Type 0} (engine : Engine) (dealt : List commands.Order) (a :
 none_ran engine dealt a xs ys (Ok v) fails = absurd (cc)
 none_ran engine dealt a xs ys (Err fault) fails = λ settings phases opened ran under. record {
   steps = [];
-  phase = record { asked = λ session. (0, refl); sessions = λ session. told_itself session (seen_of a) };
+  phase = record { asked = λ session. (0, refl); sessions = λ session. told_itself session (seen_of a); spent = spent_none a.commits.frame };
   whole = tt;
 }

@@ -83,10 +83,10 @@ module _ (engine : Engine) (a b c : Pass) (xs ys zs : List Lane) (x y z : Moment
       (d.0 ++ e.0 ∷ [], one_more engine settings opened phases done orders ran d.0 e.0 c zs e.1, writes_then x y z d.0 e.0 d.2 e.2)
 
   -- the phase behind some is the last
-  pub phases_stop : (all done : List (List Order)) (orders : List Order) (result : Result (Unit {0}) PhaseFault) → IsErr result → take (length done) all ≡ done → take (length done + 1) all ≡ done ++ orders ∷ []
+  pub phases_stop : (all done : List (List Order)) (orders : List Order) (result : Result (Unit {0}) PhaseFault) → c.commits.frame ≡ b.commits.frame → IsErr result → take (length done) all ≡ done → take (length done + 1) all ≡ done ++ orders ∷ []
       → EndsPhases engine done a b xs ys x y (Ok tt) → EndsPhase engine orders b c ys zs y z result → EndsPhases engine all a c xs zs x z result
-  phases_stop all done orders (Ok u) fails so_far next first second = absurd (cc)
-  phases_stop all done orders (Err Write) fails so_far next first second = λ settings phases opened ran under.
+  phases_stop all done orders (Ok u) frame fails so_far next first second = absurd (cc)
+  phases_stop all done orders (Err Write) frame fails so_far next first second = λ settings phases opened ran under.
       let d = first settings phases opened ran under in
       let e = second settings (phases ++ done) opened (ran ++ d.0) d.1 in (
         length done + 1,
@@ -94,7 +94,7 @@ module _ (engine : Engine) (a b c : Pass) (xs ys zs : List Lane) (x y z : Moment
         subst (λ (l : List (List Order)). AreUnderway engine settings (phases ++ l) opened (ran ++ (d.0 ++ e.0 ∷ [])) c zs) (sym next) (one_more engine settings opened phases done orders ran d.0 e.0 c zs e.1),
         some_then x y z d.0 e.0 d.2 e.2,
       )
-  phases_stop all done orders (Err NoMemory) fails so_far next first second = λ settings phases opened ran under.
+  phases_stop all done orders (Err NoMemory) frame fails so_far next first second = λ settings phases opened ran under.
       let d = first settings phases opened ran under in
       let e = second settings (phases ++ done) opened (ran ++ d.0) d.1 in (
         length done,
@@ -106,7 +106,8 @@ module _ (engine : Engine) (a b c : Pass) (xs ys zs : List Lane) (x y z : Moment
           between = ys;
           under = subst (λ (l : List (List Order)). AreUnderway engine settings (phases ++ l) opened (ran ++ d.0) b ys) (sym so_far) d.1;
           steps = e.0;
-          short = subst (λ (l : List (List Order)). PhaseRan settings (ran ++ d.0) (length (phases ++ l)) (seen_of b) (seen_of c) orders e.0) (sym so_far) e.1;
+          frame = frame;
+          short = subst (λ (l : List (List Order)). PhaseRan settings b.commits.frame (ran ++ d.0) (length (phases ++ l)) (seen_of b) (seen_of c) orders e.0) (sym so_far) e.1;
         },
         (subst (λ (l : List ℕ). Appends x.written z.written l) (append-nil (lines_of (steps_of d.0))) (appends_then x.written y.written z.written (lines_of (steps_of d.0)) [] d.2.0 e.2.0), e.2.1 ∙ d.2.1),
       )

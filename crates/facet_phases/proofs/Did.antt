@@ -22,7 +22,7 @@ use Rattle.facet_words.specs.declared.sessions.command.Order.{Order}
 use Rattle.facet_phases.specs.Lanes.{AreIdle, Each, IsDealt, LaneRan, LaneTold}
 use Rattle.facet_phases.specs.Orders.{Answers, HasAnswered, orders_of}
 use Rattle.facet_words.specs.Sessions.CommandViews.{order_view}
-use Rattle.facet_phases.specs.Phases.{asked, in_phase, lines_of, orders_by}
+use Rattle.facet_phases.specs.Phases.{AreSpentWithin, asked, in_phase, lines_of, orders_by}
 use Rattle.facet_phases.proofs.Belonging.{session_then}
 use Rattle.facet_phases.proofs.Zips.{zip_from_each, zip_then}
 
@@ -33,6 +33,7 @@ pub record HasDone (settings : Settings) (phase : ℕ) (orders : List commands.O
   pub first : asked steps ≡ in_phase phase (take many (orders_by old.session.number orders))
   pub ran : SessionRan settings old.session.number (numbers_held old.session.held) (seen_of old.session.pass) steps next
   pub held : numbers_held new.session.held ≡ held_by (numbers_held old.session.held) steps
+  pub spent : AreSpentWithin old.session.pass.commits.frame steps
   pub whole : IfOk new.lines (λ v. (asked steps ≡ in_phase phase (orders_by old.session.number orders)) × (v.items ≡ lines_of steps))
 
 pub record LaneDid (engine : Engine) (dealt : List Order) (next : Seen) (old new : Lane) : Type 0 where
@@ -57,6 +58,7 @@ has_done settings phase dealt next a c d same s told =
       first = s.asked ∙ ap (in_phase phase) (sym (take-map order_view s.many own) ∙ ap (take s.many) views);
       ran = session_told settings n (numbers_held a.session.held) (seen_of a.session.pass) s.steps (seen_of c.session.pass) next s.ran (subst (λ (k : ℕ). IsTold k (seen_of c.session.pass) next) same.0 told.told);
       held = ap numbers_held told.held ∙ s.held;
+      spent = s.spent;
       whole = subst (λ (r : Result (Vec ℕ) NoMemory). IfOk r (λ v. (asked s.steps ≡ in_phase phase (orders_by n (map order_view dealt))) × (v.items ≡ lines_of s.steps))) (sym told.lines)
           (if_ok_then (λ v. (take s.many own ≡ own) × (v.items ≡ lines_of s.steps)) (λ v. (asked s.steps ≡ in_phase phase (orders_by n (map order_view dealt))) × (v.items ≡ lines_of s.steps)) c.lines s.lines
           (λ v p. (s.asked ∙ ap (λ (l : List Order). in_phase phase (map order_view l)) p.0 ∙ ap (in_phase phase) views, p.1)));

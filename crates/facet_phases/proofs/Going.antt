@@ -3,6 +3,9 @@ use Rattle.std.proofs.Common.{◌≡◌, ◌∙◌, ℕ, ◌+◌, ◌<◌, List,
 use Rattle.std.specs.Prelude.{Result, Ok, Err, IsErr}
 use Rattle.std.specs.Global.{Vec}
 use Rattle.std.proofs.lemmas.List.{take_more, take_all, map-id, map-append}
+use Rattle.std.proofs.lemmas.List.Elements.{All-nil, All-push}
+use Rattle.chronicle.specs.Frame.{Frame}
+use Rattle.commit_turns.specs.Frames.{HasNumbers}
 use Rattle.facet_words.specs.Commands.{Settings}
 use Rattle.facet_words.specs.Sessions.Commands as commands
 use Rattle.facet_output.specs.Held.{Held, held_after}
@@ -12,14 +15,14 @@ use Rattle.facet_output.specs.Sessions.{SessionRan, held_by}
 use Rattle.facet_output.specs.Steps.{Step, IsStep}
 use Rattle.facet_engine.specs.declared.session.Session.{Session}
 use Rattle.facet_words.specs.Sessions.CommandViews.{command_view}
-use Rattle.facet_engine.specs.Calls.{SameSession, IsCarriedOut}
+use Rattle.facet_engine.specs.Calls.{SameSession, IsCarriedOut, IsSpentWithin}
 use Rattle.facet_engine.specs.HeldPairs.{numbers_held}
 use Rattle.facet_engine.specs.Steps.{seen_of, step_of}
 use Rattle.facet_engine.specs.Systems.{Engine, HasSettings}
 use Rattle.facet_words.specs.declared.sessions.command.Order.{Order}
 use Rattle.facet_phases.specs.Orders.{Answers, HasAnswered}
 use Rattle.facet_words.specs.Sessions.CommandViews.{order_view}
-use Rattle.facet_phases.specs.Phases.{asked, in_phase, lines_of}
+use Rattle.facet_phases.specs.Phases.{AreSpentWithin, asked, in_phase, lines_of}
 use Rattle.facet_phases.proofs.Belonging.{still_set}
 use Rattle.facet_phases.proofs.Stepping.{told_itself, ran_more, held_append, asked_append, lines_append, in_phase_append}
 
@@ -29,13 +32,14 @@ pub record HasGone (settings : Settings) (phase : ℕ) (old now : Session) (orde
   pub asked : asked steps ≡ in_phase phase (map order_view orders)
   pub ran : SessionRan settings old.number (numbers_held old.held) (seen_of old.pass) steps (seen_of now.pass)
   pub held : numbers_held now.held ≡ held_by (numbers_held old.held) steps
+  pub spent : AreSpentWithin old.pass.commits.frame steps
   pub written : lines ≡ lines_of steps
 
 abbrev pub IsGoing : Engine → Session → Session → List Order → List ℕ → Type 0
 IsGoing engine old now orders lines = (settings : Settings) (phase : ℕ) → HasSettings engine old.pass settings → HasGone settings phase old now orders lines
 
 pub going_none : (engine : Engine) (old : Session) → IsGoing engine old old [] []
-going_none engine old settings phase has = record { steps = []; asked = refl; ran = told_itself old.number (seen_of old.pass); held = refl; written = refl }
+going_none engine old settings phase has = record { steps = []; asked = refl; ran = told_itself old.number (seen_of old.pass); held = refl; spent = λ next moment faults failures has. All-nil (λ (x : Step). IsSpentWithin next x.answered.reply x.after); written = refl }
 
 pub going_more : (engine : Engine) (old now new : Session) (orders : List Order) (o : Order) (reply : Reply) (lines more : List ℕ) → SameSession old now → o.session ≡ old.number → IsGoing engine old now orders lines
     → IsCarriedOut engine now new (command_view o.command) reply → more ≡ lines ++ reply_line o.session o.line reply → IsGoing engine old new (orders ++ o ∷ []) more
@@ -51,6 +55,8 @@ going_more engine old now new orders o reply lines more same own going done is s
           ∙ ap (in_phase phase) (sym (map-append order_view orders (o ∷ [])));
       ran = ran_more settings old.number (numbers_held old.held) (seen_of old.pass) (seen_of now.pass) so_far.steps x so_far.ran refl (subst (λ (h : Held). IsStep settings h x) so_far.held step);
       held = done.holds phase o.line ∙ ap (λ (h : Held). held_after h x.answered) so_far.held ∙ sym (held_append (numbers_held old.held) so_far.steps (x ∷ []));
+      spent = λ next moment faults failures has. All-push (λ (x : Step). IsSpentWithin next x.answered.reply x.after) so_far.steps x (so_far.spent next moment faults failures has)
+          (done.spent next moment faults failures (subst (λ (f : Frame). HasNumbers next moment faults failures f) (sym same.1.commits.4) has));
       written = is ∙ (λ i. so_far.written i ++ (ap (λ n. reply_line n o.line reply) (sym number) ∙ sym (append-nil (reply_line now.pass.labels.number o.line reply))) i) ∙ sym (lines_append so_far.steps (x ∷ []));
     }
 
@@ -61,7 +67,7 @@ answers_all engine old new orders lines same going = record {
   ran = λ settings phase has.
       let s = going settings phase has in
       let all : take (length orders) orders ≡ orders = take_all (length orders) orders (omega arith) in
-      record { many = length orders; steps = s.steps; asked = s.asked ∙ ap (λ (l : List Order). in_phase phase (map order_view l)) (sym all); ran = s.ran; held = s.held; lines = (all, s.written) };
+      record { many = length orders; steps = s.steps; asked = s.asked ∙ ap (λ (l : List Order). in_phase phase (map order_view l)) (sym all); ran = s.ran; held = s.held; spent = s.spent; lines = (all, s.written) };
 }
 
 -- the first of them were
@@ -72,7 +78,7 @@ answers_some engine old new orders done many lines (Err fault) fails first same 
   same = same;
   ran = λ settings phase has.
       let s = going settings phase has in
-      record { many = many; steps = s.steps; asked = s.asked ∙ ap (λ (l : List Order). in_phase phase (map order_view l)) (sym first); ran = s.ran; held = s.held; lines = tt };
+      record { many = many; steps = s.steps; asked = s.asked ∙ ap (λ (l : List Order). in_phase phase (map order_view l)) (sym first); ran = s.ran; held = s.held; spent = s.spent; lines = tt };
 }
 
 pub taken_more : (all yielded : List Order) (o : Order) → map (λ x. x) yielded ≡ take (length yielded) all → (length yielded < length all) × (o ≡ get_or all (length yielded) o) → take (length yielded + 1) all ≡ yielded ++ o ∷ []

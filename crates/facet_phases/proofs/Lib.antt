@@ -1,6 +1,7 @@
 pub mod Stepping
 pub mod Parts
 pub mod Zips
+pub mod Spent
 pub mod Belonging
 pub mod Told
 pub mod Going
@@ -12,3 +13,6 @@ pub mod Carrying
 pub mod Closing
 pub mod Made
 pub mod Crossing
+pub mod Cutting
+pub mod Finishing
+pub mod Tracing

@@ -98,17 +98,16 @@ asked_whole phase from dealt [] whole = refl
 asked_whole phase from dealt (steps ∷ parts) whole =
     asked_append steps (steps_of parts) ∙ (λ i. whole.0 i ++ asked_whole phase (from + 1) dealt parts whole.1 i) ∙ sym (in_phase_append phase (orders_by from dealt) (orders_from (from + 1) (length parts) dealt))
 
-none_by : (session : ℕ) (orders : List Order) → All (λ (o : Order). o.session < session) orders → orders_by session orders ≡ []
+-- a session of which no order is has none
+pub none_by : (session : ℕ) (orders : List Order) → All (λ (o : Order). o.session ≢ session) orders → orders_by session orders ≡ []
 none_by session [] all = refl
 none_by session (o ∷ orders) all =
-    let below : o.session < session = All-head (λ (o : Order). o.session < session) o orders all in
-    let apart : o.session ≢ session = λ e. absurd (omega arith) in
-    rw (ne_eqb o.session session apart) (none_by session orders (All-tail (λ (o : Order). o.session < session) o orders all))
+    rw (ne_eqb o.session session (All-head (λ (o : Order). o.session ≢ session) o orders all)) (none_by session orders (All-tail (λ (o : Order). o.session ≢ session) o orders all))
 
 -- behind the last session that has orders there are none
 none_from : (from count : ℕ) (orders : List Order) → All (λ (o : Order). o.session < from) orders → orders_from from count orders ≡ []
 none_from from zero orders all = refl
-none_from from (suc count) orders all = λ i. none_by from orders all i ++ none_from (from + 1) count orders (All-weaker (λ (o : Order). o.session < from) (λ (o : Order). o.session < from + 1) (λ o lt. omega arith) orders all) i
+none_from from (suc count) orders all = λ i. none_by from orders (All-weaker (λ (o : Order). o.session < from) (λ (o : Order). o.session ≢ from) (λ o lt e. absurd (omega arith)) orders all) i ++ none_from (from + 1) count orders (All-weaker (λ (o : Order). o.session < from) (λ (o : Order). o.session < from + 1) (λ o lt. omega arith) orders all) i
 
 split_from : (from count more : ℕ) (orders : List Order) → orders_from from (count + more) orders ≡ orders_from from count orders ++ orders_from (from + count) more orders
 split_from from zero more orders =

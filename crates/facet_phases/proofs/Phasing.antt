@@ -4,6 +4,7 @@ use Rattle.std.specs.Prelude.{Result, Ok, Err, All, IfOk, IsOk}
 use Rattle.std.specs.Global.{Vec}
 use Rattle.std.specs.List.{AllZip}
 use Rattle.std.proofs.lemmas.List.Elements.{All-head, All-tail, length_all_zip, AllZip-get_or}
+use Rattle.chronicle.specs.Frame.{Frame}
 use Rattle.facet_words.specs.Commands.{Settings}
 use Rattle.facet_output.specs.Held.{Held}
 use Rattle.facet_output.specs.Seen.{Seen}
@@ -16,9 +17,10 @@ use Rattle.facet_phases.specs.declared.lane.Lane.{Lane}
 use Rattle.facet_words.specs.declared.sessions.command.Order.{Order}
 use Rattle.facet_phases.specs.Lanes.{AreNumbered, all_lines, kept_lines}
 use Rattle.facet_words.specs.Sessions.CommandViews.{order_view}
-use Rattle.facet_phases.specs.Phases.{asked, in_phase, lines_of, orders_by}
+use Rattle.facet_phases.specs.Phases.{AreSpentWithin, asked, in_phase, lines_of, orders_by}
 use Rattle.facet_phases.proofs.Did.{HasDone, LaneDid}
 use Rattle.facet_phases.proofs.Parts.{IsPart, AreParts, AreWhole}
+use Rattle.facet_phases.proofs.Spent.{spent_none, spent_append}
 use Rattle.facet_phases.proofs.Stepping.{lines_append}
 
 if_ok_at : {A : Type 0} {E : Type 0} (ls : List ℕ) (r : Result (Vec ℕ) E) → IsOk r → IfOk r (λ v. A × (v.items ≡ ls)) → A × (kept_lines r ≡ ls)
@@ -94,6 +96,16 @@ module _ (engine : Engine) (dealt : List Order) (next : Seen) (settings : Settin
         (here.0 ∙ ap (λ (k : ℕ). in_phase phase (orders_by k (map order_view dealt))) (numbered_head from x xs numbered), rest.0),
         (λ i. here.1 i ++ rest.1 i) ∙ sym (lines_append s.steps (steps_of (parts xs ys z.1 (All-tail IsSet x xs has)))),
       )
+
+  -- where all sessions have one frame of the commits, so have their steps
+  pub parts_spent : (frame : Frame) (old new : List Lane) (z : AllZip (LaneDid engine dealt next) old new) (has : All IsSet old) → All (λ (l : Lane). l.session.pass.commits.frame ≡ frame) old → AreSpentWithin frame (steps_of (parts old new z has))
+  parts_spent frame [] [] z has frames = spent_none frame
+  parts_spent frame [] (y ∷ ys) z has frames = absurd z
+  parts_spent frame (x ∷ xs) [] z has frames = absurd z
+  parts_spent frame (x ∷ xs) (y ∷ ys) z has frames =
+      let s = z.0.ran settings phase (All-head IsSet x xs has) in
+      spent_append frame s.steps (steps_of (parts xs ys z.1 (All-tail IsSet x xs has))) (subst (λ (f : Frame). AreSpentWithin f s.steps) (All-head (λ (l : Lane). l.session.pass.commits.frame ≡ frame) x xs frames) s.spent)
+      (parts_spent frame xs ys z.1 (All-tail IsSet x xs has) (All-tail (λ (l : Lane). l.session.pass.commits.frame ≡ frame) x xs frames))
 
   -- what one then holds
   pub held_at : (old new : List Lane) (z : AllZip (LaneDid engine dealt next) old new) (has : All IsSet old) (i : ℕ) (d e : Lane) (f : List Step) → i < length old

@@ -44,7 +44,7 @@ PhaseEnded engine settings phases opened ran orders old new lanes before now (Ok
 PhaseEnded engine settings phases opened ran orders old new lanes before now (Err Write) = (steps : List Step)
     × AreUnderway engine settings (phases ++ orders ∷ []) opened (ran ++ steps ∷ []) new lanes × WritesSome before now (lines_of steps)
 PhaseEnded engine settings phases opened ran orders old new lanes before now (Err NoMemory) = (steps : List Step)
-    × PhaseRan settings ran (length phases) (seen_of old) (seen_of new) orders steps × Writes before now []
+    × PhaseRan settings old.commits.frame ran (length phases) (seen_of old) (seen_of new) orders steps × Writes before now []
 
 -- So it does behind whatever phases, in a system of whatever settings.
 abbrev pub EndsPhase : Engine → List Order → Pass → Pass → List Lane → List Lane → Moment → Moment → Result (Unit {0}) PhaseFault → Type 0
@@ -62,7 +62,8 @@ pub record StopsShort (engine : Engine) (settings : Settings) (phases : List (Li
   pub between : List Lane
   pub under : AreUnderway engine settings (phases ++ take many all) opened (ran ++ more) middle between
   pub steps : List Step
-  pub short : PhaseRan settings (ran ++ more) (length (phases ++ take many all)) (seen_of middle) (seen_of new) orders steps
+  pub frame : new.commits.frame ≡ middle.commits.frame
+  pub short : PhaseRan settings middle.commits.frame (ran ++ more) (length (phases ++ take many all)) (seen_of middle) (seen_of new) orders steps
 
 -- Behind those phases these ended so. All were carried out, and the lines of all are written. Or the first of them were, and at a fault a beginning of the lines
 -- of these is written. Or there was no memory for the one behind these: their lines are written.

@@ -1,6 +1,7 @@
 -- Sessions with their orders of a phase, and what is done to them.
 use Rattle.std.specs.Prelude.{◌≡◌, ◌<◌, ◌+◌, ◌++◌, ℕ, List, [], length, slice_index_or, flat_map, Result, Ok, Err, All}
 use Rattle.std.specs.Global.{Vec}
+use Rattle.chronicle.specs.Shown.{mine}
 use Rattle.facet_output.specs.Seen.{Seen, IsTold}
 use Rattle.pair_manager.specs.declared.pass.Pass.{Pass}
 use Rattle.pair_manager.specs.Passes.{SamePass}
@@ -62,6 +63,7 @@ pub record Gathers (old new : Pass) : Type 0 where
   pub same : SamePass old new
   pub told : IsTold 0 (seen_of old) (seen_of new)
   pub counted : AreCounted new
+  pub own : mine new.operations ≡ mine old.operations
 
 -- ---- the lines of all
 

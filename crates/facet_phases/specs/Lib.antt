@@ -3,3 +3,4 @@ pub mod Orders
 pub mod Lanes
 pub mod Running
 pub mod Ending
+pub mod Runs

@@ -12,7 +12,7 @@ use Rattle.facet_engine.specs.HeldPairs.{numbers_held}
 use Rattle.facet_engine.specs.Steps.{seen_of}
 use Rattle.facet_engine.specs.Systems.{Engine, HasSettings}
 use Rattle.facet_words.specs.declared.sessions.command.Order.{Order}
-use Rattle.facet_phases.specs.Phases.{asked, in_phase, lines_of}
+use Rattle.facet_phases.specs.Phases.{AreSpentWithin, asked, in_phase, lines_of}
 
 -- the orders of a session, in their order
 abbrev pub orders_of : ℕ → List Order → List Order
@@ -25,6 +25,7 @@ pub record HasAnswered {E : Type 0} (settings : Settings) (phase : ℕ) (old new
   pub asked : asked steps ≡ in_phase phase (map order_view (take many orders))
   pub ran : SessionRan settings old.number (numbers_held old.held) (seen_of old.pass) steps (seen_of new.pass)
   pub held : numbers_held new.held ≡ held_by (numbers_held old.held) steps
+  pub spent : AreSpentWithin old.pass.commits.frame steps
   pub lines : IfOk result (λ v. (take many orders ≡ orders) × (v.items ≡ lines_of steps))
 
 -- It did, whatever the number of the phase is, over a system with whatever settings.

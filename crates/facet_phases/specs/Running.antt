@@ -4,22 +4,28 @@ use Rattle.pair_manager.specs.declared.pass.Pass.{Pass}
 use Rattle.facet_words.specs.Commands.{Settings}
 use Rattle.facet_words.specs.Sessions.Commands.{Order}
 use Rattle.facet_output.specs.Output.{Opened}
+use Rattle.facet_output.specs.Seen.{opened_seen}
 use Rattle.facet_output.specs.Sessions.{RanSoFar, held_by, own_steps, steps_of}
 use Rattle.facet_output.specs.Steps.{Step}
 use Rattle.facet_engine.specs.HeldPairs.{numbers_held}
-use Rattle.facet_engine.specs.Sessions.{HaveOneNumber}
+use Rattle.facet_engine.specs.Sessions.{HaveOneNumber, NamesSession}
 use Rattle.facet_engine.specs.Steps.{seen_of}
 use Rattle.facet_engine.specs.Systems.{Engine, BelongsTo, HasSettings}
 use Rattle.facet_engine.specs.Telling.{AreCounted, HaveMade}
 use Rattle.facet_phases.specs.declared.lane.Lane.{Lane}
 use Rattle.facet_phases.specs.Lanes.{AllOf, AreNumbered, all_lines}
-use Rattle.facet_phases.specs.Phases.{PhaseRan, lines_of}
+use Rattle.facet_phases.specs.Phases.{AreSpentWithin, PhaseRan, lines_of}
 
--- The first pass, of which so many sessions were made.
+-- The first pass, of which so many sessions were made. Each operation that it has entered tells that it is of session 0.
 pub record IsFirst (count : ℕ) (first : Pass) : Type 0 where
   pub numbers : HaveOneNumber 0 first
   pub made : HaveMade count first
   pub counted : AreCounted first
+  pub named : NamesSession 0 first
+
+-- What never changes of the histories of operations and of commits is the same for both.
+abbrev pub HaveSameFrames : Pass → Pass → Type 0
+HaveSameFrames a b = (b.operations.frame ≡ a.operations.frame) × (b.commits.frame ≡ a.commits.frame)
 
 -- The first pass and the sessions, of which there are at most 64, are of the system, and all have seen the same.
 pub record AreReady (engine : Engine) (first : Pass) (lanes : List Lane) : Type 0 where
@@ -35,11 +41,18 @@ pub record AreUnderway (engine : Engine) (settings : Settings) (phases : List (L
   pub so_far : RanSoFar settings phases opened ran (seen_of first)
   pub set : All (λ l. HasSettings engine l.session.pass settings) lanes
   pub held : All (λ l. numbers_held l.session.held ≡ held_by [] (own_steps l.session.number (steps_of ran))) lanes
+  pub frames : All (λ l. l.session.pass.commits.frame ≡ first.commits.frame) lanes
+  pub spent : AreSpentWithin first.commits.frame (steps_of ran)
+
+-- Where the first pass had seen what was opened, over a system of whatever settings, no phase was carried out yet.
+abbrev pub BeginsUnderway : Engine → Pass → Pass → List Lane → Type 0
+BeginsUnderway engine old new lanes = (settings : Settings) (opened : Opened) → HasSettings engine old settings → seen_of old ≡ opened_seen opened
+    → AreUnderway engine settings [] opened [] new lanes
 
 -- A phase of these orders was carried out behind those: its steps. Ok is that none is left, and that the sessions have the lines of all.
 pub record CarriedOut {E : Type 0} (engine : Engine) (settings : Settings) (phases : List (List Order)) (opened : Opened) (ran : List (List Step)) (orders : List Order) (old new : Pass) (lanes : List Lane) (result : Result (Unit {0}) E) : Type 0 where
   pub steps : List Step
-  pub phase : PhaseRan settings ran (length phases) (seen_of old) (seen_of new) orders steps
+  pub phase : PhaseRan settings old.commits.frame ran (length phases) (seen_of old) (seen_of new) orders steps
   pub whole : OnOk result (AreUnderway engine settings (phases ++ orders ∷ []) opened (ran ++ steps ∷ []) new lanes × (all_lines lanes ≡ lines_of steps))
 
 -- So it is behind whatever phases, in a system of whatever settings.

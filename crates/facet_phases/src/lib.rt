@@ -10,7 +10,9 @@ mod fault;
 mod gate;
 mod lane;
 mod making;
+mod outcome;
 mod phase;
+mod running;
 mod telling;
 mod writing;
 
@@ -18,4 +20,6 @@ pub use fault::PhaseFault;
 pub use gate::{Gate, OpenGate};
 pub use lane::Lane;
 pub use making::make_lanes;
+pub use outcome::RanToEnd;
 pub use phase::{carry_out_phase, run_phase, run_phases};
+pub use running::run_to_end;

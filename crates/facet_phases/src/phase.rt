@@ -1,5 +1,6 @@
 ghost use Rattle.std.specs.Prelude.{◌≡◌, ◌≤◌, length, map, All, IsTrue, OnOk};
 ghost use Rattle.facet_words.specs.Sessions.Laws.{lines_rise};
+ghost use Rattle.pair_manager.specs.Passes.{SamePass};
 ghost use Rattle.facet_phases.specs.Ending.{EndsPhase, EndsPhases, moment};
 ghost use Rattle.facet_phases.specs.Lanes.{AreIdle};
 ghost use Rattle.facet_words.specs.Sessions.CommandViews.{order_view};
@@ -46,6 +47,7 @@ pub fn carry_out_phase<
     requires sessions { All (λ o. (1 ≤ o.session) × (o.session ≤ length lanes.old)) orders.items }
     requires rise { IsTrue (lines_rise (map order_view orders.items)) }
     ensures ready { AreReady system.now first.new lanes.new }
+    ensures same { SamePass first.old first.new }
     ensures many { length lanes.new ≡ length lanes.old }
     ensures idle { OnOk result (AreIdle lanes.new) }
     ensures ran { CarriesOut system.now (map order_view orders.items) first.old first.new lanes.old lanes.new result }
@@ -82,6 +84,7 @@ pub fn run_phase<
     requires sessions { All (λ o. (1 ≤ o.session) × (o.session ≤ length lanes.old)) orders.items }
     requires rise { IsTrue (lines_rise (map order_view orders.items)) }
     ensures ready { AreReady system.now first.new lanes.new }
+    ensures same { SamePass first.old first.new }
     ensures many { length lanes.new ≡ length lanes.old }
     ensures idle { OnOk result (AreIdle lanes.new) }
     ensures ended { EndsPhase system.now (map order_view orders.items) first.old first.new lanes.old lanes.new
@@ -121,6 +124,7 @@ pub fn run_phases<
     requires sessions { All (λ phase. All (λ o. (1 ≤ o.session) × (o.session ≤ length lanes.old)) phase.items) phases.items }
     requires rise { All (λ phase. IsTrue (lines_rise (map order_view phase.items))) phases.items }
     ensures ready { AreReady system.now first.new lanes.new }
+    ensures same { SamePass first.old first.new }
     ensures many { length lanes.new ≡ length lanes.old }
     ensures ended { EndsPhases system.now (map (λ phase. map order_view phase.items) phases.items) first.old first.new lanes.old lanes.new
         (moment (K.faults sink.old) (K.written sink.old)) (moment (K.faults sink.new) (K.written sink.new)) result }

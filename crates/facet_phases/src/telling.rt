@@ -1,6 +1,7 @@
 ghost use Rattle.std.specs.Prelude.{◌≡◌, All};
 ghost use Rattle.std.specs.List.{AllZip};
 ghost use Rattle.facet_output.specs.Seen.{Sees};
+ghost use Rattle.facet_engine.specs.Ending.{NamesOwn};
 ghost use Rattle.facet_engine.specs.Notes.{noted, AreOf};
 ghost use Rattle.facet_engine.specs.Sessions.{HaveOneNumber};
 ghost use Rattle.facet_engine.specs.Steps.{seen_of};
@@ -45,6 +46,7 @@ fn tell_lane<D: Disk, N: Name + Start>(system: &System<D, N>, lane: &mut Lane, n
     requires knows { Sees (seen_of lane.old.session.pass) (noted notes.old) }
     ensures notes { notes.new ≡ notes.old }
     ensures told { LaneTold (noted notes.old) lane.old lane.new }
+    ensures named { NamesOwn lane.new.session.number notes.old }
 {
     system.spread(&mut lane.session, notes);
 }
@@ -59,6 +61,7 @@ pub(crate) fn spread_all<D: Disk, N: Name + Start>(
     requires knows { All (λ l. Sees (seen_of l.session.pass) (noted notes.old)) lanes.old }
     ensures notes { notes.new ≡ notes.old }
     ensures told { AllZip (LaneTold (noted notes.old)) lanes.old lanes.new }
+    ensures named { All (λ l. NamesOwn l.session.number notes.old) lanes.new }
 {
     for lane in lanes.iter_mut() {
         tell_lane(system, lane, notes);

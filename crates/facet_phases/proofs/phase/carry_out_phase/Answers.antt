@@ -2,12 +2,22 @@ use Rattle.std.proofs.Common.{rules, List}
 use Rattle.std.specs.Prelude.{All, IsOk, OnOk}
 use Rattle.facet_engine.specs.Steps.{seen_of}
 use Rattle.facet_phases.specs.declared.lane.Lane.{Lane}
+use Rattle.facet_phases.proofs.Belonging.{same_pass}
 use Rattle.facet_phases.proofs.Carrying.{still_ready, still_idle, carries_out, dealt_ready, may_run, all_ran, none_ran}
 use Rattle.facet_phases.proofs.Did.{all_did}
 use Rattle.facet_phases.proofs.phase.carry_out_phase.Goals as goal
 
 pub returns-in_err-deal-clause-ran : goal.returns-in_err-deal-clause-ran
 returns-in_err-deal-clause-ran g c = none_ran c.args.system.now _ c.args.first.now c.args.lanes.now c.deal.new.lanes c.from_residual.result (search rules)
+
+pub returns-in_err-deal-clause-same : goal.returns-in_err-deal-clause-same
+returns-in_err-deal-clause-same g c = same_pass c.args.first.now
+
+pub returns-then-are_whole-clause-same : goal.returns-then-are_whole-clause-same
+returns-then-are_whole-clause-same g c = c.tell_all.ensures.gathered.same
+
+pub returns-else-are_whole-clause-same : goal.returns-else-are_whole-clause-same
+returns-else-are_whole-clause-same g c = c.tell_all.ensures.gathered.same
 
 pub run_at_once-requires-clause-run : goal.run_at_once-requires-clause-run
 run_at_once-requires-clause-run g c κs within = may_run c.args.system.now c.args.first.now c.args.orders.items c.args.lanes.now c.deal.new.lanes c.requires.ready c.requires.idle (search rules) c.in_ok-deal.ensures.dealt

@@ -9,12 +9,14 @@ use Rattle.facet_words.specs.Sessions.Laws.{lines_rise}
 use Rattle.facet_words.specs.declared.sessions.command.Order.{Order}
 use Rattle.facet_phases.specs.Ending.{EndsPhases, moment}
 use Rattle.facet_words.specs.Sessions.CommandViews.{order_view}
+use Rattle.facet_phases.proofs.Belonging.{pass_then, same_pass}
 use Rattle.facet_phases.proofs.Closing.{phases_none, phases_more, phases_stop, taken_all, taken_next}
 use Rattle.facet_phases.proofs.phase.run_phases.Goals as goal
 
 pub loop-orders-init : goal.loop-orders-init
 loop-orders-init g c = record {
   ready = c.requires.ready;
+  same = same_pass c.args.first.now;
   many = refl;
   idle = c.requires.idle;
   ended = phases_none c.args.system.now c.args.first.now c.args.lanes.now (moment (g.K.Sink.faults c.args.sink.now) (g.K.Sink.written c.args.sink.now));
@@ -39,6 +41,7 @@ loop-orders-preserved g c =
     let done : List (List commands.Order) = map (λ (phase : Vec Order). map order_view phase.items) c.loop-orders.yielded in
     record {
       ready = c.run_phase.ensures.ready;
+      same = pass_then c.args.first.now c.loop-orders.first c.run_phase.new.first c.loop-orders.invariant.same c.run_phase.ensures.same;
       many = c.run_phase.ensures.many ∙ c.loop-orders.invariant.many;
       idle = search rules;
       ended = subst (λ (l : List (List commands.Order)). EndsPhases c.args.system.now l c.args.first.now c.run_phase.new.first c.args.lanes.now c.run_phase.new.lanes start now (Ok tt))
@@ -47,6 +50,9 @@ loop-orders-preserved g c =
           c.loop-orders.invariant.ended (search rules));
     }
 
+pub returns-in-Err-clause-same : goal.returns-in-Err-clause-same
+returns-in-Err-clause-same g c = pass_then c.args.first.now c.loop-orders.first c.run_phase.new.first c.loop-orders.invariant.same c.in-Err.ensures.same
+
 pub returns-in-Err-clause-ended : goal.returns-in-Err-clause-ended
 returns-in-Err-clause-ended g c =
     let y = c.loop-orders.yielded in
@@ -54,7 +60,7 @@ returns-in-Err-clause-ended g c =
     let turn = YieldsList-turn (YieldsList-from_vec c.args.phases.items (cc) (cc)) y _ c.loop-orders.yielded_by c.next.result c.next.new.self c.in-Some.orders c.in-Some.is c.next.ensures.steps in
     phases_stop c.args.system.now c.args.first.now c.loop-orders.first c.run_phase.new.first c.args.lanes.now c.loop-orders.lanes c.run_phase.new.lanes
     (moment (g.K.Sink.faults c.args.sink.now) (g.K.Sink.written c.args.sink.now)) (moment (g.K.Sink.faults c.loop-orders.sink) (g.K.Sink.written c.loop-orders.sink)) (moment (g.K.Sink.faults c.run_phase.new.sink) (g.K.Sink.written c.run_phase.new.sink))
-    (map (λ (phase : Vec Order). map order_view phase.items) c.args.phases.items) (map (λ (phase : Vec Order). map order_view phase.items) y) (map order_view c.in-Some.orders.items) (Err c.in-Err.fault) refl
+    (map (λ (phase : Vec Order). map order_view phase.items) c.args.phases.items) (map (λ (phase : Vec Order). map order_view phase.items) y) (map order_view c.in-Some.orders.items) (Err c.in-Err.fault) c.in-Err.ensures.same.commits.4 refl
     (taken_all (λ (phase : Vec Order). map order_view phase.items) c.args.phases.items y so_far) (taken_next (λ (phase : Vec Order). map order_view phase.items) c.args.phases.items y c.in-Some.orders so_far turn)
     c.loop-orders.invariant.ended c.in-Err.ensures.ended
 

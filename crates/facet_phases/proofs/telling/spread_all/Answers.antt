@@ -3,7 +3,8 @@ use Rattle.std.proofs.lemmas.List.{get_or-set_other}
 use Rattle.std.proofs.lemmas.List.Elements.{at_read}
 use Rattle.facet_engine.specs.declared.notes.Notes.{Notes}
 use Rattle.facet_phases.specs.declared.lane.Lane.{Lane}
-use Rattle.facet_phases.proofs.Told.{lane_told}
+use Rattle.facet_engine.specs.Ending.{NamesOwn}
+use Rattle.facet_phases.proofs.Told.{lane_named, lane_told}
 use Rattle.facet_engine.specs.Notes.{noted}
 use Rattle.facet_phases.specs.Lanes.{LaneTold}
 use Rattle.facet_phases.proofs.Zips.{zip_from_each}
@@ -28,5 +29,10 @@ loop-lane-preserved g c =
       notes = c.tell_lane.ensures.notes ∙ c.loop-lane.invariant.notes;
       told = lane_told (noted c.args.notes.now) c.args.lanes.now c.loop-lane.lanes at new (let l = c.loop-lane.auto.lanes in let t = c.loop-lane-test.true in omega arith)
           (at_read c.args.lanes.now (λ (l : Lane). LaneTold (noted c.args.notes.now) l new) at item c.loop-lane-test.true is told) c.loop-lane.invariant.told;
+      named = lane_named c.args.notes.now c.loop-lane.lanes at new (let l = c.loop-lane.auto.lanes in let t = c.loop-lane-test.true in omega arith)
+          (subst (λ (n : Notes). NamesOwn new.session.number n) c.loop-lane.invariant.notes c.tell_lane.ensures.named) c.loop-lane.invariant.named;
       rest = λ i d le. get_or-set_other c.loop-lane.lanes at i new d (λ e. absurd (omega arith)) ∙ c.loop-lane.invariant.rest i d (omega arith);
     }
+
+pub returns-clause-named : goal.returns-clause-named
+returns-clause-named g c = λ i d lt. c.loop-lane.invariant.named i d (let l = c.loop-lane.auto.lanes in let t = c.loop-lane-test.false in omega arith)

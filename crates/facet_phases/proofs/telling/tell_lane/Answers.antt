@@ -1,4 +1,7 @@
-use Rattle.std.proofs.Common.{rules, ◌≡◌, refl, subst}
+use Rattle.std.proofs.Common.{rules, ◌≡◌, ℕ, refl, subst}
+use Rattle.std.specs.Prelude.{All}
+use Rattle.chronicle.specs.History.{own_of}
+use Rattle.facet_model.specs.Histories.{Operation}
 use Rattle.facet_output.specs.Seen.{Seen, IsTold}
 use Rattle.facet_engine.specs.Notes.{noted}
 use Rattle.facet_engine.specs.Steps.{seen_of}
@@ -17,3 +20,9 @@ returns-clause-told g c =
       orders = refl;
       lines = refl;
     }
+
+pub returns-clause-named : goal.returns-clause-named
+returns-clause-named g c =
+    let session = c.spread.new.to in
+    let seen = c.spread.ensures.operations c.requires.knows in
+    subst (All (λ (e : ℕ × Operation). e.1.session ≡ session.number)) (λ i. own_of (session.pass.operations_rest.0 i) (session.numbers.1 i) (seen i)) session.own

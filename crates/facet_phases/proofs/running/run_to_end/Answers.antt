@@ -1,0 +1,77 @@
+use Rattle.std.proofs.Common.{rules, ◌≡◌, ◌∙◌, ◌≤◌, ℕ, List, Some, map, sym, ap, subst}
+use Rattle.std.specs.Prelude.{All}
+use Rattle.std.specs.Global.{Vec}
+use Rattle.chronicle.specs.Frame.{Frame}
+use Rattle.chronicle.specs.History.{entries}
+use Rattle.facet_model.specs.Histories.{Operation}
+use Rattle.facet_names.specs.Labels.{IsLabelList}
+use Rattle.facet_io.specs.Faults.{Rose}
+use Rattle.facet_output.specs.Outputs.{sessions_in}
+use Rattle.facet_output.specs.Seen.{Seen, Sees, history_of, labels_of}
+use Rattle.facet_phases.proofs.Tracing.{sessions_told}
+use Rattle.facet_words.specs.Sessions.CommandViews.{order_view}
+use Rattle.facet_words.specs.declared.sessions.command.Order.{Order}
+use Rattle.commit_turns.specs.Ending.{Lasts, FailsWith}
+use Rattle.commit_turns.specs.Frames.{HasNumbers}
+use Rattle.commit_turns.specs.Points.{last_of}
+use Rattle.commit_turns.specs.Seen.{docs_of}
+use Rattle.pair_manager.specs.declared.point.CommitPoint.{CommitPoint}
+use Rattle.facet_engine.specs.declared.notes.Notes.{Notes}
+use Rattle.facet_engine.specs.Notes.{noted}
+use Rattle.facet_phases.specs.declared.lane.Lane.{Lane}
+use Rattle.facet_phases.specs.Ending.{moment}
+use Rattle.facet_phases.specs.Running.{AreReady}
+use Rattle.facet_phases.proofs.Finishing.{runs_to_end_at, all_see}
+use Rattle.facet_phases.proofs.running.run_to_end.Goals as goal
+
+pub spread_all-requires-clause-knows : goal.spread_all-requires-clause-knows
+spread_all-requires-clause-knows g c κs within = all_see c.args.system.now c.run_sessions-result.new.first c.deref_mut.result.now (noted c.end-ended.result.notes)
+    (subst (λ (l : List Lane). AreReady c.args.system.now c.run_sessions-result.new.first l) (sym c.deref_mut.ensures.value) c.run_sessions-result.ensures.ready) c.end-ended.ensures.told.sees
+
+pub returns-clause-labels : goal.returns-clause-labels
+returns-clause-labels g c = c.end-ended.ensures.labels ∙ ap (λ (n : Notes). labels_of (noted n)) (sym c.spread_all.ensures.notes)
+
+pub returns-clause-sessions : goal.returns-clause-sessions
+returns-clause-sessions g c =
+    let first = c.run_sessions-result.new.first in
+    let ready : AreReady c.args.system.now first c.deref_mut.result.now = subst (λ (l : List Lane). AreReady c.args.system.now first l) (sym c.deref_mut.ensures.value) c.run_sessions-result.ensures.ready in
+    c.end-ended.ensures.sessions
+    ∙ sessions_told c.args.system.now first c.deref_mut.result.now c.spread_all.new.lanes c.end-ended.result.notes ready c.spread_all.ensures.told c.spread_all.ensures.named (c.end-ended.ensures.named ready.made.named) c.end-ended.ensures.numbers
+    ∙ ap (λ (n : Notes). sessions_in (history_of (noted n))) (sym c.spread_all.ensures.notes)
+
+pub returns-clause-list : goal.returns-clause-list
+returns-clause-list g c = subst (λ (n : Notes). IsLabelList (labels_of (noted n))) (sym c.spread_all.ensures.notes) c.end-ended.ensures.list
+
+pub returns-clause-counts : goal.returns-clause-counts
+returns-clause-counts g c =
+    let faults = g.D.Disk.faults c.end-ended.result.disk in
+    subst (λ (n : Notes). All (λ (p : CommitPoint). (count : ℕ) → p.failed ≡ Some count → count ≤ faults) (entries n.commits.seen)) (sym c.spread_all.ensures.notes) c.end-ended.ensures.counts
+
+pub returns-clause-rose : goal.returns-clause-rose
+returns-clause-rose g c next moment faults failures numbers =
+    subst (λ (n : Notes). All (λ (p : CommitPoint). (count : ℕ) → p.failed ≡ Some count → Rose faults count) (entries n.commits.seen)) (sym c.spread_all.ensures.notes)
+    (c.end-ended.ensures.rose next moment faults failures (subst (λ (f : Frame). HasNumbers next moment faults failures f) (sym c.run_sessions-result.ensures.frames.1) numbers))
+
+pub returns-clause-later : goal.returns-clause-later
+returns-clause-later g c next moment faults failures numbers =
+    c.end-ended.ensures.later next moment faults failures (subst (λ (f : Frame). HasNumbers next moment faults failures f) (sym c.run_sessions-result.ensures.frames.1) numbers)
+
+pub returns-clause-failed : goal.returns-clause-failed
+returns-clause-failed g c next moment faults failures told numbers =
+    subst (λ (n : Notes). FailsWith g.D.Disk failures (last_of (entries n.commits.seen)).failed c.end-ended.result.disk) (sym c.spread_all.ensures.notes)
+    (c.end-ended.ensures.failed next moment faults failures told (subst (λ (f : Frame). HasNumbers next moment faults failures f) (sym c.run_sessions-result.ensures.frames.1) numbers))
+
+pub returns-clause-lasts : goal.returns-clause-lasts
+returns-clause-lasts g c config next moment faults failures settled texts numbers =
+    subst (λ (n : Notes). Lasts g.D.Disk config moment (labels_of (noted n)) (docs_of n.operations.seen) (entries n.commits.seen) c.end-ended.result.disk) (sym c.spread_all.ensures.notes)
+    (c.end-ended.ensures.lasts config next moment faults failures settled (texts ∙ ap (λ (f : Frame). f.texts) (sym c.run_sessions-result.ensures.frames.1))
+    (subst (λ (f : Frame). HasNumbers next moment faults failures f) (sym c.run_sessions-result.ensures.frames.1) numbers))
+
+pub returns-clause-ran : goal.returns-clause-ran
+returns-clause-ran g c =
+    let first = c.run_sessions-result.new.first in
+    let notes = c.end-ended.result.notes in
+    runs_to_end_at c.args.system.now (map (λ (phase : Vec Order). map order_view phase.items) c.args.phases.items) c.args.first first c.deref_mut.result.now c.spread_all.new.lanes notes c.spread_all.new.notes
+    (moment (g.K.Sink.faults c.args.sink.now) (g.K.Sink.written c.args.sink.now)) (moment (g.K.Sink.faults c.run_sessions-result.new.sink) (g.K.Sink.written c.run_sessions-result.new.sink)) c.run_sessions-result.result
+    c.run_sessions-result.ensures.ran c.run_sessions-result.ensures.frames.1
+    (subst (λ (l : List Lane). AreReady c.args.system.now first l) (sym c.deref_mut.ensures.value) c.run_sessions-result.ensures.ready) c.spread_all.ensures.told c.spread_all.ensures.notes c.end-ended.ensures.told c.end-ended.ensures.numbers c.end-ended.ensures.list c.end-ended.ensures.published

@@ -1,0 +1,140 @@
+ghost use Rattle.std.specs.Prelude.{◌≡◌, ◌≤◌, ℕ, [], Some, length, map, All, IsTrue};
+ghost use Rattle.chronicle.specs.History.{entries};
+ghost use Rattle.facet_disk.specs.Calls.{Rose};
+ghost use Rattle.facet_disk.specs.Images.{Told};
+ghost use Rattle.facet_model.specs.ConfigTexts.{config_texts};
+ghost use Rattle.facet_model.specs.Flags.{Config};
+ghost use Rattle.facet_names.specs.Labels.{IsLabelList};
+ghost use Rattle.facet_output.specs.Outputs.{sessions_in};
+ghost use Rattle.facet_output.specs.Seen.{history_of, labels_of};
+ghost use Rattle.facet_words.specs.Sessions.CommandViews.{order_view};
+ghost use Rattle.facet_words.specs.Sessions.Laws.{lines_rise};
+ghost use Rattle.commit_turns.specs.Ending.{Lasts, FailsWith};
+ghost use Rattle.commit_turns.specs.Frames.{HasNumbers};
+ghost use Rattle.commit_turns.specs.Points.{last_of};
+ghost use Rattle.commit_turns.specs.Seen.{docs_of};
+ghost use Rattle.facet_engine.specs.Notes.{noted};
+ghost use Rattle.facet_engine.specs.Systems.{BelongsTo};
+ghost use Rattle.facet_phases.specs.Ending.{moment};
+ghost use Rattle.facet_phases.specs.Running.{AreReady, HaveSameFrames, IsFirst};
+ghost use Rattle.facet_phases.specs.Runs.{RunsSoFar, RunsToEnd};
+
+use crate::fault::PhaseFault;
+use crate::gate::Gate;
+use crate::lane::Lane;
+use crate::making::make_lanes;
+use crate::outcome::RanToEnd;
+use crate::phase::run_phases;
+use crate::telling::spread_all;
+use commit_turns::Start;
+use facet_disk::Disk;
+use facet_engine::System;
+use facet_io::Sink;
+use facet_names::NoMemory;
+use facet_words::sessions::Order;
+use pair_manager::Pass;
+use std::alloc::Global;
+use std::sync::Wait;
+use std::thread::Threads;
+use taxo_cache::Name;
+
+// Makes the sessions, and carries out the phases. Without memory for the sessions no phase begins.
+fn run_sessions<
+    D: Disk,
+    N: Name + Start + Send + Sync,
+    R: Threads + Wait + Sync,
+    G: Gate + Sync,
+    K: Sink,
+>(
+    rt: &R,
+    alloc: Global,
+    system: &System<D, N>,
+    gate: &G,
+    first: &mut Pass,
+    lanes: &mut Vec<Lane>,
+    sessions: u32,
+    phases: Vec<Vec<Order>>,
+    sink: &mut K,
+) -> Result<(), PhaseFault>
+    requires own { BelongsTo system.now first.old }
+    requires first { IsFirst 0 first.old }
+    requires none { lanes.old.items ≡ [] }
+    requires many { sessions ≤ 64 }
+    requires sessions { All (λ phase. All (λ o. (1 ≤ o.session) × (o.session ≤ sessions)) phase.items) phases.items }
+    requires rise { All (λ phase. IsTrue (lines_rise (map order_view phase.items))) phases.items }
+    ensures ready { AreReady system.now first.new lanes.new.items }
+    ensures frames { HaveSameFrames first.old first.new }
+    ensures ran { RunsSoFar system.now (map (λ phase. map order_view phase.items) phases.items) first.old first.new
+        (moment (K.faults sink.old) (K.written sink.old)) (moment (K.faults sink.new) (K.written sink.new)) result }
+{
+    match make_lanes(alloc, system, first, sessions) {
+        Ok(made) => {
+            *lanes = made;
+            run_phases(rt, alloc, system, gate, first, lanes, phases, sink)
+        }
+        Err(NoMemory) => Err(PhaseFault::NoMemory),
+    }
+}
+
+/// Carries out phases by the sessions 1 to `sessions`, each on a thread of its own, and writes the lines of each phase before the next begins. The first phase
+/// whose lines could not all be made or written is the last. Then it ends the system, in each case, and tells each session what there is at the end.
+///
+/// It waits until all sessions have ended, and for the turns that the end takes. It keeps the lines of one phase in memory, and lets the orders of each phase go
+/// when they were answered.
+pub fn run_to_end<
+    D: Disk,
+    N: Name + Start + Send + Sync,
+    R: Threads + Wait + Sync,
+    G: Gate + Sync,
+    K: Sink,
+>(
+    rt: &R,
+    alloc: Global,
+    system: &System<D, N>,
+    gate: &G,
+    first: Pass,
+    sessions: u32,
+    phases: Vec<Vec<Order>>,
+    sink: &mut K,
+) -> RanToEnd<D>
+    requires own { BelongsTo system.now first }
+    requires first { IsFirst 0 first }
+    requires many { sessions ≤ 64 }
+    requires sessions { All (λ phase. All (λ o. (1 ≤ o.session) × (o.session ≤ sessions)) phase.items) phases.items }
+    requires rise { All (λ phase. IsTrue (lines_rise (map order_view phase.items))) phases.items }
+
+    // What was carried out is known at the end, and its lines were written.
+    ensures ran { RunsToEnd system.now (map (λ phase. map order_view phase.items) phases.items) first (noted result.ended.notes)
+        (moment (K.faults sink.old) (K.written sink.old)) (moment (K.faults sink.new) (K.written sink.new)) result.result }
+
+    // The trace tells all labels and operations that the notes show.
+    ensures labels { result.ended.trace.labels ≡ labels_of (noted result.ended.notes) }
+    ensures sessions { result.ended.trace.sessions.items ≡ sessions_in (history_of (noted result.ended.notes)) }
+    ensures list { IsLabelList (labels_of (noted result.ended.notes)) }
+
+    // The disk counts at least the faults of each commit that failed on it, whose count rose since opening began, and no fewer than then.
+    ensures counts { All (λ p. (count : ℕ) → p.failed ≡ Some count → count ≤ D.faults result.ended.disk) (entries result.ended.notes.commits.seen) }
+    ensures rose { (next moment faults failures : ℕ) → HasNumbers next moment faults failures first.commits.frame
+        → All (λ p. (count : ℕ) → p.failed ≡ Some count → Rose faults count) (entries result.ended.notes.commits.seen) }
+    ensures later { (next moment faults failures : ℕ) → HasNumbers next moment faults failures first.commits.frame → faults ≤ D.faults result.ended.disk }
+
+    // Where the disk told its files when opening began, it still does, and its device failed exactly where a commit failed on it.
+    ensures tells { N.told → (s : Told) × (D.told result.ended.disk ≡ Some s) }
+    ensures failed { (next moment faults failures : ℕ) → N.told → HasNumbers next moment faults failures first.commits.frame
+        → FailsWith D.Disk failures (last_of (entries result.ended.notes.commits.seen)).failed result.ended.disk }
+
+    // Where it was settled too, what was committed lasts.
+    ensures lasts { (config : Config) (next moment faults failures : ℕ) → N.settled → config_texts config ≡ first.commits.frame.texts
+        → HasNumbers next moment faults failures first.commits.frame
+        → Lasts D.Disk config moment (labels_of (noted result.ended.notes)) (docs_of result.ended.notes.operations.seen)
+        (entries result.ended.notes.commits.seen) result.ended.disk }
+{
+    let mut first = first;
+    let mut lanes = Vec::new(alloc);
+    let result = run_sessions(
+        rt, alloc, system, gate, &mut first, &mut lanes, sessions, phases, sink,
+    );
+    let mut ended = system.end(rt, first);
+    spread_all(system, &mut lanes, &mut ended.notes);
+    RanToEnd { result, ended }
+}
