@@ -1,12 +1,5 @@
-pub mod Entries
-pub mod Kept
-pub mod Growing
-pub mod Sessions
-pub mod Recovering
-pub mod Stories
-pub mod Answering
 pub mod Statuses
-pub mod Searching
 pub mod Runs
+pub mod Closing
 pub mod Serving
 pub mod Laws

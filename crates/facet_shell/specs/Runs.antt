@@ -1,31 +1,47 @@
 -- What a run reads and writes, and how it ends.
-use Rattle.std.specs.Prelude.{◌≡◌, ◌≤◌, ◌+◌, ◌⊎◌, ℕ, nat_lt, if◌then◌else◌, List, length, take, Option, Some, None, Result, Ok, Err}
-use Rattle.std.specs.List.{AllZip}
+use Rattle.std.specs.Prelude.{◌≡◌, ◌≤◌, ◌<◌, ◌+◌, ◌*◌, ◌++◌, ◌⊎◌, [], ◌∷◌, ℕ, nat_lt, if◌then◌else◌, List, length, filter, map, take, Option, Some, None, Result, Ok, Err, All, IsTrue}
+use Rattle.std.specs.List.{list_all}
 use Rattle.std.specs.Io.KnownBytes.{Appends, Consumes, IsAtEnd}
+use Rattle.commit_turns.specs.Ending.{FailsWith, Lasts}
+use Rattle.commit_turns.specs.Points.{last_of}
+use Rattle.commit_turns.specs.Recovery.{docs_found}
+use Rattle.facet_disk.specs.declared.disk.Disk.{Ghosts}
+use Rattle.facet_disk.specs.Images.{Image, Told}
+use Rattle.facet_engine.specs.declared.ending.Trace.{Trace}
 use Rattle.facet_io.specs.Faults.{Rose}
 use Rattle.facet_io.specs.declared.sink.Sink.{Ghosts as SinkGhosts}
 use Rattle.facet_io.specs.declared.source.Source.{Ghosts as SourceGhosts}
-use Rattle.facet_disk.specs.declared.disk.Disk.{Ghosts}
-use Rattle.facet_disk.specs.Images.{Image, Told}
 use Rattle.facet_model.specs.Flags.{Config}
+use Rattle.facet_model.specs.Histories.{docs}
 use Rattle.facet_model.specs.Stored.{Records, Decodes}
 use Rattle.facet_names.specs.Labels.{IsLabelList}
-use Rattle.facet_replies.specs.Replies.{Reply, refused, disk_failed}
+use Rattle.facet_output.specs.Answered.{Answered, is_of}
+use Rattle.facet_output.specs.Commits.{HasPoints}
+use Rattle.facet_output.specs.OneSession.{AreExact, AreExactLabels}
+use Rattle.facet_output.specs.OneShelf.{Served, order_of}
+use Rattle.facet_output.specs.Output.{IsOutput, Opened}
+use Rattle.facet_output.specs.OutputLines.{output_bytes, reply_lines}
+use Rattle.facet_output.specs.Outputs.{sessions_in}
+use Rattle.facet_output.specs.Seen.{CommitPoint as Point, Entries, Seen, history_of, labels_of}
 use Rattle.facet_replies.specs.ReplyLines.{fault_line}
+use Rattle.facet_replies.specs.Replies.{numbers_spent, refused}
 use Rattle.facet_replies.specs.declared.fault.ScriptFault.{ScriptFault}
-use Rattle.facet_words.specs.Answers.{Shelf, opened_shelf, RightReplies, reply_lines, durable}
-use Rattle.facet_words.specs.Commands.{Script, Order, commit}
-use Rattle.facet_words.specs.Scripts.{script}
+use Rattle.facet_words.specs.Answers.{Store}
+use Rattle.facet_words.specs.Commands as words
+use Rattle.facet_words.specs.Commands.{Settings}
+use Rattle.facet_words.specs.Sessions.Commands.{Order, Script}
+use Rattle.facet_words.specs.Sessions.Scripts.{script}
+use Rattle.facet_phases.specs.Runs.{IsCutOff}
+use Rattle.pair_manager.specs.declared.point.CommitPoint.{CommitPoint}
 use Rattle.store_opening.specs.Faults.{IsSound}
 use Rattle.store_opening.specs.Files.{Found, files, greatest_number}
 use Rattle.store_opening.specs.Newest.{next_after}
+use Rattle.store_opening.specs.Quiet.{IsQuiet}
 use Rattle.store_opening.specs.Settled.{IsSettled}
 use Rattle.store_opening.specs.declared.fault.OpenFault.{OpenFault}
-use Rattle.facet_shell.specs.Recovering.{Keeps, docs_found, durable_labels}
-use Rattle.facet_shell.specs.Stories.{StillTells}
-use Rattle.facet_shell.specs.Statuses.{fault_status, open_line}
+use Rattle.facet_shell.specs.Statuses.{fault_status, open_line, status_line}
 use Rattle.facet_shell.specs.declared.status.Status.{Status}
-use Rattle.facet_shell.specs.declared.status.Status.TheVariants.{Done, BadScript, TooLong}
+use Rattle.facet_shell.specs.declared.status.Status.TheVariants.{Done, BadScript, NoMemory, TooLong}
 
 -- the bytes that a script has at most
 abbrev pub script_limit : ℕ
@@ -58,69 +74,120 @@ TellsOfScript source from to sink before now =
 
 -- ---- the store
 
--- A store was opened: a list of labels and documents that segments decode to, all of which searches see and all of which is committed. Where its disk tells the
--- files, it is what these stand for.
-pub record Opens {D : Type 0} (ghosts : Ghosts D) (config : Config) (disk : D) (opened : Shelf) : Type 0 where
-  pub whole : opened ≡ opened_shelf opened.labels opened.docs opened.store
-  pub unfailed : opened.store.closed ≡ None
-  pub counted : opened.store.faults ≡ ghosts.faults disk
-  pub committed : opened.store.labels ≡ length opened.labels
+-- A store was opened: a list of labels, and the documents that segments decode to. Where its disk tells the files, it is what these stand for.
+pub record Opens {D : Type 0} (ghosts : Ghosts D) (config : Config) (disk : D) (opened : Opened) : Type 0 where
   pub list : IsLabelList opened.labels
-  pub decodes : (segments : List Records) × Decodes opened.labels config segments opened.docs × (length segments ≡ opened.store.segments)
-  pub stored : (s : Told) → ghosts.told disk ≡ Some s → (f : Found) × (files config s.files ≡ Ok f)
-      × (opened.labels ≡ f.labels) × (opened.docs ≡ docs_found f) × (opened.store.next ≡ next_after (greatest_number s.files)) × (opened.store.segments ≡ length f.segments)
+  pub decodes : (segments : List Records) × Decodes opened.labels config segments opened.docs
+  pub stored : (t : Told) → ghosts.told disk ≡ Some t → (f : Found) × (files config t.files ≡ Ok f) × (opened.labels ≡ f.labels) × (opened.docs ≡ docs_found f)
 
--- the reply disk of a commit comes only where the device failed
-abbrev pub OnlyOfFailure : {D : Type 0} → Ghosts D → D → D → Order → Reply → Type 0
-OnlyOfFailure ghosts old new order reply = order.command ≡ commit → (count : ℕ)
-    → reply ≡ refused (disk_failed count) → Rose (ghosts.failures old) (ghosts.failures new)
+-- a disk tells its files where it told them before
+abbrev pub StillTells : {D : Type 0} → Ghosts D → D → D → Type 0
+StillTells ghosts old new = (t : Told) → ghosts.told old ≡ Some t → (u : Told) × (ghosts.told new ≡ Some u)
 
--- The first orders of a script have these replies, which are right for the opened store, and the disk tells its files where it told them; there a failure
--- of the disk was one of the device. Where it was settled, what commits were acknowledged is kept, which is no fewer labels than each of them had, and where
--- none failed on the disk, it is settled again.
-pub record Ran {D : Type 0} (ghosts : Ghosts D) (s : Script) (many : ℕ) (replies : List Reply) (old new : D) : Type 0 where
-  pub opened : Shelf
-  pub last : Shelf
-  pub opens : Opens ghosts s.settings.config old opened
-  pub right : RightReplies s.settings opened (take many s.orders) replies last
-  pub counted : last.store.faults ≡ ghosts.faults new
-  pub acknowledged : durable_labels s.settings opened (take many s.orders) replies last right ≤ last.store.labels
+-- a commit that failed on the disk counted a fault of it since then, which is at most the count now
+abbrev pub CountsFault : {D : Type 0} → Ghosts D → D → D → CommitPoint → Type 0
+CountsFault ghosts old new point = (count : ℕ) → point.failed ≡ Some count → Rose (ghosts.faults old) count × (count ≤ ghosts.faults new)
+
+-- the points of commits, as those who commit see them
+abbrev pub points_of : Entries Point → List CommitPoint
+points_of commits = map (λ e. record { operations = e.1.operations; labels = e.1.labels; failed = e.1.failed }) commits
+
+-- What the disk keeps of the labels, the operations and the commits that there are at the end. It tells its files where it told them; there the device failed
+-- exactly where a commit did. Where it was settled too, what was committed lasts.
+pub record Keeps {D : Type 0} (ghosts : Ghosts D) (config : Config) (last : Seen) (old new : D) : Type 0 where
+  pub counted : All (CountsFault ghosts old new) (points_of last.commits)
   pub tells : StillTells ghosts old new
-  pub keeps : (t : Told) → ghosts.told old ≡ Some t → IsSettled ghosts s.settings.config t old
-      → Keeps ghosts s.settings.config opened last (durable (take many s.orders) replies) old new
-  pub failed : (t : Told) → ghosts.told old ≡ Some t → AllZip (OnlyOfFailure ghosts old new) (take many s.orders) replies
-  pub settled : (t u : Told) → ghosts.told old ≡ Some t → IsSettled ghosts s.settings.config t old
-      → last.store.closed ≡ None → ghosts.told new ≡ Some u → IsSettled ghosts s.settings.config u new
+  pub failed : (t : Told) → ghosts.told old ≡ Some t → FailsWith ghosts (ghosts.failures old) (last_of (points_of last.commits)).failed new
+  pub lasts : (t : Told) → ghosts.told old ≡ Some t → IsSettled ghosts config t old
+      → Lasts ghosts config (ghosts.moment old) (labels_of last) (docs (history_of last)) (points_of last.commits) new
 
--- what was read is a script, all its orders have right replies, and their lines were written
-pub record Finishes {D S K : Type 0} (ghosts : Ghosts D) (source : SourceGhosts S) (from to : S) (sink : SinkGhosts K) (before now : K) (old new : D) : Type 0 where
-  pub input : List ℕ
-  pub read : ReadsWhole source from to input
-  pub is : Script
-  pub script_is : script input ≡ Ok is
-  pub replies : List Reply
-  pub ran : Ran ghosts is (length is.orders) replies old new
-  pub written : Appends (sink.written before) (sink.written now) (reply_lines is.orders replies)
+-- ---- sessions
 
--- the same, where only a prefix of the lines was written
-pub record FinishesPartly {D S K : Type 0} (ghosts : Ghosts D) (source : SourceGhosts S) (from to : S) (sink : SinkGhosts K) (before now : K) (old new : D) : Type 0 where
-  pub input : List ℕ
-  pub read : ReadsWhole source from to input
-  pub is : Script
-  pub script_is : script input ≡ Ok is
-  pub replies : List Reply
-  pub ran : Ran ghosts is (length is.orders) replies old new
-  pub written : (n : ℕ) × Appends (sink.written before) (sink.written now) (take n (reply_lines is.orders replies))
+-- A session that runs alone sees no other: each number that it is answered is exact, and so are the labels. Where it names no held pair, it was served on a shelf
+-- that no commit had closed.
+pub record IsAlone (settings : Settings) (opened : Opened) (last : Seen) (answered : List Answered) : Type 0 where
+  pub exact : AreExact (length opened.docs) (length opened.docs) answered
+  pub labels : AreExactLabels settings opened.labels (length opened.labels) answered (labels_of last)
+  pub served : (store : Store) (orders : List words.Order) → map (λ a. a.order) answered ≡ map order_of orders → store.closed ≡ None
+      → Served settings opened store orders answered last
 
--- what was read is a script, and only the first of its orders were carried out
-pub record StopsShort {D S : Type 0} (ghosts : Ghosts D) (source : SourceGhosts S) (from to : S) (old new : D) : Type 0 where
-  pub input : List ℕ
-  pub read : ReadsWhole source from to input
-  pub is : Script
-  pub script_is : script input ≡ Ok is
+-- a commit that is refused for spent numbers tells one that so many commits may have taken, from this one on
+abbrev pub SpendsFrom : ℕ → Seen → Answered → Type 0
+SpendsFrom next last a = (number : ℕ) → a.reply ≡ refused (numbers_spent number) → number < next + 1000003 * length last.commits
+
+-- The trace tells the labels, and whose the operations are.
+pub record IsTraceOf (trace : Trace) (last : Seen) : Type 0 where
+  pub labels : trace.labels ≡ labels_of last
+  pub sessions : trace.sessions.items ≡ sessions_in (history_of last)
+
+-- The orders of these phases were carried out on the store that was opened, and answered so. At the end there are these labels, operations, published pairs and
+-- commits, of which this is the trace. The replies are the right output, each acknowledged commit has a point among the commits, numbers are spent only where
+-- the commits may have taken them behind those of all files, and the disk keeps what was committed.
+pub record Ran {D : Type 0} (ghosts : Ghosts D) (settings : Settings) (phases : List (List Order)) (trace : Trace) (old new : D) : Type 0 where
+  pub opened : Opened
+  pub last : Seen
+  pub answered : List Answered
+  pub opens : Opens ghosts settings.config old opened
+  pub traced : IsTraceOf trace last
+  pub right : IsOutput settings phases opened (labels_of last) (history_of last) last.pairs answered
+  pub points : HasPoints opened last answered
+  pub spent : (t : Told) → ghosts.told old ≡ Some t → All (SpendsFrom (next_after (greatest_number t.files)) last) answered
+  pub keeps : Keeps ghosts settings.config last old new
+  pub alone : (session : ℕ) → IsTrue (list_all (is_of session) answered) → IsAlone settings opened last answered
+
+-- the replies' lines, and then the last line
+abbrev pub bytes_of : {D : Type 0} {ghosts : Ghosts D} {settings : Settings} {phases : List (List Order)} {trace : Trace} {old new : D} → Ran ghosts settings phases trace old new → List ℕ
+bytes_of ran = output_bytes ran.opened (labels_of ran.last) (history_of ran.last) ran.answered
+
+-- the replies' lines of the phases before one
+abbrev pub lines_before : ℕ → List Answered → List ℕ
+lines_before many answered = reply_lines (filter (λ a. nat_lt a.phase many) answered)
+
+-- ---- how the sessions of a script end, with this trace
+
+-- the lines were written and then one more, and no fault counted, or where the count of faults rose a prefix of that one
+abbrev pub WritesBehind : {K : Type 0} → SinkGhosts K → K → K → List ℕ → List ℕ → Type 0
+WritesBehind sink before now lines line =
+    (Appends (sink.written before) (sink.written now) (lines ++ line) × (sink.faults now ≡ sink.faults before))
+    ⊎ (Rose (sink.faults before) (sink.faults now) × ((n : ℕ) × Appends (sink.written before) (sink.written now) (lines ++ take n line)))
+
+-- all orders were carried out, and all was written
+abbrev pub EndsWhole : {D K : Type 0} → Ghosts D → Script → Trace → D → D → SinkGhosts K → K → K → Type 0
+EndsWhole ghosts s trace old new sink before now = (ran : Ran ghosts s.settings s.phases trace old new)
+    × Appends (sink.written before) (sink.written now) (bytes_of ran) × (sink.faults now ≡ sink.faults before)
+
+-- The first phases were carried out, and at a fault a beginning of the replies' lines was written; or all were, and a beginning of all with the last line.
+abbrev pub EndsPartly : {D K : Type 0} → Ghosts D → Script → Trace → D → D → SinkGhosts K → K → K → Type 0
+EndsPartly ghosts s trace old new sink before now = Rose (sink.faults before) (sink.faults now) × (
+    ((many : ℕ) × (ran : Ran ghosts s.settings (take many s.phases) trace old new)
+    × ((n : ℕ) × Appends (sink.written before) (sink.written now) (take n (reply_lines ran.answered))))
+    ⊎ ((ran : Ran ghosts s.settings s.phases trace old new)
+    × ((n : ℕ) × Appends (sink.written before) (sink.written now) (take n (bytes_of ran)))))
+
+-- The first phases were carried out, and of the next one, if any, the first orders of each session. The lines of the whole phases were written, and behind these
+-- the line of want of memory, or where a count of faults rose a beginning of it.
+pub record EndsShort {D K : Type 0} (ghosts : Ghosts D) (s : Script) (trace : Trace) (old new : D) (sink : SinkGhosts K) (before now : K) : Type 0 where
   pub many : ℕ
-  pub replies : List Reply
-  pub ran : Ran ghosts is many replies old new
+  pub cut : List (List Order)
+  pub is_cut : IsCutOff s.phases many cut
+  pub ran : Ran ghosts s.settings (take many s.phases ++ cut) trace old new
+  pub written : WritesBehind sink before now (lines_before many ran.answered) (status_line NoMemory)
+
+-- What was read is a script, whose sessions began. This is their trace, and so they ended.
+pub record RunsSessions {S : Type 0} (source : SourceGhosts S) (from to : S) (left : Option Trace) (ends : Script → Trace → Type 0) : Type 0 where
+  pub input : List ℕ
+  pub read : ReadsWhole source from to input
+  pub is : Script
+  pub script_is : script input ≡ Ok is
+  pub trace : Trace
+  pub trace_is : left ≡ Some trace
+  pub ended : ends is trace
+
+-- ---- how a run ends without sessions
+
+-- no session began, and the disk is as it was
+abbrev pub EndsBefore : {D : Type 0} → Ghosts D → D → D → Option Trace → Type 0
+EndsBefore ghosts old new left = (left ≡ None) × IsQuiet ghosts old new
 
 -- What was read is a script, and its store was not opened for a fault, of whose line, or where a count of faults rose of a prefix of it, this tells; where the disk
 -- tells its files, they have this fault.

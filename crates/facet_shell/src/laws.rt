@@ -1,4 +1,4 @@
-ghost use Rattle.facet_shell.specs.Laws.{AcknowledgedIsReopened, EqualStoresReplyAlike, LeavesStore};
+ghost use Rattle.facet_shell.specs.Laws.{AcknowledgedIsReopened, LeavesStore};
 
 use facet_disk::Disk;
 
@@ -6,13 +6,6 @@ use facet_disk::Disk;
 pub fn runs_go_on<D: Disk>(disk: &D)
     ensures reopened { AcknowledgedIsReopened D.Disk }
     ensures stands { LeavesStore D.Disk }
-{
-    let _ = disk;
-}
-
-/// Runs of one script over stores with equal files reply alike.
-pub fn equal_stores_reply_alike<D: Disk>(disk: &D)
-    ensures { EqualStoresReplyAlike D.Disk }
 {
     let _ = disk;
 }

@@ -1,20 +1,17 @@
-//! The program as a function: a script is read from a source to its end, carried out on the store of a disk, and its replies are written to a sink.
+//! The program as a function: a script of sessions is read from a source to its end, carried out on the store of a disk, the sessions at once, and their replies
+//! are written to a sink.
 #![tactic(auto)]
 
-mod adding;
-mod answering;
-mod committing;
-mod flushing;
-mod labels;
+mod closing;
+mod counting;
 mod laws;
 mod program;
-mod searching;
 mod serving;
-mod session;
-mod showing;
 mod status;
 mod telling;
 
-pub use laws::{equal_stores_reply_alike, runs_go_on};
+pub use facet_engine::Trace;
+pub use facet_phases::{Gate, OpenGate};
+pub use laws::runs_go_on;
 pub use program::{place, run};
 pub use status::{Ended, Status};

@@ -2,8 +2,7 @@ ghost use Rattle.std.specs.Prelude.{◌≡◌, ◌≢◌, ◌∷◌, [], ◌↔�
 ghost use Rattle.std.specs.String.{string_bytes};
 ghost use Rattle.facet_disk.specs.Images.{Told};
 ghost use Rattle.facet_io.specs.Faults.{Rose};
-ghost use Rattle.store_opening.specs.Quiet.{IsQuiet};
-ghost use Rattle.facet_shell.specs.Runs.{ReadsScript, ReadsSome, ReadsTooMuch, TellsOfScript, TellsOfStore, Finishes, FinishesPartly, StopsShort, WritesLine, expected};
+ghost use Rattle.facet_shell.specs.Runs.{ReadsScript, ReadsSome, ReadsTooMuch, TellsOfScript, TellsOfStore, RunsSessions, EndsWhole, EndsPartly, EndsShort, EndsBefore, WritesLine, expected};
 ghost use Rattle.facet_shell.specs.Statuses.{status_line};
 
 use crate::serving::run_script;
@@ -12,8 +11,12 @@ use crate::telling::{tell, tell_of_script};
 use facet_disk::Disk;
 use facet_io::{ReadFault, Sink, Source, read_to_end};
 use facet_names::NoMemory;
-use facet_words::{ScriptFault, read_script};
+use facet_phases::Gate;
+use facet_words::ScriptFault;
+use facet_words::sessions::read_script;
 use std::alloc::Global;
+use std::sync::Wait;
+use std::thread::Threads;
 
 const SCRIPT_LIMIT: usize = 67_108_864;
 
@@ -28,30 +31,37 @@ pub fn place(alloc: Global, words: &[String]) -> Result<Option<String>, NoMemory
     Ok(Some(String::from_str(alloc, &words[0])?))
 }
 
-/// Reads a script from the source to its end, opens the store of the disk, carries out the orders, and writes their replies to the sink.
+/// Reads a script from the source to its end, opens the store of the disk, carries out the orders of its sessions, and writes their replies to the sink.
 ///
-/// `rt` gives the memory, and the words are those behind the program's name. It keeps the script, the documents and all replies in memory, and writes no reply
-/// before all orders are answered. Commits go to the disk as they come, so what they acknowledged is kept however the run ends; `Ended` hands the disk back.
-pub fn run<R: AllocGlobal, S: Source, K: Sink, D: Disk>(
+/// `rt` gives the memory and the threads, and the words are those behind the program's name. Each session runs on a thread of its own, one phase after the other;
+/// the gate is called before and after each order. The replies of a phase are written before the next begins, and the last line at the end. It waits for the
+/// sessions of each phase, and where the gate waits. It keeps the script, the documents and the replies of one phase in memory. Commits go to the disk as they
+/// come, so what they acknowledged is kept however the run ends; `Ended` hands the disk back.
+pub fn run<R: AllocGlobal + Threads + Wait + Sync, S: Source, K: Sink, D: Disk, G: Gate + Sync>(
     rt: &R,
     words: &[String],
     source: &mut S,
     sink: &mut K,
     disk: D,
+    gate: &G,
 ) -> Ended<D>
-    // What was read, carried out and written at each end. The store's files are as they were where nothing was carried out.
-    ensures done { result.status ≡ Status.Done → Finishes D.Disk S.Source source.old source.new K.Sink sink.old sink.new disk result.disk }
-    ensures write_fault { result.status ≡ Status.WriteFault → FinishesPartly D.Disk S.Source source.old source.new K.Sink sink.old sink.new disk result.disk }
-    ensures no_memory { result.status ≡ Status.NoMemory → StopsShort D.Disk S.Source source.old source.new disk result.disk ⊎ IsQuiet D.Disk disk result.disk }
-    ensures quiet { (result.status ≡ Status.Done) ⊎ (result.status ≡ Status.WriteFault) ⊎ (result.status ≡ Status.NoMemory) ⊎ IsQuiet D.Disk disk result.disk }
+    // What was read, carried out and written at each end. The store's files are as they were where no session began.
+    ensures done { result.status ≡ Status.Done → RunsSessions S.Source source.old source.new result.trace
+        (λ s trace. EndsWhole D.Disk s trace disk result.disk K.Sink sink.old sink.new) }
+    ensures write_fault { result.status ≡ Status.WriteFault → RunsSessions S.Source source.old source.new result.trace
+        (λ s trace. EndsPartly D.Disk s trace disk result.disk K.Sink sink.old sink.new) }
+    ensures no_memory { result.status ≡ Status.NoMemory → RunsSessions S.Source source.old source.new result.trace
+        (λ s trace. EndsShort D.Disk s trace disk result.disk K.Sink sink.old sink.new) ⊎ EndsBefore D.Disk disk result.disk result.trace }
+    ensures quiet { (result.status ≡ Status.Done) ⊎ (result.status ≡ Status.WriteFault) ⊎ (result.status ≡ Status.NoMemory)
+        ⊎ EndsBefore D.Disk disk result.disk result.trace }
     ensures bad_script { result.status ≡ Status.BadScript → TellsOfScript S.Source source.old source.new K.Sink sink.old sink.new }
     ensures not_opened { (result.status ≡ Status.BadStore) ⊎ (result.status ≡ Status.OtherConfig)
         → TellsOfStore D.Disk S.Source source.old source.new K.Sink sink.old sink.new disk result.status }
     ensures too_long { result.status ≡ Status.TooLong → ReadsTooMuch S.Source source.old source.new }
     ensures unread { result.status ≡ Status.BadWords → source.new ≡ source.old }
     ensures at_most { ReadsSome S.Source source.old source.new }
-    ensures told { (result.status ≡ Status.Done) ⊎ (result.status ≡ Status.WriteFault) ⊎ (result.status ≡ Status.BadScript) ⊎ (result.status ≡ Status.BadStore)
-        ⊎ (result.status ≡ Status.OtherConfig) ⊎ WritesLine K.Sink sink.old sink.new (status_line result.status) }
+    ensures told { result.trace ≡ None → (result.status ≡ Status.BadScript) ⊎ (result.status ≡ Status.BadStore) ⊎ (result.status ≡ Status.OtherConfig)
+        ⊎ WritesLine K.Sink sink.old sink.new (status_line result.status) }
 
     // When each end comes.
     ensures bad_words { (result.status ≡ Status.BadWords) ↔ (length words.now ≢ 1) }
@@ -81,7 +91,7 @@ pub fn run<R: AllocGlobal, S: Source, K: Sink, D: Disk>(
         Ok(input) => match read_script(alloc, &input) {
             Err(ScriptFault::NoMemory) => tell(sink, Status::NoMemory, disk),
             Err(fault) => tell_of_script(alloc, sink, fault, disk),
-            Ok(script) => run_script(alloc, sink, disk, script),
+            Ok(script) => run_script(rt, alloc, sink, disk, gate, script),
         },
     }
 }

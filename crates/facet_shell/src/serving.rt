@@ -1,93 +1,98 @@
-ghost use Rattle.std.specs.Prelude.{◌≡◌, ◌≢◌, ◌≤◌, ◌⊎◌, [], Some, None, length, map};
-ghost use Rattle.std.specs.Arc.{arc_value};
-ghost use Rattle.std.specs.List.{AllByRecursion};
-ghost use Rattle.facet_disk.specs.Images.{Told};
+ghost use Rattle.std.specs.Prelude.{◌≡◌, ◌⊎◌, Some};
+ghost use Rattle.commit_turns.specs.Opening.{WasSettled};
 ghost use Rattle.facet_disk.specs.Calls.{Rose};
-ghost use Rattle.commit_store.specs.Committed.{IsOwn, segments_in};
-ghost use Rattle.facet_names.specs.Labels.{IsLabelList};
-ghost use Rattle.facet_model.specs.Stored.{Decodes};
-ghost use Rattle.facet_words.specs.CommandViews.{script_view};
-ghost use Rattle.seg_decoding.specs.Decoding.{docs_in};
-ghost use Rattle.facet_shell.specs.Serving.{IsWritten, ServedFrom, Serves, StaysShut};
+ghost use Rattle.facet_disk.specs.Images.{Told};
+ghost use Rattle.facet_engine.specs.Opening.{IsReady};
+ghost use Rattle.facet_words.specs.Sessions.CommandViews.{script_view};
+ghost use Rattle.facet_words.specs.Sessions.Laws.{AreInOrder};
+ghost use Rattle.store_opening.specs.Settled.{IsSettled};
+ghost use Rattle.facet_shell.specs.Serving.{GoesOnBehind, Serves, StaysShut};
 
-use crate::answering::answer_all;
-use crate::session::Session;
+use crate::closing::close;
+use crate::counting::count_sessions;
 use crate::status::{Ended, Status};
 use crate::telling::{tell, tell_of_store};
-use commit_store::{Committer, NotOpened, Opened};
+use commit_store::NotOpened;
+use commit_turns::Start;
 use facet_disk::Disk;
-use facet_io::{Sink, write_all};
-use facet_names::NoMemory;
-use facet_words::Script;
+use facet_engine::{Store, System};
+use facet_io::Sink;
+use facet_phases::{Gate, run_to_end};
+use facet_words::sessions::Script;
 use std::alloc::Global;
+use std::marker::Brand;
+use std::sync::Wait;
+use std::thread::Threads;
+use taxo_cache::Name;
 
-// Carries out the orders of a script on a store that was opened.
-fn serve<K: Sink, D: Disk>(
-    alloc: Global,
-    sink: &mut K,
-    script: Script,
-    opened: Opened<D>,
-) -> Ended<D>
-    requires fresh { opened.committer.closed ≡ None }
-    requires config { opened.committer.config ≡ script.settings.config }
-    requires kept { (segments_in opened.committer.state.kept ≡ map arc_value opened.segments.items) × (opened.committer.state.labels ≡ length opened.labels) }
-    requires list { IsLabelList opened.labels }
-    requires decodes { Decodes opened.labels script.settings.config (map arc_value opened.segments.items)
-        (docs_in opened.labels (map arc_value opened.segments.items)) }
-    requires some { docs_in opened.labels (map arc_value opened.segments.items) ≡ [] → map arc_value opened.segments.items ≡ [] }
-    requires own { AllByRecursion IsOwn (map arc_value opened.segments.items) }
-    requires few { length (docs_in opened.labels (map arc_value opened.segments.items)) ≤ 1000000 }
-    ensures served { ServedFrom D.Disk (script_view script) opened.labels (map arc_value opened.segments.items) opened.committer result.disk
-        K.Sink sink.old sink.new result.status }
-    ensures opened { result.status ≢ Status.DiskFault }
+// Carries out a script on a store, whose labels the name names.
+fn run_over<
+    N: Name + Start + Send + Sync,
+    R: Threads + Wait + Sync,
+    K: Sink,
+    D: Disk,
+    G: Gate + Sync,
+>(rt: &R, alloc: Global, store: Store<D>, script: Script, sink: &mut K, gate: &G) -> Ended<D>
+    requires ready { IsReady D.Disk script.settings.config store }
+    requires order { AreInOrder (script_view script).phases }
+    requires next { GoesOnBehind D.Disk store }
+    requires name { store.labels ≡ N.labels }
+    requires told { (N.told → (t : Told) × (D.told store.start.value ≡ Some t)) × ((t : Told) → D.told store.start.value ≡ Some t → N.told) }
+    requires settled { (N.settled → WasSettled D.Disk script.settings.config store.start.value)
+        × ((t : Told) → D.told store.start.value ≡ Some t → IsSettled D.Disk script.settings.config t store.start.value → N.settled) }
+    ensures { Serves D.Disk (script_view script) store.start.value result.disk K.Sink sink.old sink.new result.trace result.status
+        ⊎ ((result.status ≡ Status.NoMemory)
+        × StaysShut D.Disk (script_view script) store.start.value result.disk K.Sink sink.old sink.new result.trace result.status) }
 {
-    let Opened {
-        mut committer,
-        labels,
-        segments,
-    } = opened;
-    let Ok(mut session) = Session::open(alloc, script.settings, labels, segments) else {
-        return tell(sink, Status::NoMemory, committer.into_disk());
-    };
-    match answer_all(alloc, &mut session, &mut committer, script.orders) {
-        Ok(lines) => {
-            let status = write(sink, &lines);
-            Ended {
-                status,
-                disk: committer.into_disk(),
-            }
+    let Script { settings, phases } = script;
+    match System::<D, N>::open(alloc, store, settings) {
+        Ok((system, first)) => {
+            let sessions = count_sessions(&phases);
+            let ran = run_to_end(rt, alloc, &system, gate, first, sessions, phases, sink);
+            close(alloc, sink, system.opened(), ran)
         }
-        Err(NoMemory) => tell(sink, Status::NoMemory, committer.into_disk()),
+        Err(NotOpened { fault: _, disk }) => tell(sink, Status::NoMemory, disk),
     }
 }
 
-// Writes all lines.
-fn write<K: Sink>(sink: &mut K, lines: &[u8]) -> Status
-    ensures written { IsWritten lines.now K.Sink sink.old sink.new result }
-    ensures status { result ≢ Status.DiskFault }
+// Carries out a script on a store.
+fn serve<R: Threads + Wait + Sync, K: Sink, D: Disk, G: Gate + Sync>(
+    rt: &R,
+    alloc: Global,
+    store: Store<D>,
+    script: Script,
+    sink: &mut K,
+    gate: &G,
+) -> Ended<D>
+    requires ready { IsReady D.Disk script.settings.config store }
+    requires order { AreInOrder (script_view script).phases }
+    requires next { GoesOnBehind D.Disk store }
+    ensures { Serves D.Disk (script_view script) store.start.value result.disk K.Sink sink.old sink.new result.trace result.status
+        ⊎ ((result.status ≡ Status.NoMemory)
+        × StaysShut D.Disk (script_view script) store.start.value result.disk K.Sink sink.old sink.new result.trace result.status) }
 {
-    match write_all(sink, lines) {
-        Ok(()) => Status::Done,
-        Err(_) => Status::WriteFault,
-    }
+    run_over::<Brand, R, K, D, G>(rt, alloc, store, script, sink, gate)
 }
 
-/// Carries out a script on the store of a disk, and writes the replies when all orders are answered.
-pub fn run_script<K: Sink, D: Disk>(
+/// Carries out a script on the store of a disk: the sessions at once, phase after phase, and writes the replies after each phase.
+pub(crate) fn run_script<R: Threads + Wait + Sync, K: Sink, D: Disk, G: Gate + Sync>(
+    rt: &R,
     alloc: Global,
     sink: &mut K,
     disk: D,
+    gate: &G,
     script: Script,
 ) -> Ended<D>
-    ensures served { Serves D.Disk (script_view script) disk result.disk K.Sink sink.old sink.new result.status
-        ⊎ StaysShut D.Disk (script_view script) disk result.disk K.Sink sink.old sink.new result.status }
-    ensures failed { result.status ≡ Status.DiskFault → (s : Told) → D.told disk ≡ Some s → Rose (D.failures disk) (D.failures result.disk) }
+    requires { AreInOrder (script_view script).phases }
+    ensures served { Serves D.Disk (script_view script) disk result.disk K.Sink sink.old sink.new result.trace result.status
+        ⊎ StaysShut D.Disk (script_view script) disk result.disk K.Sink sink.old sink.new result.trace result.status }
+    ensures failed { result.status ≡ Status.DiskFault → (t : Told) → D.told disk ≡ Some t → Rose (D.failures disk) (D.failures result.disk) }
 {
     let Ok(config) = script.settings.config.dup() else {
         return tell(sink, Status::NoMemory, disk);
     };
-    match Committer::open(alloc, disk, config) {
-        Ok(opened) => serve(alloc, sink, script, opened),
+    match Store::open(alloc, disk, config) {
+        Ok(store) => serve(rt, alloc, store, script, sink, gate),
         Err(NotOpened { fault, disk }) => tell_of_store(alloc, sink, fault, disk),
     }
 }

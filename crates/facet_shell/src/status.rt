@@ -2,18 +2,19 @@ ghost use Rattle.std.specs.Prelude.{◌≡◌};
 ghost use Rattle.facet_shell.specs.Statuses.{exit_code, fault_status, status_line};
 
 use facet_disk::Disk;
+use facet_engine::Trace;
 use store_opening::OpenFault;
 
 /// How a run ended.
 #[derive(Clone, Copy, Debug, PartialEq, Eq)]
 pub enum Status {
-    /// Every order was answered, and all replies were written.
+    /// Every order was answered, and all replies and the last line were written.
     Done,
     /// There was not exactly one word, the store's directory.
     BadWords,
     /// A read failed.
     ReadFault,
-    /// A write of replies failed.
+    /// A write of replies or of the last line failed.
     WriteFault,
     /// What was read is no script.
     BadScript,
@@ -83,9 +84,10 @@ impl Status {
     }
 }
 
-/// What a run leaves behind: how it ended, and the disk.
+/// What a run leaves behind: how it ended, and the disk. Where its sessions began, the trace tells all labels, and of each operation the number of its session.
 #[derive(Drop)]
 pub struct Ended<D: Disk> {
     pub status: Status,
     pub disk: D,
+    pub trace: Option<Trace>,
 }

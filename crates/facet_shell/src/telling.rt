@@ -1,4 +1,4 @@
-ghost use Rattle.std.specs.Prelude.{◌≡◌, ◌⊎◌, IfOk, map};
+ghost use Rattle.std.specs.Prelude.{◌≡◌, ◌⊎◌, None, IfOk, map};
 ghost use Rattle.facet_replies.specs.ReplyLines.{fault_line};
 ghost use Rattle.facet_replies.specs.NamedFaults.{detail_field, named_fault_line};
 ghost use Rattle.store_opening.specs.declared.fault.OpenFault.TheVariants as faults;
@@ -13,14 +13,34 @@ use facet_words::{Detail, ScriptFault, write_fault, write_named_fault};
 use std::alloc::Global;
 use store_opening::OpenFault;
 
-/// Tells of a fault; the status stays where its line cannot be written.
+// A run that ends before its sessions begin.
+fn ended<D: Disk>(status: Status, disk: D) -> Ended<D>
+    ensures { result ≡ record { status = status; disk = disk; trace = None } }
+{
+    Ended {
+        status,
+        disk,
+        trace: None,
+    }
+}
+
+/// Writes the line that tells of a fault; the status stays where it cannot be written.
+pub fn tell_line<K: Sink>(sink: &mut K, status: Status) -> Status
+    ensures status { result ≡ status }
+    ensures line { WritesLine K.Sink sink.old sink.new (status_line status) }
+{
+    let _ = write_all(sink, status.line());
+    status
+}
+
+/// Tells of a fault before the sessions begin; the status stays where its line cannot be written.
 pub fn tell<K: Sink, D: Disk>(sink: &mut K, status: Status, disk: D) -> Ended<D>
     ensures status { result.status ≡ status }
     ensures line { WritesLine K.Sink sink.old sink.new (status_line status) }
     ensures disk { result.disk ≡ disk }
+    ensures trace { result.trace ≡ None }
 {
-    let _ = write_all(sink, status.line());
-    Ended { status, disk }
+    ended(tell_line(sink, status), disk)
 }
 
 /// Tells of the first fault of a script.
@@ -34,15 +54,13 @@ pub fn tell_of_script<K: Sink, D: Disk>(
     ensures memory { (result.status ≡ Status.BadScript)
         ⊎ ((result.status ≡ Status.NoMemory) × WritesLine K.Sink sink.old sink.new (status_line Status.NoMemory)) }
     ensures disk { result.disk ≡ disk }
+    ensures trace { result.trace ≡ None }
 {
     let mut line = Vec::new(alloc);
     match write_fault(alloc, &mut line, fault) {
         Ok(()) => {
             let _ = write_all(sink, &line);
-            Ended {
-                status: Status::BadScript,
-                disk,
-            }
+            ended(Status::BadScript, disk)
         }
         Err(NoMemory) => tell(sink, Status::NoMemory, disk),
     }
@@ -125,14 +143,12 @@ pub fn tell_of_store<K: Sink, D: Disk>(
     ensures told { ((result.status ≡ fault_status fault) × WritesLine K.Sink sink.old sink.new (open_line fault))
         ⊎ ((result.status ≡ Status.NoMemory) × WritesLine K.Sink sink.old sink.new (status_line Status.NoMemory)) }
     ensures disk { result.disk ≡ disk }
+    ensures trace { result.trace ≡ None }
 {
     match open_line(alloc, &fault) {
         Ok(line) => {
             let _ = write_all(sink, &line);
-            Ended {
-                status: Status::of(&fault),
-                disk,
-            }
+            ended(Status::of(&fault), disk)
         }
         Err(NoMemory) => tell(sink, Status::NoMemory, disk),
     }

@@ -1,7 +1,6 @@
 pub mod Traversals
 pub mod FirstLines
 pub mod Members
-pub mod Orders
 pub mod Levels
 pub mod PlainLines
 pub mod Phases

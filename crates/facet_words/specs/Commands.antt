@@ -34,7 +34,3 @@ pub record Order : Type 0 where
   pub session : ℕ
   pub line : ℕ
   pub command : Command
-
-pub record Script : Type 0 where
-  pub settings : Settings
-  pub orders : List Order

@@ -1,5 +1,5 @@
--- What the value of a line is: the settings, or a command with its session.
-use Rattle.std.specs.Prelude.{ℕ, not, if◌then◌else◌, Bool, false, List, [], ◌∷◌, codes, map, take, Option, Some, None, option_map}
+-- What the value of a line is: the settings, or a part of a command.
+use Rattle.std.specs.Prelude.{ℕ, not, if◌then◌else◌, Bool, false, List, [], ◌∷◌, codes, map, take, Option, Some, None}
 use Rattle.std.specs.List.{list_any, list_all, enumerate_from}
 use Rattle.std.specs.Option.{option_or}
 use Rattle.std.specs.Str.{bytes_eq}
@@ -10,7 +10,7 @@ use Rattle.facet_model.specs.Documents.{Doc}
 use Rattle.facet_model.specs.Flags.{Config}
 use Rattle.facet_model.specs.Asks.{Asked, top, one_value, all_dims}
 use Rattle.facet_model.specs.Queries.{all}
-use Rattle.facet_words.specs.Commands.{Settings, Search, Command, add, refresh, search, document, stats, commit}
+use Rattle.facet_words.specs.Commands.{Settings, Search}
 use Rattle.facet_words.specs.Queries.{query_of}
 use Rattle.facet_words.specs.Shapes.{◌>>=◌, when, whole, text_within, whole_within, list_of, list_within, path, key, key_or, keys_among}
 
@@ -100,29 +100,3 @@ heading_of d = do
   session ← key (codes "s") whole d
   name ← key (codes "cmd") as_str d
   Some (session, name)
-
--- ---- the commands
-
-abbrev pub search_of : Data → Option Command
-search_of d = option_map search
-    (search_with (codes "cmd" ∷ codes "s" ∷ codes "query" ∷ codes "drill" ∷ codes "sideways" ∷ codes "ask" ∷ codes "hits" ∷ []) d)
-
-abbrev pub document_of : Data → Option Command
-document_of d = option_map document (place_with (codes "cmd" ∷ codes "s" ∷ codes "at" ∷ []) d)
-
-unfoldable pub command_named : List ℕ → Data → Option Command
-command_named name d =
-    if bytes_eq name (codes "add") then option_map add (added_of d)
-    else (if bytes_eq name (codes "refresh") then plain_of refresh d
-    else (if bytes_eq name (codes "search") then search_of d
-    else (if bytes_eq name (codes "document") then document_of d
-    else (if bytes_eq name (codes "stats") then plain_of stats d
-    else (if bytes_eq name (codes "commit") then plain_of commit d
-    else None)))))
-
--- the session's number, and the command
-unfoldable pub command_of : Data → Option (ℕ × Command)
-command_of d = do
-  heading ← heading_of d
-  command ← command_named heading.1 d
-  Some (heading.0, command)

@@ -2,21 +2,18 @@
 #![tactic(auto)]
 
 mod asking;
-mod command;
+mod config_line;
 mod laws;
 mod lines;
-mod order;
 mod parts;
 mod query;
-mod script;
 pub mod sessions;
 mod settings;
 mod shape;
 
-pub use command::{Command, Order, Script, Settings};
 pub use facet_model::FacetAnswer;
 pub use facet_replies::{
     Detail, HitLine, Refusal, Reply, ScriptFault, write_fault, write_named_fault, write_reply,
 };
 pub use laws::levels_are_counted;
-pub use script::read_script;
+pub use settings::Settings;

@@ -1,10 +1,11 @@
-//! `facets`: reads a script of a faceted search index from standard input, carries it out on the store of a directory, and writes the replies to standard output.
+//! `facets`: reads a script of a faceted search index from standard input, carries it out on the store of a directory, its sessions at once, and writes the
+//! replies to standard output.
 #![tactic(auto)]
 
 use facet_disk::StdDisk;
 use facet_io::{StdSink, StdSource};
 use facet_names::NoMemory;
-use facet_shell::{Status, place, run};
+use facet_shell::{OpenGate, Status, place, run};
 use std::env;
 use std::io::ErrorKind;
 use std::process::ExitCode;
@@ -54,6 +55,6 @@ fn main(rt: HostRuntime) -> ExitCode {
     };
     let mut source = StdSource::new(rt.reader());
     let mut sink = StdSink::new(rt.stdout());
-    let ended = run(&rt, &words, &mut source, &mut sink, disk);
+    let ended = run(&rt, &words, &mut source, &mut sink, disk, &OpenGate);
     ExitCode::from(ended.status.code())
 }

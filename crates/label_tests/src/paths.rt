@@ -57,19 +57,6 @@ const FAMILIES: &[(&[&str], &[&str], bool)] = &[
     (DATE, &["Date", "20"], false),
 ];
 
-#[test]
-fn refused_paths_and_families(rt: HostRuntime) -> Result<(), Fail> {
-    let alloc = rt.alloc();
-    for (parts, expected) in REFUSED {
-        assert!(rt; fault(alloc, *parts) == *expected, "{expected:?}");
-    }
-    for (parts, above, expected) in FAMILIES {
-        assert!(rt; is_under(alloc, *parts, *above)? == *expected);
-    }
-    assert!(rt; is_too_long(alloc)? && longest_is_taken(alloc)? && is_taken_apart(alloc)?);
-    Ok(())
-}
-
 const RISING: [&[&str]; 6] = [
     &["A"],
     &["A", "b"],
@@ -106,21 +93,29 @@ fn is_spelled(alloc: Global, parts: &[&str], text: &str) -> Result<bool, Fail> {
     Ok(spelled.as_str() == text && read == Some(path))
 }
 
+const SPELLED: &[(&[&str], &str)] = &[
+    (
+        &["A", "x\u{1f}y\u{1e}z"],
+        "A\u{1f}x\u{1e}\u{1f}y\u{1e}\u{1e}z",
+    ),
+    (&["A", "x", "y"], "A\u{1f}x\u{1f}y"),
+    (&["A", "x\u{1f}y"], "A\u{1f}x\u{1e}\u{1f}y"),
+    (&["é"], "é"),
+];
+
 #[test]
-fn order_and_term_texts(rt: HostRuntime) -> Result<(), Fail> {
+fn paths_and_their_term_texts(rt: HostRuntime) -> Result<(), Fail> {
     let alloc = rt.alloc();
+    for (parts, expected) in REFUSED {
+        assert!(rt; fault(alloc, *parts) == *expected, "{expected:?}");
+    }
+    for (parts, above, expected) in FAMILIES {
+        assert!(rt; is_under(alloc, *parts, *above)? == *expected);
+    }
+    assert!(rt; is_too_long(alloc)? && longest_is_taken(alloc)? && is_taken_apart(alloc)?);
     assert!(rt; are_in_order(alloc)?);
-    let rows: [(&[&str], &str); 4] = [
-        (
-            &["A", "x\u{1f}y\u{1e}z"],
-            "A\u{1f}x\u{1e}\u{1f}y\u{1e}\u{1e}z",
-        ),
-        (&["A", "x", "y"], "A\u{1f}x\u{1f}y"),
-        (&["A", "x\u{1f}y"], "A\u{1f}x\u{1e}\u{1f}y"),
-        (&["é"], "é"),
-    ];
-    for (parts, text) in rows {
-        assert!(rt; is_spelled(alloc, parts, text)?);
+    for (parts, text) in SPELLED {
+        assert!(rt; is_spelled(alloc, *parts, *text)?);
     }
     for text in ["A\u{1e}", "\u{1e}A", "A\u{1f}", ""] {
         assert!(rt; Path::from_term_text(alloc, text)? == None);

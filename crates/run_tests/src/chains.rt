@@ -1,7 +1,9 @@
 use crate::runs::{BOB, COMMIT, CONFIG, Counts, LISA, counts, disk_with, joined, run_over};
 use facet_disk::{Disk, MemoryDisk, Pick, Unsynced};
 use std::alloc::Global;
+use std::sync::Wait;
 use std::test::Fail;
+use std::thread::Threads;
 
 // The disk as a stop after so many calls may leave it.
 fn stopped(alloc: Global, disk: &MemoryDisk, calls: u64, pick: &Pick) -> Result<MemoryDisk, Fail> {
@@ -20,7 +22,12 @@ fn is_kept(first: Counts, second: Counts, is_end: bool) -> bool {
 }
 
 // Opens what a stop of the first commit leaves, commits again, and opens what each stop of that leaves.
-fn goes_on(rt: &HostRuntime, disk: &MemoryDisk, calls: u64, pick: &Pick) -> Result<bool, Fail> {
+fn goes_on<R: AllocGlobal + Threads + Wait + Sync>(
+    rt: &R,
+    disk: &MemoryDisk,
+    calls: u64,
+    pick: &Pick,
+) -> Result<bool, Fail> {
     let alloc = rt.alloc();
     let first = counts(alloc, stopped(alloc, disk, calls, pick)?)?;
     let script = joined(alloc, &[CONFIG, LISA, COMMIT])?;
@@ -36,7 +43,11 @@ fn goes_on(rt: &HostRuntime, disk: &MemoryDisk, calls: u64, pick: &Pick) -> Resu
 }
 
 // The first commit is whole behind its twelve calls and the two of the opening.
-fn every_stop_goes_on(rt: &HostRuntime, disk: &MemoryDisk, pick: &Pick) -> Result<bool, Fail> {
+fn every_stop_goes_on<R: AllocGlobal + Threads + Wait + Sync>(
+    rt: &R,
+    disk: &MemoryDisk,
+    pick: &Pick,
+) -> Result<bool, Fail> {
     for calls in 0..15u64 {
         if !goes_on(rt, disk, calls, pick)? {
             return Ok(false);

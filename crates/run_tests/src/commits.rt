@@ -1,11 +1,13 @@
 use crate::runs::{
-    BOB, COMMIT, CONFIG, Counts, LISA, REFRESH, STATS, counts, disk_with, empty_disk, joined,
-    listing, run_over,
+    BOB, COMMIT, CONFIG, Counts, LISA, REFRESH, STATS, counts, empty_disk, joined, listing,
+    run_over,
 };
 use facet_disk::{Disk, MemoryDisk, Pick, Unsynced};
 use facet_shell::Status;
 use std::alloc::Global;
+use std::sync::Wait;
 use std::test::Fail;
+use std::thread::Threads;
 
 // The calls before the second commit: two lists, and the 12 of the first one.
 const BEFORE: u64 = 14;
@@ -13,7 +15,8 @@ const BEFORE: u64 = 14;
 const TWO_COMMITS: &[&[u8]] = &[CONFIG, BOB, COMMIT, LISA, COMMIT];
 
 const TWO_REPLIES: &[u8] =
-    b"{\"at\":0,\"line\":2,\"s\":1}\n{\"line\":3,\"n\":1,\"s\":1}\n{\"at\":1,\"line\":4,\"s\":1}\n{\"line\":5,\"n\":2,\"s\":1}\n";
+    b"{\"at\":0,\"line\":2,\"s\":1}\n{\"line\":3,\"n\":1,\"s\":1}\n{\"at\":1,\"line\":4,\"s\":1}\n{\"line\":5,\"n\":2,\"s\":1}\n\
+{\"labels\":[[0,\"Author\"],[1,\"Bob\"],[1,\"Lisa\"]],\"opened\":[0,1],\"order\":[1,1]}\n";
 
 // The files after a number of calls of the second commit.
 const FILES: &[(u64, &str)] = &[
@@ -79,19 +82,6 @@ fn leaves(alloc: Global, disk: &MemoryDisk, calls: u64, files: &str) -> Result<b
     are_files(alloc, left, files)
 }
 
-#[test]
-fn two_commits(rt: HostRuntime) -> Result<(), Fail> {
-    let alloc = rt.alloc();
-    let script = joined(alloc, TWO_COMMITS)?;
-    let (ended, sink) = run_over(&rt, &script, &[], empty_disk(alloc))?;
-    assert!(rt; ended.status == Status::Done && sink.bytes() == TWO_REPLIES);
-    assert_eq!(rt; ended.disk.call_count(), 28);
-    for (calls, files) in FILES {
-        assert!(rt; leaves(alloc, &ended.disk, *calls, *files)?, "{calls}");
-    }
-    Ok(())
-}
-
 // What opening gives after each number of calls of the second commit: where renames and removals that were not synced are undone, and where
 // they are done. What becomes of unsynced files makes no difference.
 const STOPS: &[(u64, Counts, Counts)] = &[
@@ -125,12 +115,18 @@ fn counts_after(
 }
 
 #[test]
-fn every_stop_of_the_second_commit(rt: HostRuntime) -> Result<(), Fail> {
+fn two_commits_and_every_stop_of_the_second(rt: HostRuntime) -> Result<(), Fail> {
     let alloc = rt.alloc();
-    let disk = disk_with(&rt, TWO_COMMITS)?;
+    let script = joined(alloc, TWO_COMMITS)?;
+    let (ended, sink) = run_over(&rt, &script, &[], empty_disk(alloc))?;
+    assert!(rt; ended.status == Status::Done && sink.bytes() == TWO_REPLIES);
+    assert_eq!(rt; ended.disk.call_count(), 28);
+    for (calls, files) in FILES {
+        assert!(rt; leaves(alloc, &ended.disk, *calls, *files)?, "{calls}");
+    }
     for (calls, undone, done) in STOPS {
         for files in [Unsynced::Gone, Unsynced::Whole, Unsynced::Zeroed] {
-            let found = counts_after(alloc, &disk, *calls, files)?;
+            let found = counts_after(alloc, &ended.disk, *calls, files)?;
             assert!(rt; found == (*undone, *done), "{calls} {files:?} {found:?}");
         }
     }
@@ -142,10 +138,11 @@ const FAILED: &[&[u8]] = &[CONFIG, BOB, COMMIT, LISA, COMMIT, COMMIT, REFRESH, S
 const FAILED_OUTPUT: &[u8] =
     b"{\"at\":0,\"line\":2,\"s\":1}\n{\"line\":3,\"n\":1,\"s\":1}\n{\"at\":1,\"line\":4,\"s\":1}\n\
 {\"count\":1,\"line\":5,\"refused\":\"disk\",\"s\":1}\n{\"count\":1,\"line\":6,\"refused\":\"closed\",\"s\":1}\n\
-{\"line\":7,\"n\":2,\"s\":1}\n{\"documents\":2,\"labels\":4,\"line\":8,\"n\":2,\"s\":1}\n";
+{\"line\":7,\"n\":2,\"s\":1}\n{\"documents\":2,\"labels\":4,\"line\":8,\"n\":2,\"s\":1}\n\
+{\"labels\":[[0,\"Author\"],[1,\"Bob\"],[1,\"Lisa\"]],\"opened\":[0,1],\"order\":[1,1]}\n";
 
 // Whether the second commit ends at its call 5, and what was committed before it is opened.
-fn second_ends(rt: &HostRuntime) -> Result<bool, Fail> {
+fn second_ends<R: AllocGlobal + Threads + Wait + Sync>(rt: &R) -> Result<bool, Fail> {
     let alloc = rt.alloc();
     let script = joined(alloc, FAILED)?;
     let disk = MemoryDisk::new(alloc, vec![in alloc; 19]?);
@@ -156,13 +153,19 @@ fn second_ends(rt: &HostRuntime) -> Result<bool, Fail> {
 }
 
 const ENDED_OUTPUT: &[u8] =
-    b"{\"at\":0,\"line\":2,\"s\":1}\n{\"count\":1,\"line\":3,\"refused\":\"disk\",\"s\":1}\n{\"count\":1,\"line\":4,\"refused\":\"closed\",\"s\":1}\n";
+    b"{\"at\":0,\"line\":2,\"s\":1}\n{\"count\":1,\"line\":3,\"refused\":\"disk\",\"s\":1}\n{\"count\":1,\"line\":4,\"refused\":\"closed\",\"s\":1}\n\
+{\"labels\":[[0,\"Author\"],[1,\"Bob\"]],\"opened\":[0,1],\"order\":[1]}\n";
 
 const MADE_OUTPUT: &[u8] =
-    b"{\"at\":0,\"line\":2,\"s\":1}\n{\"line\":3,\"n\":1,\"s\":1}\n{\"line\":4,\"n\":1,\"s\":1}\n";
+    b"{\"at\":0,\"line\":2,\"s\":1}\n{\"line\":3,\"n\":1,\"s\":1}\n{\"line\":4,\"n\":1,\"s\":1}\n\
+{\"labels\":[[0,\"Author\"],[1,\"Bob\"]],\"opened\":[0,1],\"order\":[1]}\n";
 
 // How many calls a run of two commits makes where the call of this number fails, and whether it writes what it should.
-fn ended(rt: &HostRuntime, failing: u64, output: &[u8]) -> Result<(u64, bool), Fail> {
+fn ended<R: AllocGlobal + Threads + Wait + Sync>(
+    rt: &R,
+    failing: u64,
+    output: &[u8],
+) -> Result<(u64, bool), Fail> {
     let alloc = rt.alloc();
     let script = joined(alloc, &[CONFIG, BOB, COMMIT, COMMIT])?;
     let disk = MemoryDisk::new(alloc, vec![in alloc; failing]?);

@@ -1,4 +1,5 @@
-//! Tests of whole runs: reads, writes and device calls that fail, stops of a commit, and what is read and written that no run of the program shows.
+//! Tests of whole runs: reads, writes and device calls that fail, stops of a commit, sessions that run beside each other, and what is read and written that no
+//! run of the program shows.
 #![tactic(auto)]
 
 #[cfg(test)]
@@ -7,6 +8,8 @@ mod chains;
 mod commits;
 #[cfg(test)]
 mod failing;
+#[cfg(test)]
+mod gates;
 #[cfg(test)]
 mod lines;
 #[cfg(test)]

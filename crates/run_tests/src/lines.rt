@@ -11,7 +11,7 @@ fn has_line(alloc: Global, reply: &Reply, expected: &str) -> Result<bool, Fail> 
     Ok(out.as_slice() == line.as_str().as_bytes())
 }
 
-static REFUSALS: [(Refusal, &str); 12] = [
+static REFUSALS: [(Refusal, &str); 14] = [
     (
         Refusal::NoComponent { facet: 0 },
         r#"{"facet":0,"line":4,"refused":"no_component","s":1}"#,
@@ -31,6 +31,11 @@ static REFUSALS: [(Refusal, &str); 12] = [
     (
         Refusal::DocsFull { count: 1 },
         r#"{"count":1,"line":4,"refused":"docs_full","s":1}"#,
+    ),
+    (Refusal::NotHeld, r#"{"line":4,"refused":"not_held","s":1}"#),
+    (
+        Refusal::HeldAlready,
+        r#"{"line":4,"refused":"held_already","s":1}"#,
     ),
     (
         Refusal::TopZero { ask: 0 },
@@ -85,12 +90,12 @@ fn are_told(alloc: Global) -> Result<bool, Fail> {
     Ok(out.as_slice() == expected.as_slice())
 }
 
-#[test]
-fn lines_of_refusals_and_faults(rt: HostRuntime) -> Result<(), Fail> {
-    assert!(rt; are_told(rt.alloc())?);
+/// Whether refusals and faults have their lines.
+pub fn are_written(alloc: Global) -> Result<bool, Fail> {
     for (refusal, expected) in refusals() {
-        let found = has_line(rt.alloc(), &Reply::Refused(*refusal), *expected)?;
-        assert!(rt; found, "{expected}");
+        if !has_line(alloc, &Reply::Refused(*refusal), *expected)? {
+            return Ok(false);
+        }
     }
-    Ok(())
+    are_told(alloc)
 }

@@ -5,9 +5,11 @@ use commit_store::{Committer, Opened};
 use facet_config::FacetsConfig;
 use facet_disk::{Dir, Disk, MemoryDisk};
 use facet_io::{MemorySink, MemorySource};
-use facet_shell::{Ended, Status, run};
+use facet_shell::{Ended, Gate, OpenGate, Status, run};
 use std::alloc::Global;
+use std::sync::Wait;
 use std::test::Fail;
+use std::thread::Threads;
 use taxo_list::Labelled;
 
 pub const CONFIG: &[u8] = b"{\"cmd\":\"config\"}\n";
@@ -38,20 +40,21 @@ pub fn empty_disk(alloc: Global) -> MemoryDisk {
 }
 
 // A run with one word.
-fn run_between<D: Disk>(
-    rt: &HostRuntime,
+fn run_between<D: Disk, G: Gate + Sync, R: AllocGlobal + Threads + Wait + Sync>(
+    rt: &R,
     mut source: MemorySource,
     mut sink: MemorySink,
     disk: D,
+    gate: &G,
 ) -> Result<(Ended<D>, MemorySink), Fail> {
     let words = vec![in rt.alloc(); String::from_str(rt.alloc(), "store")?]?;
-    let ended = run(rt, &words, &mut source, &mut sink, disk);
+    let ended = run(rt, &words, &mut source, &mut sink, disk, gate);
     Ok((ended, sink))
 }
 
 /// How a run over an empty disk ends, and what it writes; the reads and writes with these numbers fail.
-pub fn run_on(
-    rt: &HostRuntime,
+pub fn run_on<R: AllocGlobal + Threads + Wait + Sync>(
+    rt: &R,
     script: &[u8],
     piece: usize,
     reads: &[u64],
@@ -63,13 +66,13 @@ pub fn run_on(
     let script = Vec::from_slice(alloc, script)?;
     let source = MemorySource::new(script, piece, Vec::from_slice(alloc, reads)?);
     let sink = MemorySink::new(alloc, Vec::from_slice(alloc, writes)?);
-    let (ended, sink) = run_between(rt, source, sink, empty_disk(alloc))?;
+    let (ended, sink) = run_between(rt, source, sink, empty_disk(alloc), &OpenGate)?;
     Ok((ended.status, sink))
 }
 
 /// A run over a disk; the writes with these numbers fail.
-pub fn run_over<D: Disk>(
-    rt: &HostRuntime,
+pub fn run_over<D: Disk, R: AllocGlobal + Threads + Wait + Sync>(
+    rt: &R,
     script: &[u8],
     writes: &[u64],
     disk: D,
@@ -78,12 +81,25 @@ pub fn run_over<D: Disk>(
     let script = Vec::from_slice(alloc, script)?;
     let source = MemorySource::new(script, 4096, Vec::new(alloc));
     let sink = MemorySink::new(alloc, Vec::from_slice(alloc, writes)?);
-    run_between(rt, source, sink, disk)
+    run_between(rt, source, sink, disk, &OpenGate)
+}
+
+/// How a run over an empty disk ends, and what it writes; the gate stands before each order.
+pub fn run_behind<G: Gate + Sync, R: AllocGlobal + Threads + Wait + Sync>(
+    rt: &R,
+    script: &[u8],
+    gate: &G,
+) -> Result<(Status, MemorySink), Fail> {
+    let alloc = rt.alloc();
+    let source = MemorySource::new(Vec::from_slice(alloc, script)?, 4096, Vec::new(alloc));
+    let sink = MemorySink::new(alloc, Vec::new(alloc));
+    let (ended, sink) = run_between(rt, source, sink, empty_disk(alloc), gate)?;
+    Ok((ended.status, sink))
 }
 
 /// Whether a run over an empty disk ends and writes so; the reads and writes with these numbers fail.
-pub fn ends_on(
-    rt: &HostRuntime,
+pub fn ends_on<R: AllocGlobal + Threads + Wait + Sync>(
+    rt: &R,
     script: &[u8],
     piece: usize,
     faults: (&[u64], &[u64]),
@@ -97,8 +113,8 @@ pub fn ends_on(
 }
 
 /// Whether a run over a disk ends and writes so; the writes with these numbers fail.
-pub fn ends_over<D: Disk>(
-    rt: &HostRuntime,
+pub fn ends_over<D: Disk, R: AllocGlobal + Threads + Wait + Sync>(
+    rt: &R,
     script: &str,
     writes: &[u64],
     disk: D,
@@ -110,7 +126,10 @@ pub fn ends_over<D: Disk>(
 }
 
 /// What a run of these lines leaves of an empty disk.
-pub fn disk_with(rt: &HostRuntime, lines: &[&[u8]]) -> Result<MemoryDisk, Fail> {
+pub fn disk_with<R: AllocGlobal + Threads + Wait + Sync>(
+    rt: &R,
+    lines: &[&[u8]],
+) -> Result<MemoryDisk, Fail> {
     let alloc = rt.alloc();
     let script = joined(alloc, lines)?;
     let (ended, _) = run_over(rt, &script, &[], empty_disk(alloc))?;

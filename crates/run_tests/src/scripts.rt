@@ -1,11 +1,13 @@
+use crate::lines::are_written;
 use facet_model::Query;
-use facet_words::{Command, Script, Settings, read_script};
+use facet_words::Settings;
+use facet_words::sessions::{Command, Order, Script, read_script};
 use std::alloc::Global;
 use std::test::Fail;
 
 // What is read of a script that sets all that may be set.
 const SHOP: &[u8] =
-    b"{\"cmd\":\"config\",\"max_docs\":7,\"max_labels\":8,\"stripes\":9,\"cache\":10,\"dims\":[{\"dim\":\"Tag\",\"multi_valued\":true}]}\n{\"s\":1,\"cmd\":\"search\",\"query\":{\"bool\":{\"must_not\":[{\"term\":\"a\"}]}},\"drill\":[[\"Tag\"]],\"sideways\":true,\"ask\":[{\"all\":3},{\"specific\":[\"Tag\",\"x\"]}]}\n{\"s\":1,\"cmd\":\"search\"}\n{\"s\":1,\"cmd\":\"document\",\"at\":7}\n{\"s\":1,\"cmd\":\"stats\"}\n{\"s\":1,\"cmd\":\"commit\"}";
+    b"{\"cmd\":\"config\",\"max_docs\":7,\"max_labels\":8,\"stripes\":9,\"cache\":10,\"dims\":[{\"dim\":\"Tag\",\"multi_valued\":true}]}\n{\"s\":1,\"cmd\":\"search\",\"query\":{\"bool\":{\"must_not\":[{\"term\":\"a\"}]}},\"drill\":[[\"Tag\"]],\"sideways\":true,\"ask\":[{\"all\":3},{\"specific\":[\"Tag\",\"x\"]}]}\n{\"s\":1,\"cmd\":\"search\"}\n{\"cmd\":\"phase\"}\n{\"s\":1,\"cmd\":\"document\",\"at\":7}\n{\"s\":1,\"cmd\":\"stats\"}\n{\"s\":1,\"cmd\":\"commit\"}";
 
 // How many queries each list of a boolean query has.
 fn lists(query: &Query) -> Option<(usize, usize, usize)> {
@@ -25,6 +27,7 @@ type Summary = (Option<(usize, usize, usize)>, usize, bool, usize, u32);
 fn summary(command: &Command) -> Summary {
     match command {
         Command::Search {
+            on: _,
             query,
             drill,
             sideways,
@@ -37,8 +40,8 @@ fn summary(command: &Command) -> Summary {
             asks.len(),
             *hits,
         ),
-        Command::Document { at } => (None, 0, false, 0, *at),
-        Command::Stats => (None, 1, false, 0, 0),
+        Command::Document { on: _, at } => (None, 0, false, 0, *at),
+        Command::Stats { on: _ } => (None, 1, false, 0, 0),
         Command::Commit => (None, 2, false, 0, 0),
         _ => (None, 0, false, 0, 0),
     }
@@ -56,10 +59,15 @@ fn numbers(settings: &Settings) -> (u32, u32, u32, u32) {
     (*max_docs, *max_labels, *stripes, *cache)
 }
 
+// Whether the one phase has no order.
+fn has_no_order(script: &Script) -> bool {
+    script.phases.len() == 1 && script.phases[0].is_empty()
+}
+
 // Whether these are the settings of a script without a key, which has no order.
 fn has_defaults(alloc: Global) -> Result<bool, Fail> {
     let script = read_script(alloc, b"{\"cmd\":\"config\"}\n")?;
-    Ok(script.orders.is_empty() && numbers(&script.settings) == (1_000_000, 1_000_000, 16, 4_096))
+    Ok(has_no_order(&script) && numbers(&script.settings) == (1_000_000, 1_000_000, 16, 4_096))
 }
 
 fn has_settings(script: &Script) -> bool {
@@ -68,24 +76,32 @@ fn has_settings(script: &Script) -> bool {
     flags && numbers(&script.settings) == (7, 8, 9, 10)
 }
 
-#[test]
-fn settings_and_commands(rt: HostRuntime) -> Result<(), Fail> {
-    let script = read_script(rt.alloc(), SHOP)?;
-    assert!(rt; has_settings(&script) && has_defaults(rt.alloc())?);
-    let summaries: [Summary; 5] = [
-        (Some((0, 0, 1)), 1, true, 2, 10),
-        (None, 0, false, 0, 10),
+// The orders of the two phases.
+const SUMMARIES: &[&[Summary]] = &[
+    &[(Some((0, 0, 1)), 1, true, 2, 10), (None, 0, false, 0, 10)],
+    &[
         (None, 0, false, 0, 7),
         (None, 1, false, 0, 0),
         (None, 2, false, 0, 0),
-    ];
-    assert!(rt; script.orders.len() == summaries.len());
-    for (order, expected) in script.orders.iter().zip(summaries) {
-        assert!(rt;
-            order.session == 1 && summary(&order.command) == expected,
-            "{}",
-            order.line
-        );
+    ],
+];
+
+// Whether the orders of a phase are of session 1, and so in short.
+fn are_as_told(orders: &[Order], expected: &[Summary]) -> bool {
+    let same = |(order, expected): (&Order, &Summary)| -> bool {
+        order.session == 1 && summary(&order.command) == *expected
+    };
+    orders.len() == expected.len() && orders.iter().zip(expected).all(same)
+}
+
+#[test]
+fn what_is_read_and_what_is_written(rt: HostRuntime) -> Result<(), Fail> {
+    assert!(rt; are_written(rt.alloc())?);
+    let script = read_script(rt.alloc(), SHOP)?;
+    assert!(rt; has_settings(&script) && has_defaults(rt.alloc())?);
+    assert!(rt; script.phases.len() == SUMMARIES.len());
+    for (orders, expected) in script.phases.iter().zip(SUMMARIES) {
+        assert!(rt; are_as_told(orders, expected));
     }
     Ok(())
 }

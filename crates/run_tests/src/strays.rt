@@ -1,7 +1,9 @@
 use crate::runs::{BOB, COMMIT, CONFIG, counts, disk_with, joined, run_over};
 use facet_disk::{Dir, Disk, FileName, Kind, MemoryDisk, Pick, Unsynced};
 use std::alloc::Global;
+use std::sync::Wait;
 use std::test::Fail;
+use std::thread::Threads;
 
 fn name(dir: Dir, kind: Kind, number: u64) -> FileName {
     FileName { dir, kind, number }
@@ -19,6 +21,9 @@ fn strays() -> [FileName; 7] {
         name(Dir::Index, Kind::Commit, 2),
     ]
 }
+
+const LEFT: &[u8] =
+    b"{\"line\":2,\"n\":1,\"s\":1}\n{\"labels\":[],\"opened\":[1,3],\"order\":[]}\n";
 
 // How many of the strays a disk holds after so many calls, where those that it lacks come first.
 fn strays_left(alloc: Global, disk: &MemoryDisk, calls: u64) -> Result<usize, Fail> {
@@ -39,7 +44,7 @@ fn strays_left(alloc: Global, disk: &MemoryDisk, calls: u64) -> Result<usize, Fa
 }
 
 // The disk of one committed document, with the strays.
-fn stored_with_strays(rt: &HostRuntime) -> Result<MemoryDisk, Fail> {
+fn stored_with_strays<R: AllocGlobal + Threads + Wait + Sync>(rt: &R) -> Result<MemoryDisk, Fail> {
     let mut disk = disk_with(rt, &[CONFIG, BOB, COMMIT])?;
     for stray in strays().iter().rev() {
         disk.put(*stray, b"stray")?;
@@ -65,7 +70,7 @@ fn removes_strays_in_order(rt: HostRuntime) -> Result<(), Fail> {
     let opening = disk.call_count().saturating_add(6);
     let script = joined(alloc, &[CONFIG, COMMIT])?;
     let (ended, sink) = run_over(&rt, &script, &[], disk)?;
-    assert!(rt; sink.bytes() == b"{\"line\":2,\"n\":1,\"s\":1}\n".as_slice());
+    assert!(rt; sink.bytes() == LEFT);
     assert!(rt; ended.disk.call_count() == opening.saturating_add(7));
     assert!(rt; go_one_by_one(alloc, &ended.disk, opening)?);
     assert!(rt; counts(alloc, ended.disk)? == (1, 3));

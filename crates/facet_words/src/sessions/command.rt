@@ -1,4 +1,4 @@
-use crate::command::Settings;
+use crate::settings::Settings;
 use facet_model::{Ask, Document, Drill, Query, Word};
 
 /// A command of a session. Where it has `on`, it sees the pair that the session holds under this name, and else the pair that was published last.

@@ -5,10 +5,10 @@ ghost use Rattle.facet_words.specs.Sessions.Laws.{AreInOrder};
 ghost use Rattle.facet_words.specs.Sessions.Scripts.{phases_of, script};
 ghost use Rattle.facet_replies.specs.declared.fault.ScriptFault.TheVariants.{NoMemory as Memory};
 
+use crate::config_line::read_settings;
 use crate::lines::cut_line;
 use crate::sessions::command::{Order, Script};
 use crate::sessions::order::read_line;
-use crate::settings::read_settings;
 use facet_replies::ScriptFault;
 use std::alloc::Global;
 use std::mem;

@@ -1,0 +1,31 @@
+ghost use Rattle.std.specs.Prelude.{◌≤◌, All};
+
+use facet_words::sessions::Order;
+
+// The greatest session of these orders, and no less than that.
+fn greatest_of(orders: &[Order], least: u32) -> u32
+    requires least { least ≤ 64 }
+    requires within { All (λ o. o.session ≤ 64) orders.now }
+    ensures least { least ≤ result }
+    ensures most { result ≤ 64 }
+    ensures all { All (λ o. o.session ≤ result) orders.now }
+{
+    let mut greatest = least;
+    for order in orders {
+        greatest = greatest.max(order.session);
+    }
+    greatest
+}
+
+/// The greatest session of all orders; 0 where there are none.
+pub(crate) fn count_sessions(phases: &[Vec<Order>]) -> u32
+    requires { All (λ phase. All (λ o. o.session ≤ 64) phase.items) phases.now }
+    ensures most { result ≤ 64 }
+    ensures all { All (λ phase. All (λ o. o.session ≤ result) phase.items) phases.now }
+{
+    let mut greatest = 0;
+    for orders in phases {
+        greatest = greatest_of(orders, greatest);
+    }
+    greatest
+}
