@@ -1,6 +1,4 @@
-"""Scripts of several sessions with outputs that are known to be right, or wrong by one clause, and scripts with their first fault.
-
-The program runs one session today; `compare/selftest` alone uses this, until the program has sessions."""
+"""Scripts of several sessions with outputs that are known to be right, or wrong by one clause, and scripts with their first fault."""
 
 from __future__ import annotations
 

@@ -1,8 +1,6 @@
 """The clauses of a right output spelled out, slowly, over data that no line of an output tells: which pairs were published, in their order and with their
 numbers of labels, and which of them each order took. `relation` looks for such data; here one sees whether what it found is right, and, by trying all there is
-for tiny scripts, whether there is none where it found none.
-
-The program runs one session today; `compare/selftest` alone uses this, until the program has sessions."""
+for tiny scripts, whether there is none where it found none."""
 
 from __future__ import annotations
 

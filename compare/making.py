@@ -170,10 +170,12 @@ EVERY = {"all": True}
 PATHS = [[], ["A"] * 32, ["A"] * 33, ["A", ""], ["A", "é" * 512], ["A", "é" * 513]]
 # values of a key at its limits and behind them
 LIMITS = {
-    "cmd": ["config", "add", "hold"],
+    "cmd": ["config", "add", "hold", "phase"],
     "s": [0, 1, 2, 64, 65, 2**64 - 1, 2**64, -1, 1.5],
     "id": ["", "x" * 256, "x" * 257, "é" * 128, "é" * 129],
     "text": ["", "x" * 65536, "x" * 65537],
+    "name": ["", "x" * 64, "x" * 65, "é" * 32, "é" * 33],
+    "on": ["", "x" * 64, "x" * 65, "é" * 32, "é" * 33],
     "facets": [[], [["A", "a"]] * 256, [["A", "a"]] * 257],
     "at": [0, 2**32 - 1, 2**32],
     "hits": [0, 1000000, 1000001],
@@ -194,7 +196,7 @@ LIMITS = {
     "cache": [0, 1, 65536, 65537],
 }
 WRONG = [None, True, False, 0, 1, -1, 1.5, 1e2, 2**64, 10**30, "", "a", [], {}, [[]], [["a"]], [None], {"a": 1}, EVERY, {"all": 1}, {"term": "a"}]
-KEYS = list(LIMITS) + ["sideways", "must", "hierarchical", "on", "name", ""]
+KEYS = list(LIMITS) + ["sideways", "must", "hierarchical", ""]
 
 # lines that are no JSON, and lines that Python would read as another value than RFC 8259 with the limits of docs/formats.md gives
 TEXTS = [(text, NOT_JSON) for text in (b"", b" ", b"{", b'{"cmd":"config"} x', b"{'cmd':'config'}", b'{"cmd":"config",}', b"NaN", b"Infinity", b"1e400", b"01", b"+1")]
@@ -202,6 +204,7 @@ TEXTS += [(text, NOT_JSON) for text in (b".5", b'"\xff"', b'\xef\xbb\xbf{"cmd":"
 TEXTS += [(text, NOT_JSON) for text in (b"- 1", b"1.", b"1e", b'{"cmd":"config","cmd":"\\q"}', b"[" * 128 + b"]" * 128)]
 TEXTS += [(b"-0", 0.5), (b'{"s":-0,"cmd":"stats"}', {"s": 0.5, "cmd": "stats"}), (b'{"s":1.0,"cmd":"stats"}', {"s": 0.5, "cmd": "stats"}), (b"[" * 127 + b"]" * 127, [])]
 TEXTS += [(b'{"cmd":"\\u0063onfig"}', {"cmd": "config"}), (b'{"cmd":"x","cmd":"config"}', {"cmd": "config"}), (b'{"s":1,"s":2,"cmd":"stats"}', {"s": 2, "cmd": "stats"})]
+TEXTS += [(b'{"s":1,"cmd":"hold","name":"\\u0000"}', {"s": 1, "cmd": "hold", "name": "\0"}), (b'{"cmd":"phase","cmd":"phase"}', {"cmd": "phase"})]
 TEXTS += [(b'\t{"s":1 ,\r"cmd" : "stats"} \r', {"s": 1, "cmd": "stats"}), (b'{"s":1,"cmd":"add","id":"\\ud834\\udd1e"}', {"s": 1, "cmd": "add", "id": "𝄞"})]
 
 

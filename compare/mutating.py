@@ -1,6 +1,4 @@
-"""Wrong outputs: a right one with one thing changed, and the clauses of `relation` of which one is broken then.
-
-The program runs one session today; `compare/selftest` alone uses this, until the program has sessions."""
+"""Wrong outputs: a right one with one thing changed, and the clauses of `relation` of which one is broken then."""
 
 from __future__ import annotations
 

@@ -24,9 +24,7 @@ in their order; with it an output is right where these clauses hold:
     stays_closed   so does each one after a commit that told of it
 
 A session has been shown what its earlier lines were answered, and what anyone was in an earlier phase. Every session's publications are its refreshes, and the
-first is the opened pair: that is how the list is made here.
-
-The program runs one session today; `compare/selftest` alone uses this, until the program has sessions."""
+first is the opened pair: that is how the list is made here."""
 
 from __future__ import annotations
 

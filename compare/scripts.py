@@ -1,14 +1,5 @@
-"""Scripts of several sessions, read: the first fault, and else the orders phase by phase.
-
-The program runs one session today, and `compare/run` reads its scripts by `shapes` alone. What stands here is used by `compare/selftest`, until the program has
-sessions. Besides the commands of `shapes` there are these:
-
-    {"cmd":"phase"}                           ends a phase
-    {"s":S,"cmd":"hold","name":NAME}          holds the pair that was published last, under a name of 1 to 64 bytes
-    {"s":S,"cmd":"release","name":NAME}       ends that
-
-and `search`, `document` and `stats` may have the key `on`, a name of 1 to 64 bytes. `s` goes from 1 to 64. The orders of one session run in line order; the
-sessions of a phase run beside each other; what a session holds lasts across phases."""
+"""Scripts without a fault, read: the orders phase by phase. The orders of one session run in line order; the sessions of a phase run beside each other; what a
+session holds lasts across phases."""
 
 from __future__ import annotations
 
@@ -16,37 +7,7 @@ import json
 from dataclasses import dataclass
 from typing import Any
 
-import shapes
-
-MOST_SESSIONS = 64
-
-
-def is_name(value: Any) -> bool:
-    return shapes.is_text(value, 1, 64)
-
-
-def with_names() -> dict[str, tuple[dict, dict]]:
-    """The commands with the keys that are due and those that may be left out."""
-    commands = dict(shapes.COMMANDS)
-    for name in ("search", "document", "stats"):
-        due, free = commands[name]
-        commands[name] = (due, {**free, "on": is_name})
-    return {**commands, "hold": ({"name": is_name}, {}), "release": ({"name": is_name}, {})}
-
-
-COMMANDS = with_names()
-
-
-def is_phase(value: Any) -> bool:
-    return shapes.is_object(value, {"cmd": shapes.is_command("phase")})
-
-
-def is_line(value: Any) -> bool:
-    return is_phase(value) or shapes.is_order(value, COMMANDS)
-
-
-def first_fault(values: list[Any]) -> dict | None:
-    return shapes.first_fault(values, is_line, MOST_SESSIONS)
+from shapes import is_phase
 
 
 @dataclass(frozen=True)
@@ -69,10 +30,14 @@ class Order:
 
 @dataclass(frozen=True)
 class Script:
-    """A script without a fault: its config line, and phase by phase its orders, in line order."""
+    """Its config line, and phase by phase its orders, in line order."""
 
     config: dict
     phases: list[list[Order]]
+
+    def runs_beside(self) -> bool:
+        """Whether two sessions run beside each other."""
+        return any(len({order.session for order in phase}) > 1 for phase in self.phases)
 
     def in_writing_order(self) -> list[Order]:
         """Phase by phase, the sessions rising, the lines rising."""

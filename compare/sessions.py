@@ -1,8 +1,7 @@
 """What a script of several sessions is to write where the sessions of each phase run one after the other, in the order of their numbers; so also where no
 phase has two sessions.
 
-The program runs one session today, and `compare/run` evaluates its scripts by `reference` alone. What stands here is used by `compare/selftest`, until the
-program has sessions; which outputs are right where sessions run beside each other is told by `relation`."""
+Which outputs are right where sessions run beside each other is told by `relation`."""
 
 from __future__ import annotations
 

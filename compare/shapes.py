@@ -1,5 +1,7 @@
 """The first fault of a script, as docs/formats.md specifies it, given the value of each line."""
 
+MOST_SESSIONS = 64
+
 # stands for the value of a line that is no JSON
 NOT_JSON = object()
 
@@ -18,6 +20,10 @@ def is_truth(value):
 
 def is_list(value, most, is_element):
     return isinstance(value, list) and len(value) <= most and all(map(is_element, value))
+
+
+def is_name(value):
+    return is_text(value, 1, 64)
 
 
 def is_path(value):
@@ -83,11 +89,14 @@ COMMANDS = {
     ),
     "refresh": ({}, {}),
     "commit": ({}, {}),
-    "stats": ({}, {}),
-    "document": ({"at": lambda at: is_whole(at, 0, 2**32 - 1)}, {}),
+    "hold": ({"name": is_name}, {}),
+    "release": ({"name": is_name}, {}),
+    "stats": ({}, {"on": is_name}),
+    "document": ({"at": lambda at: is_whole(at, 0, 2**32 - 1)}, {"on": is_name}),
     "search": (
         {},
         {
+            "on": is_name,
             "query": is_query,
             "drill": lambda drill: is_list(drill, 256, is_path),
             "sideways": is_truth,
@@ -98,8 +107,12 @@ COMMANDS = {
 }
 
 
-def is_order(value, commands=COMMANDS):
-    return any(is_object(value, {"cmd": is_command(name), "s": is_whole, **due}, free) for name, (due, free) in commands.items())
+def is_order(value):
+    return any(is_object(value, {"cmd": is_command(name), "s": is_whole, **due}, free) for name, (due, free) in COMMANDS.items())
+
+
+def is_phase(value):
+    return is_object(value, {"cmd": is_command("phase")})
 
 
 def nested(value):
@@ -108,8 +121,7 @@ def nested(value):
     return 0 if inside is None else 1 + max(map(nested, inside), default=0)
 
 
-def first_fault(values, is_line=is_order, sessions=1):
-    """Of a script whose lines behind the first are such, with so many sessions. `scripts` has those of several sessions."""
+def first_fault(values):
     for line, value in enumerate(values, 1):
         if value is NOT_JSON or nested(value) > 127:
             return {"fault": "not_json", "line": line}
@@ -118,8 +130,8 @@ def first_fault(values, is_line=is_order, sessions=1):
                 return {"fault": "no_config_first"}
             if not is_config(value):
                 return {"fault": "bad_shape", "line": 1}
-        elif not is_line(value):
+        elif not is_order(value) and not is_phase(value):
             return {"fault": "bad_shape", "line": line}
-        elif not 1 <= value.get("s", 1) <= sessions:
+        elif not 1 <= value.get("s", 1) <= MOST_SESSIONS:
             return {"fault": "bad_session", "line": line}
     return None if values else {"fault": "no_config_first"}

@@ -1,7 +1,5 @@
 """Random scripts of several sessions, and runs of them as they may go: the sessions of a phase take their steps in a random order, over four histories: the
-labels, the documents, the pairs that were published, and the commits.
-
-The program runs one session today; `compare/selftest` alone uses this, until the program has sessions."""
+labels, the documents, the pairs that were published, and the commits. `compare/run` gives the scripts to the program; `compare/selftest` uses both."""
 
 from __future__ import annotations
 
@@ -63,6 +61,7 @@ def values(random: Random, dims: list[dict], most_sessions: int = 4, most_orders
     numbers = random.sample(range(1, random.choice([count, 64]) + 1), count)
     config = {"cmd": "config", "dims": dims}
     config.update({key: random.choice([1, 2, 4, 8, 20]) for key in ("max_docs", "max_labels") if random.random() < 0.3})
+    config.update({key: random.choice([1, 2, 64]) for key in ("stripes", "cache") if random.random() < 0.3})
     lines = [config]
     for phase in range(random.randint(1, 3)):
         lines += [{"cmd": "phase"}] * (phase > 0 or random.random() < 0.1)
@@ -70,6 +69,31 @@ def values(random: Random, dims: list[dict], most_sessions: int = 4, most_orders
         for _ in range(random.randint(0, most_orders * len(few))):
             lines.append(order(random, len(lines), random.choice(few)))
     return lines
+
+
+def thousands() -> list[dict]:
+    """Two sessions add a thousand documents each, beside each other, and then one of them looks."""
+    labels = {1: lambda at: ["Author", "Bob"], 2: lambda at: ["Author", "Lisa" if at % 2 == 0 else "Bob"]}
+    adds = [{"s": session, "cmd": "add", "id": f"{'xy'[session - 1]}{at}", "facets": [labels[session](at)]} for session in (1, 2) for at in range(1000)]
+    looks = [{"s": 1, "cmd": "refresh"}, {"s": 1, "cmd": "search", "hits": 0, "ask": [{"top": ["Author"], "n": 10}]}]
+    return [{"cmd": "config"}, *adds, {"cmd": "phase"}, *looks]
+
+
+def eight_sessions() -> list[dict]:
+    """Eight sessions add 2,000 documents each, beside each other, refresh and commit now and then, and then all of them look."""
+    values: list[dict] = [{"cmd": "config", "dims": [{"dim": "Date", "hierarchical": True}]}]
+    for at in range(2000):
+        for session in range(1, 9):
+            facets = [["Author", f"a{at % 50}"], ["Date", f"{2000 + session}", f"{at % 12}"], ["Own", f"{session}-{at // 10}"]]
+            values.append({"s": session, "cmd": "add", "id": f"{session}-{at}", "facets": facets})
+            if at % 500 == 250 + session:
+                values.append({"s": session, "cmd": "refresh"})
+            if at == 1000 and session in (1, 5):
+                values.append({"s": session, "cmd": "commit"})
+    values.append({"cmd": "phase"})
+    values += [{"s": session, "cmd": "refresh"} for session in range(1, 9)]
+    values += [{"s": session, "cmd": "search", "hits": 1, "ask": [{"top": ["Author"], "n": 3}, {"top": ["Date"], "n": 9}]} for session in range(1, 9)]
+    return [*values, {"s": 8, "cmd": "commit"}]
 
 
 def opened_of(random: Random, dims: list[dict]) -> dict[str, bytes]:

@@ -1,6 +1,4 @@
-"""Tiny scripts of several sessions, with outputs that may be right or wrong: for these `literal` can try everything that is hidden.
-
-The program runs one session today; `compare/selftest` alone uses this, until the program has sessions."""
+"""Tiny scripts of several sessions, with outputs that may be right or wrong: for these `literal` can try everything that is hidden."""
 
 from __future__ import annotations
 
