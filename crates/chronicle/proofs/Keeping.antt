@@ -28,7 +28,7 @@ module _ {V E : Type 0} (stands : V → List E → Type 0) (frame : V → Frame)
   Rule = IsChronicle stands frame begun about
 
   -- the table at the start
-  pub opens : (v : V) → about.value ≡ v → stands v (begun v) → Rule (opening (0 ∷ 0 ∷ 0 ∷ []) (Some v ∷ []) (first_of frame begun about))
+  pub opens : (v : V) → about.value ≡ v → stands v (begun v) → Rule (opening (0 ∷ 0 ∷ 0 ∷ 0 ∷ []) (Some v ∷ []) (first_of frame begun about))
   opens v is right = let log : List (ℕ × E) = numbered 0 (begun about.value) in let k : Knowledge E = first_of frame begun about in record {
     log = log;
     turn = nobody;
@@ -36,6 +36,7 @@ module _ {V E : Type 0} (stands : V → List E → Type 0) (frame : V → Frame)
     next = 0;
     serving = 0;
     entered = 0;
+    sleeping = 0;
     words = refl;
     counted = length-numbered 0 (begun about.value) ∙ sym (add-zero _);
     tickets_out = refl;
@@ -60,10 +61,32 @@ module _ {V E : Type 0} (stands : V → List E → Type 0) (frame : V → Frame)
   pub unmoved : (s : Board) → Rule s → (i id : ℕ) (cs : List (ℕ × Option V)) (k : Knowledge E) → get_elem? s.views id ≡ some k → Rule (stepped s i (get_or s.words i 0) id cs k keeps)
   unmoved s r i id cs k at = subst (λ (x : List ℕ × List (Knowledge E)). Rule record { words = x.0; homes = s.homes; views = x.1 }) (λ q. (sym (set-get_or s.words i 0) q, sym (set_again s.views id k at) q)) r
 
+  -- the word of those who sleep is written
+  pub called : (s : Board) → Rule s → (n id : ℕ) (cs : List (ℕ × Option V)) (k : Knowledge E) → get_elem? s.views id ≡ some k → Rule (stepped s 3 n id cs k keeps)
+  called s r n id cs k at = subst (λ (vs : List (Knowledge E)). Rule record { words = set s.words 3 n; homes = s.homes; views = vs }) (sym (set_again s.views id k at)) record {
+    log = r.log;
+    turn = r.turn;
+    given = r.given;
+    next = r.next;
+    serving = r.serving;
+    entered = r.entered;
+    sleeping = n;
+    words = ap (λ ws. set ws 3 n) r.words;
+    counted = r.counted;
+    tickets_out = r.tickets_out;
+    bounded = r.bounded;
+    slot = r.slot;
+    each = r.each;
+    tickets = r.tickets;
+    numbers = r.numbers;
+    within = r.within;
+    knows_given = r.knows_given;
+  }
+
   -- a step of the seat that has the turn
   pub held_step : (s : Board) (r : Rule s) (id : ℕ) (k w : Knowledge E) (words : List ℕ) (homes : List (maybe.Option (Option V))) (log : List (ℕ × E)) (turn : Turn) (serving entered : ℕ)
       → get_elem? s.views id ≡ some k → (r.turn ≡ inside id) ⊎ (r.turn ≡ reaching id) → ticket_of k ≡ none
-      → words ≡ r.next ∷ serving ∷ (entered % 2 ^ 64) ∷ [] → length log ≡ length (begun about.value) + entered → serving + taken turn ≡ r.serving + taken r.turn
+      → words ≡ r.next ∷ serving ∷ (entered % 2 ^ 64) ∷ r.sleeping ∷ [] → length log ≡ length (begun about.value) + entered → serving + taken turn ≡ r.serving + taken r.turn
       → SlotAt stands frame (frame about.value) log homes turn → Fits (frame about.value) r.given r.next serving log turn id w → ticket_of w ≡ none → number_of w ≡ number_of k → given_by w ≡ given_by k
       → IsPrefix r.log log → ((j : ℕ) (l : Knowledge E) → j ≢ id → get_elem? s.views j ≡ some l → own_of l.is_note l.number log ≡ own_of l.is_note l.number r.log)
       → NumbersUpTo r.given log
@@ -75,6 +98,7 @@ module _ {V E : Type 0} (stands : V → List E → Type 0) (frame : V → Frame)
     next = r.next;
     serving = serving;
     entered = entered;
+    sleeping = r.sleeping;
     words = words_are;
     counted = counted;
     tickets_out = let w' = waiting-set s.views id k w at in let a = ap one_if no_before in let b = ap one_if no_ticket in let o = r.tickets_out in omega arith;
@@ -105,6 +129,7 @@ module _ {V E : Type 0} (stands : V → List E → Type 0) (frame : V → Frame)
     next = r.next;
     serving = r.serving;
     entered = r.entered;
+    sleeping = r.sleeping;
     words = r.words;
     counted = r.counted;
     tickets_out = let w' = waiting-set s.views id k w at in let a = ap one_if ticket in let o = r.tickets_out in omega arith;
@@ -130,6 +155,7 @@ module _ {V E : Type 0} (stands : V → List E → Type 0) (frame : V → Frame)
     next = r.next;
     serving = r.serving;
     entered = r.entered;
+    sleeping = r.sleeping;
     words = r.words;
     counted = r.counted;
     tickets_out = let w' = waiting-push s.views w in let a = ap one_if (ap waiting_ticket idle) in let o = r.tickets_out in omega arith;

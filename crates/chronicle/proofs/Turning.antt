@@ -16,14 +16,14 @@ use Rattle.chronicle.specs.Frame.{Frame}
 use Rattle.chronicle.specs.History.{entries, own_of}
 use Rattle.chronicle.specs.Knowledge.{waiting_ticket, is_in_turn, slot_out, slot_home, number_unless, ticket_of, number_of, with_stage, having_seen}
 use Rattle.chronicle.specs.Rule.{nobody, inside, reaching, taken, one_if, IsAt, Fits, SlotAt}
-use Rattle.chronicle.specs.Steps.{Draws, Looks, TakesSlot, ReturnsSlot, Passes, Enters}
+use Rattle.chronicle.specs.Steps.{Draws, Calls, Looks, TakesSlot, ReturnsSlot, Passes, Enters}
 use Rattle.chronicle.specs.declared.knowledge.Knowledge.{Knowledge}
 use Rattle.chronicle.specs.declared.knowledge.Stage.{Stage}
 use Rattle.chronicle.specs.declared.knowledge.Stage.TheVariants.{Spent, Idle, Waiting, InTurn, WithSlot}
 use Rattle.chronicle.proofs.Prefixes.{prefix_self, prefix_append, prefix_trans}
 use Rattle.chronicle.proofs.Entries.{own_of-other}
 use Rattle.chronicle.proofs.Seats.{waits_with, nobody_from_taken, each_set, apart_fresh, apart_none, apart_same, waiting-set, given_same, still_fits, fits_at}
-use Rattle.chronicle.proofs.Keeping.{Board, Rule, ordered, counts, unmoved, held_step}
+use Rattle.chronicle.proofs.Keeping.{Board, Rule, ordered, counts, unmoved, called, held_step}
 
 mod-add-one : (n : ℕ) → (n % 2 ^ 64 + 1) % 2 ^ 64 ≡ (n + 1) % 2 ^ 64
 mod-add-one n = add-mod (n % 2 ^ 64) 1 (2 ^ 64) ∙ (ap (λ m. (m + 1 % 2 ^ 64) % 2 ^ 64) (mod-mod n (2 ^ 64)) ∙ sym (add-mod n 1 (2 ^ 64)))
@@ -66,6 +66,7 @@ module _ {V E : Type 0} (stands : V → List E → Type 0) (frame : V → Frame)
     next = old + 1;
     serving = r.serving;
     entered = r.entered;
+    sleeping = r.sleeping;
     words = ap (λ ws. set ws 0 (old + 1)) r.words;
     counted = r.counted;
     tickets_out = let w' = waiting-set s.views id k w at in let a = ap one_if (ap waiting_ticket idle) in let o = r.tickets_out in omega arith;
@@ -103,6 +104,7 @@ module _ {V E : Type 0} (stands : V → List E → Type 0) (frame : V → Frame)
         next = r.next;
         serving = r.serving;
         entered = r.entered;
+        sleeping = r.sleeping;
         words = set-get_or s.words 1 0 ∙ r.words;
         counted = r.counted;
         tickets_out = let w' = waiting-set s.views id k w at in let a = ap one_if (ap waiting_ticket waits) in let o = r.tickets_out in omega arith;
@@ -250,6 +252,9 @@ module _ {V E : Type 0} (stands : V → List E → Type 0) (frame : V → Frame)
   module _ (slots id : ℕ) (m : Me (Option V) (Knowledge E)) where
     pub draws_at : (old : ℕ) → m.0.stage ≡ Idle → m.1 ≡ [] → old + 1 < 2 ^ 64 → Allows S slots id m 0 (λ n. either (eqb n old) (old + 1) n) (Draws (step slots 0 old (old + 1) none) m)
     draws_at old idle bare small = subst (λ z. Allows S slots id (m.0, z) 0 (λ n. either (eqb n old) (old + 1) n) (Draws (step slots 0 old (old + 1) none) (m.0, z))) (sym bare) (draws slots id old m.0 idle small)
+
+    pub calls_at : (n : ℕ) → Allows S slots id m 3 (λ _. n) (λ _. Calls (step slots 3 n 0 none) m n)
+    calls_at n s r len at bound = (m.0, keeps, tt, called stands frame begun about s r n id m.1 m.0 at, refl)
 
     pub looks_at : (t : ℕ) → m.0.stage ≡ Waiting t → m.1 ≡ [] → Allows S slots id m 1 (λ n. n) (Looks stands frame (step slots 1 0 0 none) m)
     looks_at t waits bare = subst (λ z. Allows S slots id (m.0, z) 1 (λ n. n) (Looks stands frame (step slots 1 0 0 none) (m.0, z))) (sym bare) (looks slots id t m.0 waits)

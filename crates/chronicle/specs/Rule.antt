@@ -1,5 +1,6 @@
 -- The rule of a chronicle, which holds between any two steps of any threads.
--- Word 0 is the next ticket, word 1 the ticket that is served, and word 2 how many entries were entered since opening, modulo 2 ^ 64.
+-- Word 0 is the next ticket, word 1 the ticket that is served, word 2 how many entries were entered since opening, modulo 2 ^ 64, and word 3
+-- whether somebody may sleep, of which the rule says nothing.
 -- The one slot has the value, or None while a seat in its turn has it.
 use Rattle.std.specs.Prelude.{◌≡◌, ◌≢◌, ℕ, ◌+◌, ◌%◌, ◌^◌, ◌<◌, ◌≤◌, true, false, List, [], ◌∷◌, length, Option, Some, None}
 use mathlib.Core.Option.{some, none}
@@ -82,7 +83,8 @@ module _ {V E : Type 0} where
     pub next : ℕ
     pub serving : ℕ
     pub entered : ℕ
-    pub words : s.words ≡ next ∷ serving ∷ (entered % 2 ^ 64) ∷ []
+    pub sleeping : ℕ
+    pub words : s.words ≡ next ∷ serving ∷ (entered % 2 ^ 64) ∷ sleeping ∷ []
     pub counted : length log ≡ length (opening about.value) + entered
     -- the tickets out are as many as the difference
     pub tickets_out : serving + (taken turn + waiting s.views) ≡ next

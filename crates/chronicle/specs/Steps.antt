@@ -17,6 +17,10 @@ module _ {V E : Type 0} where
   abbrev pub Draws : Telling V E
   Draws st m r m' = (r ≡ st.first → m' ≡ (with_stage (Waiting st.first) m.0, m.1)) × (r ≢ st.first → m' ≡ m)
 
+  -- nothing
+  abbrev pub Calls : Telling V E
+  Calls st m r m' = m' ≡ m
+
   -- Where the ticket that is served is the caller's, the slot is out with it: its value stands for the whole history, which the caller has then seen
   abbrev pub Looks : (V → List E → Type 0) → (V → Frame) → Telling V E
   Looks stands frame st m r m' =

@@ -7,10 +7,12 @@ ghost use Rattle.chronicle.specs.declared.knowledge.Stage.TheVariants.{Idle, Wai
 
 use crate::knowledge::Knowledge;
 use crate::rule::{
-    Adding, Compare, Draw, Enter, Look, Make, Note, Pass, ReturnSlot, TakeSlot, Tell, TurnRule,
+    Adding, Call, Compare, Draw, Enter, Look, Make, Note, Pass, ReturnSlot, TakeSlot, Tell,
+    TurnRule,
 };
 use crate::standing::Standing;
 use atomic_table::{Seat, Shared};
+use std::hint;
 use std::snapshot::Snapshot;
 use std::sync::Wait;
 
@@ -25,38 +27,78 @@ const SERVING: usize = 1;
 
 const ENTERED: usize = 2;
 
+// 1 where somebody may sleep until the turn is given back.
+const SLEEPING: usize = 3;
+
 const VALUE: usize = 0;
 
-// Draws a ticket. The last number is never drawn, so tickets do not wrap: who finds it sleeps for ever.
+// How often a thread looks whether the turn is free before it sleeps. To wake one takes as long as many turns.
+const LOOKS: u32 = 100;
+
+// Draws a ticket, and no sooner than nobody has one: so who runs has the turn at once, and nobody waits until a certain thread was woken for it. The last number
+// is never drawn, so tickets do not wrap: who finds it sleeps for ever.
 pub(crate) fn draw_ticket<V: Standing, R: Wait>(
     rt: &R,
     board: &Board<V, V::Entry>,
     seat: &mut Holder<V, V::Entry>,
 ) -> u64
-    requires board { (seat.old.table_id ≡ board.now.table_id) × (board.now.table_id.words ≡ 3) }
+    requires board { (seat.old.table_id ≡ board.now.table_id) × (board.now.table_id.words ≡ 4) }
     requires idle { (seat.old.me.0.stage ≡ Idle) × (seat.old.me.1 ≡ []) }
     ensures board { (seat.new.table_id ≡ seat.old.table_id) × (seat.new.id ≡ seat.old.id) }
     ensures drawn { seat.new.me ≡ (with_stage (Waiting result) seat.old.me.0, []) }
 {
+    let mut looks = 0;
+    let mut slept = false;
     for _ in rt.forever() {
+        let served = board.peek(SERVING);
         let ticket = board.peek(NEXT);
         if ticket == u64::MAX {
             board.park(rt, NEXT, u32::MAX);
-        } else if board.compare_exchange::<Draw>(seat, NEXT, ticket, ticket + 1) == ticket {
-            return ticket;
+        } else if ticket == served {
+            if board.compare_exchange::<Draw>(seat, NEXT, ticket, ticket + 1) == ticket {
+                // One is woken at a time, so who was woken sees to it that the next one is.
+                if slept {
+                    board.store::<Call>(seat, SLEEPING, 1);
+                }
+                return ticket;
+            }
+        } else if looks < LOOKS {
+            looks += 1;
+            hint::spin_loop();
+        } else {
+            await_give(rt, board, seat);
+            looks = 0;
+            slept = true;
         }
     }
     unreachable!()
 }
 
-// Sleeps until the ticket is served, and takes the value out.
+// Sleeps until a turn is given back. It says first that it does, and then looks once more: whoever gives the turn back after that look finds what it said.
+fn await_give<V: Standing, R: Wait>(
+    rt: &R,
+    board: &Board<V, V::Entry>,
+    seat: &mut Holder<V, V::Entry>,
+)
+    requires board { (seat.old.table_id ≡ board.now.table_id) × (board.now.table_id.words ≡ 4) }
+    ensures board { (seat.new.table_id ≡ seat.old.table_id) × (seat.new.id ≡ seat.old.id) }
+    ensures same { seat.new.me ≡ seat.old.me }
+{
+    board.store::<Call>(seat, SLEEPING, 1);
+    let served = board.peek(SERVING);
+    if board.peek(NEXT) != served {
+        board.park(rt, SLEEPING, 1);
+    }
+}
+
+// Takes the value out when the ticket is served. No ticket is drawn while another is out, so that is at once; but the rule does not say so.
 pub(crate) fn await_turn<V: Standing, R: Wait>(
     rt: &R,
     board: &Board<V, V::Entry>,
     seat: &mut Holder<V, V::Entry>,
     ticket: u64,
 ) -> V
-    requires board { (seat.old.table_id ≡ board.now.table_id) × (board.now.table_id.words ≡ 3) }
+    requires board { (seat.old.table_id ≡ board.now.table_id) × (board.now.table_id.words ≡ 4) }
     requires waits { (seat.old.me.0.stage ≡ Waiting ticket) × (seat.old.me.1 ≡ []) }
     ensures board { (seat.new.table_id ≡ seat.old.table_id) × (seat.new.id ≡ seat.old.id) }
     ensures turn { seat.new.me ≡ (having_seen (InTurn ticket) seat.new.me.0.seen seat.old.me.0, []) }
@@ -70,19 +112,18 @@ pub(crate) fn await_turn<V: Standing, R: Wait>(
             board.load::<ReturnSlot>(seat, SERVING);
             return value.unwrap();
         }
-        board.park(rt, SERVING, (served % (1 << 32)) as u32);
+        hint::spin_loop();
     }
     unreachable!()
 }
 
-// Puts the value back, passes the turn on, and wakes those who wait. Where no ticket is drawn behind this one nobody waits: whoever draws one later finds it
-// served.
+// Puts the value back, passes the turn on, and wakes one of those who sleep.
 pub(crate) fn pass_turn<V: Standing>(
     board: &Board<V, V::Entry>,
     seat: &mut Holder<V, V::Entry>,
     value: V,
 )
-    requires board { (seat.old.table_id ≡ board.now.table_id) × (board.now.table_id.words ≡ 3) }
+    requires board { (seat.old.table_id ≡ board.now.table_id) × (board.now.table_id.words ≡ 4) }
     requires turn { (is_in_turn seat.old.me.0.stage ≡ true) × (seat.old.me.1 ≡ []) }
     requires value { V.stands value (entries seat.old.me.0.seen) × (V.frame value ≡ seat.old.me.0.frame) }
     ensures board { (seat.new.table_id ≡ seat.old.table_id) × (seat.new.id ≡ seat.old.id) }
@@ -93,9 +134,10 @@ pub(crate) fn pass_turn<V: Standing>(
         None => {}
         Some(_) => unreachable!(),
     }
-    let passed = board.fetch_add::<Pass>(seat, SERVING, 1);
-    if board.peek(NEXT) != passed.wrapping_add(1) {
-        board.wake_all(SERVING);
+    board.fetch_add::<Pass>(seat, SERVING, 1);
+    if board.peek(SLEEPING) != 0 {
+        board.store::<Call>(seat, SLEEPING, 0);
+        board.wake_one(SLEEPING);
     }
 }
 
@@ -106,7 +148,7 @@ pub(crate) fn add_entry<V: Standing, W: Adding<V::Entry>>(
     entry: &V::Entry,
 )
     requires added { W.added ≡ Some entry.now }
-    requires board { (seat.old.table_id ≡ board.now.table_id) × (board.now.table_id.words ≡ 3) }
+    requires board { (seat.old.table_id ≡ board.now.table_id) × (board.now.table_id.words ≡ 4) }
     requires turn { (is_in_turn seat.old.me.0.stage ≡ true) × (seat.old.me.1 ≡ []) × (seat.old.me.0.is_note ≡ false) }
     ensures board { (seat.new.table_id ≡ seat.old.table_id) × (seat.new.id ≡ seat.old.id) }
     ensures added { seat.new.me ≡ (having_seen seat.old.me.0.stage (seat.old.me.0.seen ++ (seat.old.me.0.number, entry.now) ∷ []) seat.old.me.0, []) }
@@ -120,7 +162,7 @@ pub(crate) fn make_seat<V: Standing>(
     board: &Board<V, V::Entry>,
     first: &mut Holder<V, V::Entry>,
 ) -> Holder<V, V::Entry>
-    requires board { (first.old.table_id ≡ board.now.table_id) × (board.now.table_id.words ≡ 3) }
+    requires board { (first.old.table_id ≡ board.now.table_id) × (board.now.table_id.words ≡ 4) }
     requires first { Rests first.old.me.0.stage × (first.old.me.0.is_note ≡ false) × (first.old.me.0.number ≡ 0) × (first.old.me.1 ≡ []) }
     ensures board { (first.new.table_id ≡ first.old.table_id) × (first.new.id ≡ first.old.id) × (result.table_id ≡ first.old.table_id) }
     ensures first { first.new.me ≡ (after_making first.old.me.0, []) }
@@ -133,7 +175,7 @@ pub(crate) fn note_seat<V: Standing>(
     board: &Board<V, V::Entry>,
     of: &mut Holder<V, V::Entry>,
 ) -> Holder<V, V::Entry>
-    requires board { (of.old.table_id ≡ board.now.table_id) × (board.now.table_id.words ≡ 3) }
+    requires board { (of.old.table_id ≡ board.now.table_id) × (board.now.table_id.words ≡ 4) }
     requires rests { Rests of.old.me.0.stage × (of.old.me.1 ≡ []) }
     ensures board { (of.new.table_id ≡ of.old.table_id) × (of.new.id ≡ of.old.id) × (result.table_id ≡ of.old.table_id) }
     ensures of { of.new.me ≡ of.old.me }
@@ -148,7 +190,7 @@ pub(crate) fn tell_seat<V: Standing>(
     seat: &mut Holder<V, V::Entry>,
     other: Holder<V, V::Entry>,
 )
-    requires board { (seat.old.table_id ≡ board.now.table_id) × (other.table_id ≡ board.now.table_id) × (board.now.table_id.words ≡ 3) }
+    requires board { (seat.old.table_id ≡ board.now.table_id) × (other.table_id ≡ board.now.table_id) × (board.now.table_id.words ≡ 4) }
     requires idle { (seat.old.me.0.stage ≡ Idle) × (seat.old.me.1 ≡ []) × (other.me.0.stage ≡ Idle) × (other.me.1 ≡ []) }
     ensures board { (seat.new.table_id ≡ seat.old.table_id) × (seat.new.id ≡ seat.old.id) }
     ensures told { seat.new.me ≡ (having_seen Idle (longer seat.old.me.0.seen other.me.0.seen) (told_of seat.old.me.0 other.me.0), []) }

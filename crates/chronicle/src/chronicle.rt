@@ -17,7 +17,7 @@ use std::sync::Wait;
 
 /// A turn lock round a value, with a history that only grows. Contracts see it as its identity, which each of its tokens shows.
 ///
-/// The history takes no memory: it lies in the proofs alone. A chronicle is the value, three words and their allocation, however much was
+/// The history takes no memory: it lies in the proofs alone. A chronicle is the value, four words and their allocation, however much was
 /// entered. It is shared by reference, and may be shared among threads where the value may be sent.
 ///
 /// What is not claimed: that a turn ever comes, who comes first, or any order of what different tokens entered beyond what one has seen.
@@ -36,7 +36,7 @@ impl<V: Standing> Model for Chronicle<V> {
 
     ghost view = { λ c. c.table.shared.table_id };
 
-    ghost invariant = { λ c. (c.table.shared.table_id.words ≡ 3) × (c.table.shared.table_id.slots ≡ 1) };
+    ghost invariant = { λ c. (c.table.shared.table_id.words ≡ 4) × (c.table.shared.table_id.slots ≡ 1) };
 }
 
 impl<V: Standing> Chronicle<V> {
@@ -58,7 +58,7 @@ impl<V: Standing> Chronicle<V> {
             slots.destroy_empty();
             return Err(back.unwrap());
         }
-        match Table::new(alloc, &[0, 0, 0], slots, &about) {
+        match Table::new(alloc, &[0, 0, 0, 0], slots, &about) {
             Ok((table, seat)) => {
                 let token = Token {
                     badge: seat.into_badge(),
@@ -141,8 +141,8 @@ impl<V: Standing> Chronicle<V> {
 
     /// Waits for the turn, and hands out the value, which then stands for all that was entered so far. The token has then seen that.
     ///
-    /// Turns come in the order in which tickets are drawn, though no clause says so. Who waits sleeps. A thread that waits for a turn which it holds by another token
-    /// waits for ever, and so does everybody where the holder never gives.
+    /// The turn goes to whoever comes while it is free, and not to who waits longest. Who waits looks a while, and then sleeps. A thread that waits for a turn which it
+    /// holds by another token waits for ever, and so does everybody where the holder never gives.
     pub fn take<R: Wait>(&self, rt: &R, token: &mut Token<V::Entry>) -> V
         requires own { token.old.identity ≡ self.now }
         requires idle { MayTake token.old }

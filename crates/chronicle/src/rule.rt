@@ -1,7 +1,7 @@
 // The rule of the table, and what each step on it tells. `specs/Rule.antt` and `specs/Steps.antt` state them.
 ghost use Rattle.std.specs.Prelude.{Option, None};
 ghost use Rattle.chronicle.specs.Knowledge.{after_making, made_from, note_of, told_of, spent};
-ghost use Rattle.chronicle.specs.Steps.{Draws, Looks, TakesSlot, ReturnsSlot, Passes, Enters, Compares};
+ghost use Rattle.chronicle.specs.Steps.{Draws, Calls, Looks, TakesSlot, ReturnsSlot, Passes, Enters, Compares};
 
 use crate::knowledge::Knowledge;
 use crate::standing::Standing;
@@ -24,6 +24,13 @@ pub(crate) struct Draw;
 
 impl<V: Standing> Play<Option<V>, Knowledge<V::Entry>> for Draw {
     ghost then = { Draws };
+}
+
+// The word of those who sleep is written.
+pub(crate) struct Call;
+
+impl<V: Standing> Play<Option<V>, Knowledge<V::Entry>> for Call {
+    ghost then = { Calls };
 }
 
 // The serving number is read, and where it is one's own ticket, the slot is taken out with the value.
