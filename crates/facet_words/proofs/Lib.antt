@@ -4,6 +4,9 @@ pub mod Members
 pub mod Levels
 pub mod PlainLines
 pub mod Phases
+pub mod QuickTexts
+pub mod QuickMembers
+pub mod QuickLines
 pub mod Rising
 mod SearchLines
 mod Limits

@@ -7,3 +7,4 @@ pub mod Scripts
 pub mod CommandViews
 pub mod Sessions
 pub mod Answers
+pub mod Quick

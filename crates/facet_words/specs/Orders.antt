@@ -1,5 +1,5 @@
 -- What the value of a line is: the settings, or a part of a command.
-use Rattle.std.specs.Prelude.{ℕ, not, if◌then◌else◌, Bool, false, List, [], ◌∷◌, codes, map, take, Option, Some, None}
+use Rattle.std.specs.Prelude.{ℕ, not, Bool, false, List, [], ◌∷◌, codes, map, take, Option, Some}
 use Rattle.std.specs.List.{list_any, list_all, enumerate_from}
 use Rattle.std.specs.Option.{option_or}
 use Rattle.std.specs.Str.{bytes_eq}

@@ -7,6 +7,7 @@ mod laws;
 mod lines;
 mod parts;
 mod query;
+mod quick;
 pub mod sessions;
 mod settings;
 mod shape;

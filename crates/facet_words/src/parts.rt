@@ -24,7 +24,7 @@ pub struct SearchLine {
     pub hits: u32,
 }
 
-fn new_document(
+pub(crate) fn new_document(
     alloc: Global,
     id: &str,
     text: &str,

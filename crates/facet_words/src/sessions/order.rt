@@ -10,12 +10,14 @@ ghost use Rattle.facet_replies.specs.declared.fault.ScriptFault.TheVariants.{NoM
 
 use crate::lines::line_value;
 use crate::parts::{SearchLine, added_in, heading_in, place_in, plain_in, searched_in};
+use crate::quick::read_add;
 use crate::sessions::command::{Command, Order};
 use crate::sessions::held::{name_in, on_at};
 use crate::shape::keys_among;
 use facet_model::Word;
 use facet_names::NoMemory;
 use facet_replies::ScriptFault;
+use json::Scratch;
 use serde_json::Value;
 use std::alloc::Global;
 
@@ -179,14 +181,30 @@ fn line_in(alloc: Global, line: u64, value: &Value) -> Result<Option<Order>, Scr
     Ok(Some(order))
 }
 
-/// The order of a line's bytes, None where they end a phase, or why they do neither.
+// The order of any line, by its value.
 #[tactic(auto, unfolding(crate::specs::Sessions::Scripts::line_at))]
-pub fn read_line(alloc: Global, line: u64, bytes: &[u8]) -> Result<Option<Order>, ScriptFault>
+fn read_any(alloc: Global, line: u64, bytes: &[u8]) -> Result<Option<Order>, ScriptFault>
     ensures ok { IfOk result (λ o. line_at line bytes.now ≡ Ok (option_map order_view o)) }
     ensures err { IfErr result (λ e. e ≢ Memory → line_at line bytes.now ≡ Err e) }
 {
     match line_value(alloc, bytes)? {
         Some(value) => line_in(alloc, line, &value),
         None => Err(ScriptFault::NotJson { line }),
+    }
+}
+
+/// The order of a line's bytes, None where they end a phase, or why they do neither. The scratch is kept from line to line.
+pub fn read_line(
+    alloc: Global,
+    scratch: &mut Scratch,
+    line: u64,
+    bytes: &[u8],
+) -> Result<Option<Order>, ScriptFault>
+    ensures ok { IfOk result (λ o. line_at line bytes.now ≡ Ok (option_map order_view o)) }
+    ensures err { IfErr result (λ e. e ≢ Memory → line_at line bytes.now ≡ Err e) }
+{
+    match read_add(alloc, scratch, line, bytes)? {
+        Some(order) => Ok(Some(order)),
+        None => read_any(alloc, line, bytes),
     }
 }

@@ -10,6 +10,7 @@ use crate::lines::cut_line;
 use crate::sessions::command::{Order, Script};
 use crate::sessions::order::read_line;
 use facet_replies::ScriptFault;
+use json::Scratch;
 use std::alloc::Global;
 use std::mem;
 
@@ -18,13 +19,14 @@ fn read_phases(alloc: Global, bytes: &[u8]) -> Result<Vec<Vec<Order>>, ScriptFau
     ensures ok { IfOk result (λ v. phases_of (lines_of bytes.now) ≡ Ok (map (λ orders. map order_view orders.items) v.items)) }
     ensures err { IfErr result (λ e. e ≢ Memory → phases_of (lines_of bytes.now) ≡ Err e) }
 {
+    let mut scratch = Scratch::new(alloc);
     let mut phases = Vec::new(alloc);
     let mut orders = Vec::new(alloc);
     let mut line = 2;
     let mut rest = bytes;
     while !rest.is_empty() {
         let (first, after) = cut_line(rest);
-        match read_line(alloc, line, first)? {
+        match read_line(alloc, &mut scratch, line, first)? {
             Some(order) => orders.push(order)?,
             None => phases.push(mem::replace(&mut orders, Vec::new(alloc)))?,
         }
