@@ -140,7 +140,7 @@ fn append_entry<N: Name, R: Wait>(
     }
 }
 
-// Adds a document that the config accepts. Its entry and its copy are made before the operations' turn is waited for; the index may still have to grow then.
+// Adds a document that the config accepts. Its entry is made before the operations' turn is waited for; the index may still have to grow then.
 fn add_to<N: Name, R: Wait>(
     rt: &R,
     alloc: Global,
@@ -164,20 +164,11 @@ fn add_to<N: Name, R: Wait>(
         Err(TaxoFault::LabelsFull { size }) => return Err(AddFault::LabelsFull { size }),
         Err(TaxoFault::NoMemory) => return Err(AddFault::NoMemory),
     };
-    let Ok(copy) = doc.dup(alloc) else {
-        return Err(AddFault::NoMemory);
-    };
+    let operation = Operation::new(session, &doc);
     let Ok(entry) = entry_of(alloc, config, doc, &resolved) else {
         return Err(AddFault::NoMemory);
     };
-    match append_entry(
-        rt,
-        manager,
-        pass,
-        session,
-        entry,
-        Operation::new(session, copy),
-    ) {
+    match append_entry(rt, manager, pass, session, entry, operation) {
         Ok(at) => Ok(at),
         Err(AppendFault::DocsFull { count }) => Err(AddFault::DocsFull { count }),
         Err(AppendFault::NoMemory) => Err(AddFault::NoMemory),
@@ -189,7 +180,7 @@ impl<D: Disk, N: Name + Start> System<D, N> {
     /// accept is refused before that.
     ///
     /// Where a label is not in the cache it waits for the turn of the labels, once for all of them, and then for that of the operations; it holds one at a
-    /// time. The document is copied once before.
+    /// time. The document is not copied.
     pub fn add<R: Wait>(
         &self,
         rt: &R,

@@ -2,12 +2,13 @@ ghost use Rattle.std.specs.Prelude.{◌≡◌};
 
 use facet_model::Document;
 use std::marker::Model;
+use std::snapshot::Snapshot;
 
-/// An entry of the operations chronicle: a session added a document.
+/// An entry of the operations chronicle: a session added a document. The document is in it for the proofs alone: an operation takes no memory, and copies none.
 #[derive(Drop)]
 pub struct Operation {
     session: u32,
-    doc: Document,
+    doc: Snapshot<Document>,
 }
 
 impl Model for Operation {
@@ -15,14 +16,17 @@ impl Model for Operation {
 
     ghost Value = { Added };
 
-    ghost view = { λ o. record { session = o.session; doc = o.doc } };
+    ghost view = { λ o. record { session = o.session; doc = o.doc.value } };
 }
 
 impl Operation {
     /// The operation by which the session of this number added the document.
-    pub fn new(session: u32, doc: Document) -> Operation
-        ensures { result ≡ record { session = session; doc = doc } }
+    pub fn new(session: u32, doc: &Document) -> Operation
+        ensures { result ≡ record { session = session; doc = doc.now } }
     {
-        Operation { session, doc }
+        Operation {
+            session,
+            doc: Snapshot::of(doc),
+        }
     }
 }

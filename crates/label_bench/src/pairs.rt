@@ -182,10 +182,8 @@ fn add_document<N: Name, R: Wait>(
     let Some(entry) = entry_of(alloc, number) else {
         return false;
     };
-    let Ok(doc) = entry.doc.dup(alloc) else {
-        return false;
-    };
-    append(rt, manager, pass, entry, Operation::new(0, doc))
+    let operation = Operation::new(0, &entry.doc);
+    append(rt, manager, pass, entry, operation)
 }
 
 fn add_label<N: Name, R: Wait>(

@@ -205,7 +205,7 @@ fn add<N: Name, R: Wait>(
 {
     let label = label_of(alloc, session, number)?;
     let entry = entry_of(alloc, session, number)?;
-    let operation = Operation::new(session, entry.doc.dup(alloc).ok()?);
+    let operation = Operation::new(session, &entry.doc);
     if !add_label(rt, manager, pass, &label) {
         return None;
     }

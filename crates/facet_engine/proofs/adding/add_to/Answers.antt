@@ -41,13 +41,13 @@ returns-in-Err-LabelsFull-clause-tried g c =
 pub returns-in-Ok-append_entry-clause-tried : goal.returns-in-Ok-append_entry-clause-tried
 returns-in-Ok-append_entry-clause-tried g c =
     let mid = c.resolve_labels.new.pass in
-    tried_placed c.args.manager.now.writer.limit c.args.session c.args.doc c.args.pass.now mid c.append_entry.new.pass c.new.result (c.new.ensures ∙ ap (λ (d : Doc). record { session = c.args.session; doc = d }) c.in-Ok-dup.ensures)
+    tried_placed c.args.manager.now.writer.limit c.args.session c.args.doc c.args.pass.now mid c.append_entry.new.pass c.new-operation.result c.new-operation.ensures
     c.resolve_labels.ensures.rest.0 c.append_entry.ensures.rest.0 (resolved_known (labels_of mid.labels.seen) c.args.doc.labels c.in-Ok.resolved.items c.in-Ok.ensures.resolved) c.in-Ok-append_entry.at c.in-Ok-append_entry.ensures.placed
 
 pub returns-in-Err-DocsFull-clause-tried : goal.returns-in-Err-DocsFull-clause-tried
 returns-in-Err-DocsFull-clause-tried g c =
     let mid = c.resolve_labels.new.pass in
-    tried_full c.args.manager.now.writer.limit c.args.session c.args.doc c.args.pass.now mid c.append_entry.new.pass c.new.result (c.new.ensures ∙ ap (λ (d : Doc). record { session = c.args.session; doc = d }) c.in-Ok-dup.ensures)
+    tried_full c.args.manager.now.writer.limit c.args.session c.args.doc c.args.pass.now mid c.append_entry.new.pass c.new-operation.result c.new-operation.ensures
     c.resolve_labels.ensures.rest.0 c.append_entry.ensures.rest.0 (resolved_known (labels_of mid.labels.seen) c.args.doc.labels c.in-Ok.resolved.items c.in-Ok.ensures.resolved) c.in-Err-DocsFull.count c.in-Err-DocsFull.ensures.none (c.in-Err-DocsFull.ensures.full c.in-Err-DocsFull.count c.in-Err-DocsFull.field-0-is)
 
 pub returns-in-Ok-append_entry-clause-adds : goal.returns-in-Ok-append_entry-clause-adds
