@@ -3,3 +3,4 @@ pub mod Decoding
 pub mod Opening
 pub mod Answers
 pub mod Laws
+pub mod Pairs

@@ -131,7 +131,7 @@ fn entry_of(
 }
 
 // The document of a record that begins at a place, with its ordinals found anew, where it fits.
-fn entry_at(
+pub(crate) fn entry_at(
     alloc: Global,
     config: &FacetsConfig,
     labels: &Taxonomy,

@@ -9,6 +9,9 @@ pub mod laws;
 mod opening;
 mod resolving;
 mod sizes;
+mod unlike;
+mod verifying;
+mod walk;
 
 pub use entries::{document_of, ordinals_of};
 pub use fault::StoredFault;

@@ -8,6 +8,8 @@ ghost use Rattle.seg_decoding.specs.Opening.{head_fits, opened, stored_segment};
 use crate::difference::first_difference;
 use crate::entries::entries_of;
 use crate::fault::StoredFault;
+use crate::unlike::Unlike;
+use crate::verifying::verify;
 use facet_codec::Cursor;
 use facet_config::FacetsConfig;
 use seg_file::Segment;
@@ -57,8 +59,8 @@ fn opened(alloc: Global, documents: u32, bytes: Vec<u8>) -> Result<Segment, Stor
 /// each document: a leaf that is none of the labels is told where it stands, a document that is not accepted where it begins. In the end each byte is
 /// compared. Beside a refused allocation it answers that there is no memory where the documents have 2^32 terms or more.
 ///
-/// It makes the documents and the segment anew, so it takes the time and memory of adding them all and building the segment once more. Of that it keeps
-/// only the given bytes and their index, 16 bytes a document and 8 a term.
+/// Where the segment is answered, one document at a time is made, and 8 bytes a term are taken in between. Else it makes the documents and the segment
+/// anew, which takes the time and memory of adding them all. It keeps the given bytes and their index, 16 bytes a document and 8 a term.
 pub fn open_stored(
     alloc: Global,
     config: &FacetsConfig,
@@ -78,6 +80,11 @@ pub fn open_stored(
     ensures few { IfOk result (λ s. length s.records ≤ 1000000) }
 {
     let segment = opened(alloc, documents, bytes)?;
+    match verify(alloc, config, labels, needs, &segment) {
+        Ok(()) => return Ok(segment),
+        Err(Unlike::NoMemory) => return Err(StoredFault::NoMemory),
+        Err(Unlike::Differs) => {}
+    }
     let entries = entries_of(alloc, config, labels, needs, &segment)?;
     let rebuilt = Segment::build(alloc, &entries)?;
     match first_difference(segment.bytes(), rebuilt.bytes()) {

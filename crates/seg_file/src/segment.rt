@@ -136,16 +136,16 @@ impl Segment {
         Some(self.places(at))
     }
 
-    // How many terms there are.
-    fn terms(&self) -> usize
+    /// How many terms there are.
+    pub fn terms(&self) -> usize
         ensures number { result ≡ length self.now.terms }
         ensures rise { TermsRise None self.now.terms }
     {
         self.index.terms.len()
     }
 
-    // How many terms come before the text.
-    fn first_from(&self, text: &str) -> usize
+    /// How many terms come before the text. It bisects.
+    pub fn first_from(&self, text: &str) -> usize
         ensures first { IsFirstFrom text.now self.now.terms result result }
         ensures within { result ≤ length self.now.terms }
         ensures rise { TermsRise None self.now.terms }
@@ -163,8 +163,8 @@ impl Segment {
         low
     }
 
-    // The text of a term.
-    fn term_text(&self, at: usize) -> &str
+    /// The text of a term.
+    pub fn term_text(&self, at: usize) -> &str
         requires { at < length self.now.terms }
         ensures { result.now ≡ (term_of self.now.terms at).0 }
     {
@@ -172,8 +172,8 @@ impl Segment {
         text_front(&mut cursor)
     }
 
-    // The places of a term.
-    fn places(&self, at: usize) -> Postings<'_>
+    /// The places of a term.
+    pub fn places(&self, at: usize) -> Postings<'_>
         requires { at < length self.now.terms }
         ensures { result ≡ (term_of self.now.terms at).1 }
     {

@@ -1,4 +1,4 @@
-ghost use Rattle.std.specs.Prelude.{◌≡◌, ℕ, List, length};
+ghost use Rattle.std.specs.Prelude.{◌≡◌, ◌<◌, ℕ, List, length, slice_index_or};
 ghost use Rattle.seg_postings.specs.Bytes.{ArePlaces, AreRisingPlaces};
 
 use crate::places::Places;
@@ -38,6 +38,15 @@ impl<'a> Postings<'a> {
         ensures { result ≡ length self.now }
     {
         self.places.len()
+    }
+
+    /// The place that stands at an index, in constant time.
+    pub fn at(&self, index: usize) -> u32
+        requires { index < length self.now }
+        ensures { result ≡ slice_index_or self.now index 0 }
+    {
+        let places = self.places;
+        u32::from_be_bytes(places[index])
     }
 
     /// A cursor at the first place.

@@ -1,6 +1,6 @@
-mod Tables
+pub mod Tables
 mod Noted
-mod Pieces
+pub mod Pieces
 pub mod TermLists
 pub mod DocPlaces
 mod Shorts

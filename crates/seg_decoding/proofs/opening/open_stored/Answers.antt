@@ -7,6 +7,7 @@ use Rattle.seg_decoding.specs.Entries.{docs_of}
 use Rattle.seg_decoding.specs.Opening.{opened, documents_fit, rebuilt, first_difference, stored_segment}
 use Rattle.seg_decoding.proofs.Compared.{number_is, stored_unread, stored_unfit, differs, agrees, decodes, leaves_low}
 use Rattle.seg_decoding.proofs.Telling.{fails_on}
+use Rattle.seg_decoding.proofs.Verified.{right_fits, verified_opens, verified_decodes}
 use Rattle.seg_decoding.proofs.opening.open_stored.Goals as goal
 
 pub returns-in_err-segment-clause-err : goal.returns-in_err-segment-clause-err
@@ -50,3 +51,15 @@ returns-in-None-clause-leaves c = leaves_low c.args.config.now c.args.labels.now
 
 pub returns-in-None-clause-number : goal.returns-in-None-clause-number
 returns-in-None-clause-number c = number_is c.args.documents c.args.bytes.items c.in_ok-segment.segment c.in_ok-segment.ensures.found c.in_ok-segment.ensures.read
+
+pub returns-in-Ok-clause-ok : goal.returns-in-Ok-clause-ok
+returns-in-Ok-clause-ok c = verified_opens c.args.config.now c.args.labels.now c.args.needs c.args.documents c.args.bytes.items c.in_ok-segment.segment c.in_ok-segment.ensures.found c.in-Ok.ensures.right c.in-Ok.ensures.theirs c.in_ok-segment.ensures.read
+
+pub returns-in-Ok-clause-decodes : goal.returns-in-Ok-clause-decodes
+returns-in-Ok-clause-decodes c = verified_decodes c.args.config.now c.args.labels.now c.args.needs c.args.documents c.args.bytes.items c.in_ok-segment.segment c.in_ok-segment.ensures.found c.in-Ok.ensures.right c.in-Ok.ensures.theirs c.in_ok-segment.ensures.read c.in-Ok.ensures.list c.requires
+
+pub returns-in-Ok-clause-leaves : goal.returns-in-Ok-clause-leaves
+returns-in-Ok-clause-leaves c = leaves_low c.args.config.now c.args.labels.now c.args.needs c.in_ok-segment.segment.records (right_fits c.args.config.now c.args.labels.now c.args.needs c.args.documents c.args.bytes.items c.in_ok-segment.segment c.in_ok-segment.ensures.found c.in-Ok.ensures.right c.in-Ok.ensures.theirs)
+
+pub returns-in-Ok-clause-number : goal.returns-in-Ok-clause-number
+returns-in-Ok-clause-number c = number_is c.args.documents c.args.bytes.items c.in_ok-segment.segment c.in_ok-segment.ensures.found c.in_ok-segment.ensures.read

@@ -1,0 +1,170 @@
+//! A walk over the places of a segment's terms, document by document.
+ghost use Rattle.std.specs.Prelude.{◌≡◌, ◌<◌, ℕ, List, [], ◌∷◌, length, flat_map, position, slice_index_or, OnOk, IfOk};
+ghost use Rattle.std.specs.List.{slice_split};
+ghost use Rattle.std.specs.Str.{IsUtf8};
+ghost use Rattle.facet_names.specs.Labels.{prefixes};
+ghost use Rattle.facet_model.specs.Words.{is_blank};
+ghost use Rattle.facet_model.specs.Terms.{doc_terms};
+ghost use Rattle.seg_file.specs.Search.{term_of};
+ghost use Rattle.seg_terms.specs.Noting.{piece_terms, path_terms};
+ghost use Rattle.seg_decoding.specs.Pairs.{Passes};
+
+use crate::unlike::Unlike;
+use facet_model::Document;
+use facet_names::{Path, push_part};
+use seg_file::Segment;
+use std::alloc::Global;
+
+/// How many places of each term were passed, and a buffer for the text of a term.
+#[derive(Drop)]
+pub struct Walk {
+    pub next: Vec<usize>,
+    pub term: String,
+}
+
+// A space, a tab, a carriage return or a line feed.
+fn is_blank(byte: u8) -> bool
+    ensures { result ≡ is_blank byte }
+{
+    matches!(byte, b' ' | b'\t' | b'\r' | b'\n')
+}
+
+// Where the first blank stands.
+fn word_end(text: &[u8]) -> Option<usize>
+    ensures { result ≡ position is_blank text.now }
+{
+    text.iter().position(|byte| is_blank(*byte))
+}
+
+// Passes the document's place under the term at an index, where it is the next one, or was passed last.
+fn pass(segment: &Segment, next: &mut Vec<usize>, term: usize, doc: u32) -> Result<(), Unlike>
+    requires there { term < length segment.now.terms }
+    requires size { length next.old.items ≡ length segment.now.terms }
+    ensures { OnOk result (Passes segment.now.terms doc ((term_of segment.now.terms term).0 ∷ []) next.old.items next.new.items) }
+{
+    let places = segment.places(term);
+    let at = next[term];
+    if at > 0 && at - 1 < places.len() && places.at(at - 1) == doc {
+        return Ok(());
+    }
+    if at >= places.len() || places.at(at) != doc {
+        return Err(Unlike::Differs);
+    }
+    next[term] = at + 1;
+    Ok(())
+}
+
+// Passes the document's place under a term, if that is stored.
+fn pass_term(segment: &Segment, next: &mut Vec<usize>, term: &str, doc: u32) -> Result<(), Unlike>
+    requires { length next.old.items ≡ length segment.now.terms }
+    ensures { OnOk result (Passes segment.now.terms doc (term.now ∷ []) next.old.items next.new.items) }
+{
+    let at = segment.first_from(term);
+    if at == segment.terms() {
+        return Err(Unlike::Differs);
+    }
+    if segment.term_text(at) != term {
+        return Err(Unlike::Differs);
+    }
+    pass(segment, next, at, doc)
+}
+
+impl Walk {
+    /// No place was passed, of so many terms.
+    pub fn new(alloc: Global, terms: usize) -> Result<Walk, Unlike>
+        ensures size { IfOk result (λ w. length w.next.items ≡ terms) }
+        ensures none { IfOk result (λ w. (at : ℕ) → slice_index_or w.next.items at 0 ≡ 0) }
+    {
+        let mut next = Vec::with_capacity(alloc, terms)?;
+        for _ in 0..terms {
+            next.push(0)?;
+        }
+        Ok(Walk {
+            next,
+            term: String::new(alloc),
+        })
+    }
+
+    /// Each place of each term was passed.
+    pub fn check_end(&self, segment: &Segment) -> Result<(), Unlike>
+        requires { length self.now.next.items ≡ length segment.now.terms }
+        ensures { OnOk result ((at : ℕ) → at < length segment.now.terms → slice_index_or self.now.next.items at 0 ≡ length (term_of segment.now.terms at).1) }
+    {
+        for term in 0..segment.terms() {
+            if self.next[term] != segment.places(term).len() {
+                return Err(Unlike::Differs);
+            }
+        }
+        Ok(())
+    }
+
+    // A piece that has no byte is no word.
+    fn pass_word(&mut self, segment: &Segment, word: &[u8], doc: u32) -> Result<(), Unlike>
+        requires utf8 { IsUtf8 word.now }
+        requires size { length self.old.next.items ≡ length segment.now.terms }
+        ensures { OnOk result (Passes segment.now.terms doc (piece_terms (word.now ∷ [])) self.old.next.items self.new.next.items) }
+    {
+        if word.is_empty() {
+            return Ok(());
+        }
+        let word = unsafe { str::from_utf8_unchecked(word) };
+        self.term.clear();
+        self.term.push('w')?;
+        self.term.push_str(word)?;
+        pass_term(segment, &mut self.next, self.term.as_str(), doc)
+    }
+
+    // The text has small letters alone.
+    fn pass_words(&mut self, segment: &Segment, text: &str, doc: u32) -> Result<(), Unlike>
+        requires { length self.old.next.items ≡ length segment.now.terms }
+        ensures { OnOk result (Passes segment.now.terms doc (piece_terms (slice_split is_blank text.now)) self.old.next.items self.new.next.items) }
+    {
+        let mut rest = text.as_bytes();
+        while let Some(end) = word_end(rest) {
+            self.pass_word(segment, &rest[..end], doc)?;
+            let (_, after) = rest.split_at(end + 1);
+            rest = after;
+        }
+        self.pass_word(segment, rest, doc)
+    }
+
+    // Each prefix goes on from the one before it.
+    fn pass_label(&mut self, segment: &Segment, label: &Path, doc: u32) -> Result<(), Unlike>
+        requires { length self.old.next.items ≡ length segment.now.terms }
+        ensures { OnOk result (Passes segment.now.terms doc (path_terms (prefixes label.now)) self.old.next.items self.new.next.items) }
+    {
+        self.term.clear();
+        self.term.push('f')?;
+        for at in 0..label.len() {
+            push_part(&mut self.term, at, label.part(at))?;
+            pass_term(segment, &mut self.next, self.term.as_str(), doc)?;
+        }
+        Ok(())
+    }
+
+    fn pass_labels(&mut self, segment: &Segment, labels: &[Path], doc: u32) -> Result<(), Unlike>
+        requires { length self.old.next.items ≡ length segment.now.terms }
+        ensures { OnOk result (Passes segment.now.terms doc (path_terms (flat_map prefixes labels.now)) self.old.next.items self.new.next.items) }
+    {
+        for label in labels {
+            self.pass_label(segment, label, doc)?;
+        }
+        Ok(())
+    }
+
+    /// Passes the document's place under each of its terms. It is Ok only where each is stored, and the place is the next one of it.
+    pub fn pass_document(
+        &mut self,
+        alloc: Global,
+        segment: &Segment,
+        doc: &Document,
+        place: u32,
+    ) -> Result<(), Unlike>
+        requires { length self.old.next.items ≡ length segment.now.terms }
+        ensures { OnOk result (Passes segment.now.terms place (doc_terms doc.now) self.old.next.items self.new.next.items) }
+    {
+        let lowered = doc.text().to_ascii_lowercase(alloc)?;
+        self.pass_words(segment, lowered.as_str(), place)?;
+        self.pass_labels(segment, doc.facets(), place)
+    }
+}
