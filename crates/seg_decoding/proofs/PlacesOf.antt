@@ -54,7 +54,7 @@ is_in_from_place (suc n) k test (x ∷ xs) = by (test x) (let e : (k + 1) + n �
     by true rest = is_in_later (k + suc n) k (places_from (k + 1) test xs) (omega arith) ∙ rest
     by false rest = rest
 
-is_in_places : {A : Type 0} (n : ℕ) (test : A → Bool) (xs : List A) → is_in n (places test xs) ≡ at test xs n
+pub is_in_places : {A : Type 0} (n : ℕ) (test : A → Bool) (xs : List A) → is_in n (places test xs) ≡ at test xs n
 is_in_places n test xs = let e : 0 + n ≡ n = omega arith in subst (λ m. is_in m (places test xs) ≡ at test xs n) e (is_in_from_place n 0 test xs)
 
 -- a rising list that has exactly these places

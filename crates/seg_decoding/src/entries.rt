@@ -33,7 +33,8 @@ pub fn ordinals_of(alloc: Global, mut leaves: Ords<'_>) -> Result<Vec<u32>, NoMe
     Ok(ordinals)
 }
 
-fn is_leaf(needs: u32, leaf: u32) -> bool
+/// Whether it is the ordinal of a label after the root, below `needs`.
+pub(crate) fn is_leaf(needs: u32, leaf: u32) -> bool
     ensures { result ≡ (nat_lt 0 leaf && nat_lt leaf needs) }
 {
     0 < leaf && leaf < needs
@@ -103,8 +104,8 @@ pub fn document_of<L: Labelled>(
     }
 }
 
-// The document with its leaves, and with the ordinals that are counted for it.
-fn entry_of(
+/// The document with its leaves, and with the ordinals that are counted for it.
+pub(crate) fn entry_of(
     alloc: Global,
     config: &FacetsConfig,
     labels: &Taxonomy,
@@ -131,7 +132,7 @@ fn entry_of(
 }
 
 // The document of a record that begins at a place, with its ordinals found anew, where it fits.
-pub(crate) fn entry_at(
+fn entry_at(
     alloc: Global,
     config: &FacetsConfig,
     labels: &Taxonomy,

@@ -4,8 +4,10 @@
 
 mod difference;
 mod entries;
+mod facts;
 mod fault;
 pub mod laws;
+mod met;
 mod opening;
 mod resolving;
 mod sizes;

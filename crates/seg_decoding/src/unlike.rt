@@ -1,4 +1,4 @@
-use crate::fault::StoredFault;
+use facet_model::DocShape;
 use facet_names::NoMemory;
 use std::alloc::{AllocError, AllocFailed};
 
@@ -28,11 +28,11 @@ impl<T: Drop> From<AllocFailed<T>> for Unlike {
     }
 }
 
-impl From<StoredFault> for Unlike {
-    fn from(fault: StoredFault) -> Unlike {
+impl From<DocShape> for Unlike {
+    fn from(fault: DocShape) -> Unlike {
         match fault {
-            StoredFault::Malformed { at: _ } => Unlike::Differs,
-            StoredFault::NoMemory => Unlike::NoMemory,
+            DocShape::NoMemory => Unlike::NoMemory,
+            _ => Unlike::Differs,
         }
     }
 }

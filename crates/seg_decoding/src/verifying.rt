@@ -1,59 +1,164 @@
-//! Whether a stored segment is what is written for its documents, seen in one pass and without making it anew.
-ghost use Rattle.std.specs.Prelude.{◌≡◌, ◌≤◌, ◌<◌, ℕ, length, map, OnOk, IfOk};
-ghost use Rattle.std.specs.List.{AllByRecursion};
+//! Whether a stored segment is what is written for its documents, seen in one pass and without making a document.
+ghost use Rattle.std.specs.Prelude.{◌≡◌, ◌≤◌, ◌<◌, ◌++◌, ℕ, List, [], ◌∷◌, true, length, map, All, OnOk, IfOk};
+ghost use Rattle.std.specs.List.{AllByRecursion, list_any};
+ghost use Rattle.std.specs.Str.{bytes_eq};
 ghost use Rattle.facet_names.specs.Labels.{IsLabelList};
+ghost use Rattle.facet_model.specs.Documents.{dim_of};
 ghost use Rattle.facet_model.specs.Terms.{doc_terms};
 ghost use Rattle.seg_grammar.specs.Lookups.{record_of};
 ghost use Rattle.seg_grammar.specs.Spelling.{IsRecord};
+ghost use Rattle.seg_postings.specs.Rising.{is_in};
+ghost use Rattle.seg_decoding.specs.Answers.{IsLeaf};
 ghost use Rattle.seg_decoding.specs.Decoding.{doc_in};
+ghost use Rattle.seg_decoding.specs.Facts.{AreSeen, labels_of};
+ghost use Rattle.seg_decoding.specs.Ready.{IsReady};
 ghost use Rattle.seg_decoding.specs.Pairs.{AreTheirs, IsRight, Passes};
 
-use crate::entries::{entry_at, ordinals_of};
+use crate::met::MetLabels;
 use crate::unlike::Unlike;
 use crate::walk::Walk;
 use facet_config::FacetsConfig;
-use seg_file::Segment;
+use seg_file::{Ords, Segment};
 use std::alloc::Global;
-use taxo_list::Taxonomy;
+use taxo_list::{Labelled, Taxonomy};
 
-// The ordinals that are stored as counted for a document are these.
-fn check_counted(alloc: Global, segment: &Segment, doc: u32, counted: &[u32]) -> Result<(), Unlike>
-    requires { doc < length segment.now.records }
-    ensures { OnOk result ((record_of segment.now doc).counted ≡ counted.now) }
+/// What was found out of a segment so far.
+#[derive(Drop)]
+pub struct Verifier {
+    pub met: MetLabels,
+    pub walk: Walk,
+    /// The leaves of one document.
+    pub leaves: Vec<u32>,
+    /// The ordinals that are counted for them, in any order.
+    pub counted: Vec<u32>,
+}
+
+// One of the labels has the dimension.
+fn has_dimension(labels: &Taxonomy, leaves: &[u32], dim: &str) -> bool
+    requires { All (IsLeaf (length labels.now)) leaves.now }
+    ensures { result ≡ list_any (λ l. bytes_eq (dim_of l) dim.now) (labels_of labels.now leaves.now) }
 {
-    let stored = ordinals_of(alloc, segment.counted(doc))?;
-    if stored.as_slice() == counted {
+    for leaf in leaves {
+        if labels.path_of(*leaf).dim() == dim {
+            return true;
+        }
+    }
+    false
+}
+
+// The numbers are those of the slice.
+fn are_same(mut stored: Ords<'_>, ords: &[u32]) -> bool
+    ensures { result ≡ true → stored.entry ≡ ords.now }
+{
+    let mut at = 0;
+    while let Some(ord) = stored.next() {
+        if at == ords.len() || ords[at] != ord {
+            return false;
+        }
+        at += 1;
+    }
+    at == ords.len()
+}
+
+// The ordinals that are stored as counted for a document are these, each once.
+fn check_counted(segment: &Segment, doc: u32, ords: &mut Vec<u32>) -> Result<(), Unlike>
+    requires { doc < length segment.now.records }
+    ensures { OnOk result ((ord : ℕ) → is_in ord (record_of segment.now doc).counted ≡ is_in ord ords.old.items) }
+{
+    ords.sort_unstable();
+    ords.dedup();
+    if are_same(segment.counted(doc), ords) {
         Ok(())
     } else {
         Err(Unlike::Differs)
     }
 }
 
-// The record is right, and its place is passed under each of its document's terms.
-fn check_document(
-    alloc: Global,
-    config: &FacetsConfig,
-    labels: &Taxonomy,
-    needs: u32,
-    segment: &Segment,
-    doc: u32,
-    walk: &mut Walk,
-) -> Result<(), Unlike>
-    requires needs { needs ≤ length labels.now }
-    requires there { doc < length segment.now.records }
-    requires fits { IsRecord (record_of segment.now doc) }
-    requires size { length walk.old.next.items ≡ length segment.now.terms }
-    ensures right { OnOk result (IsRight config.now labels.now needs (record_of segment.now doc)) }
-    ensures passes { OnOk result (Passes segment.now.terms doc (doc_terms (doc_in labels.now (record_of segment.now doc))) walk.old.next.items walk.new.next.items) }
-    ensures list { OnOk result (IsLabelList labels.now) }
-{
-    let entry = entry_at(alloc, config, labels, needs, segment, doc, 0)?;
-    check_counted(alloc, segment, doc, entry.counted.ords())?;
-    walk.pass_document(alloc, segment, &entry.doc, doc)
+impl Verifier {
+    // One label more of a document: it may stand behind those before it, and the document's place is passed under its terms.
+    fn check_label(
+        &mut self,
+        alloc: Global,
+        config: &FacetsConfig,
+        labels: &Taxonomy,
+        needs: u32,
+        segment: &Segment,
+        doc: u32,
+        leaf: u32,
+    ) -> Result<(), Unlike>
+        requires needs { needs ≤ length labels.now }
+        requires ready { IsReady config.now labels.now needs segment.now.terms self.old }
+        requires fit { AllByRecursion (IsLeaf needs) self.old.leaves.items }
+        ensures ready { OnOk result (IsReady config.now labels.now needs segment.now.terms self.new) }
+        ensures fit { OnOk result (AllByRecursion (IsLeaf needs) self.new.leaves.items) }
+        ensures leaves { OnOk result (self.new.leaves.items ≡ self.old.leaves.items ++ leaf ∷ []) }
+        ensures seen { OnOk result ((start : List ℕ)
+            → AreSeen config.now labels.now segment.now.terms doc self.old.leaves.items self.old.counted.items start self.old.walk.next.items
+            → AreSeen config.now labels.now segment.now.terms doc self.new.leaves.items self.new.counted.items start self.new.walk.next.items) }
+    {
+        let at = self.met.meet(alloc, config, labels, needs, segment, leaf)?;
+        let facts = &self.met.facts[at];
+        let dim = labels.path_of(leaf).dim();
+        if !facts.multi_valued && has_dimension(labels, &self.leaves, dim) {
+            return Err(Unlike::Differs);
+        }
+        self.leaves.push(leaf)?;
+        self.counted.extend_from_slice(facts.counted.ords())?;
+        self.walk.pass_terms(segment, &facts.terms, doc)
+    }
+
+    // The labels of a document are accepted, and its place is passed under their terms.
+    fn check_labels(
+        &mut self,
+        alloc: Global,
+        config: &FacetsConfig,
+        labels: &Taxonomy,
+        needs: u32,
+        segment: &Segment,
+        doc: u32,
+    ) -> Result<(), Unlike>
+        requires there { doc < length segment.now.records }
+        requires needs { needs ≤ length labels.now }
+        requires ready { IsReady config.now labels.now needs segment.now.terms self.old }
+        ensures ready { OnOk result (IsReady config.now labels.now needs segment.now.terms self.new) }
+        ensures fit { OnOk result (AllByRecursion (IsLeaf needs) (record_of segment.now doc).leaves) }
+        ensures seen { OnOk result (AreSeen config.now labels.now segment.now.terms doc (record_of segment.now doc).leaves self.new.counted.items self.old.walk.next.items self.new.walk.next.items) }
+    {
+        self.leaves.clear();
+        self.counted.clear();
+        let mut leaves = segment.leaves(doc);
+        while let Some(leaf) = leaves.next() {
+            self.check_label(alloc, config, labels, needs, segment, doc, leaf)?;
+        }
+        Ok(())
+    }
+
+    // The record is right, and its place is passed under each of its document's terms.
+    fn check_document(
+        &mut self,
+        alloc: Global,
+        config: &FacetsConfig,
+        labels: &Taxonomy,
+        needs: u32,
+        segment: &Segment,
+        doc: u32,
+    ) -> Result<(), Unlike>
+        requires there { doc < length segment.now.records }
+        requires fits { IsRecord (record_of segment.now doc) }
+        requires needs { needs ≤ length labels.now }
+        requires ready { IsReady config.now labels.now needs segment.now.terms self.old }
+        ensures ready { OnOk result (IsReady config.now labels.now needs segment.now.terms self.new) }
+        ensures right { OnOk result (IsRight config.now labels.now needs (record_of segment.now doc)) }
+        ensures passes { OnOk result (Passes segment.now.terms doc (doc_terms (doc_in labels.now (record_of segment.now doc))) self.old.walk.next.items self.new.walk.next.items) }
+    {
+        self.walk.pass_text(alloc, segment, segment.text(doc), doc)?;
+        self.check_labels(alloc, config, labels, needs, segment, doc)?;
+        check_counted(segment, doc, &mut self.counted)
+    }
 }
 
-/// It is Ok only where each record is right, and the terms and places that are stored are exactly those of the documents. It makes one document at a
-/// time, and keeps 8 bytes a term.
+/// It is Ok only where each record is right, and the terms and places that are stored are exactly those of the documents. It makes no document: it takes
+/// 8 bytes for each label and each term, and some 150 for each label that a document has.
 pub(crate) fn verify(
     alloc: Global,
     config: &FacetsConfig,
@@ -66,10 +171,14 @@ pub(crate) fn verify(
     ensures theirs { OnOk result (AreTheirs (map (doc_in labels.now) segment.now.records) segment.now.terms) }
     ensures list { OnOk result (IsLabelList labels.now) }
 {
-    let docs = segment.docs();
-    let mut walk = Walk::new(alloc, segment.terms())?;
-    for doc in 0..docs {
-        check_document(alloc, config, labels, needs, segment, doc, &mut walk)?;
+    let mut verifier = Verifier {
+        met: MetLabels::new(alloc, labels.size() as usize)?,
+        walk: Walk::new(alloc, segment.terms())?,
+        leaves: Vec::new(alloc),
+        counted: Vec::new(alloc),
+    };
+    for doc in 0..segment.docs() {
+        verifier.check_document(alloc, config, labels, needs, segment, doc)?;
     }
-    walk.check_end(segment)
+    verifier.walk.check_end(segment)
 }

@@ -1,17 +1,15 @@
 //! A walk over the places of a segment's terms, document by document.
-ghost use Rattle.std.specs.Prelude.{◌≡◌, ◌<◌, ℕ, List, [], ◌∷◌, length, flat_map, position, slice_index_or, OnOk, IfOk};
+ghost use Rattle.std.specs.Prelude.{◌≡◌, ◌<◌, ℕ, List, [], ◌∷◌, length, position, slice_index_or, All, OnOk, IfOk};
 ghost use Rattle.std.specs.List.{slice_split};
-ghost use Rattle.std.specs.Str.{IsUtf8};
-ghost use Rattle.facet_names.specs.Labels.{prefixes};
+ghost use Rattle.std.specs.Str.{IsUtf8, str_to_ascii_lowercase};
 ghost use Rattle.facet_model.specs.Words.{is_blank};
-ghost use Rattle.facet_model.specs.Terms.{doc_terms};
 ghost use Rattle.seg_file.specs.Search.{term_of};
-ghost use Rattle.seg_terms.specs.Noting.{piece_terms, path_terms};
+ghost use Rattle.seg_terms.specs.Noting.{piece_terms};
+ghost use Rattle.seg_decoding.specs.Facts.{texts_at};
 ghost use Rattle.seg_decoding.specs.Pairs.{Passes};
 
+use crate::facts::find_term;
 use crate::unlike::Unlike;
-use facet_model::Document;
-use facet_names::{Path, push_part};
 use seg_file::Segment;
 use std::alloc::Global;
 
@@ -52,21 +50,6 @@ fn pass(segment: &Segment, next: &mut Vec<usize>, term: usize, doc: u32) -> Resu
     }
     next[term] = at + 1;
     Ok(())
-}
-
-// Passes the document's place under a term, if that is stored.
-fn pass_term(segment: &Segment, next: &mut Vec<usize>, term: &str, doc: u32) -> Result<(), Unlike>
-    requires { length next.old.items ≡ length segment.now.terms }
-    ensures { OnOk result (Passes segment.now.terms doc (term.now ∷ []) next.old.items next.new.items) }
-{
-    let at = segment.first_from(term);
-    if at == segment.terms() {
-        return Err(Unlike::Differs);
-    }
-    if segment.term_text(at) != term {
-        return Err(Unlike::Differs);
-    }
-    pass(segment, next, at, doc)
 }
 
 impl Walk {
@@ -111,7 +94,8 @@ impl Walk {
         self.term.clear();
         self.term.push('w')?;
         self.term.push_str(word)?;
-        pass_term(segment, &mut self.next, self.term.as_str(), doc)
+        let term = find_term(segment, self.term.as_str())?;
+        pass(segment, &mut self.next, term, doc)
     }
 
     // The text has small letters alone.
@@ -128,43 +112,30 @@ impl Walk {
         self.pass_word(segment, rest, doc)
     }
 
-    // Each prefix goes on from the one before it.
-    fn pass_label(&mut self, segment: &Segment, label: &Path, doc: u32) -> Result<(), Unlike>
-        requires { length self.old.next.items ≡ length segment.now.terms }
-        ensures { OnOk result (Passes segment.now.terms doc (path_terms (prefixes label.now)) self.old.next.items self.new.next.items) }
-    {
-        self.term.clear();
-        self.term.push('f')?;
-        for at in 0..label.len() {
-            push_part(&mut self.term, at, label.part(at))?;
-            pass_term(segment, &mut self.next, self.term.as_str(), doc)?;
-        }
-        Ok(())
-    }
-
-    fn pass_labels(&mut self, segment: &Segment, labels: &[Path], doc: u32) -> Result<(), Unlike>
-        requires { length self.old.next.items ≡ length segment.now.terms }
-        ensures { OnOk result (Passes segment.now.terms doc (path_terms (flat_map prefixes labels.now)) self.old.next.items self.new.next.items) }
-    {
-        for label in labels {
-            self.pass_label(segment, label, doc)?;
-        }
-        Ok(())
-    }
-
-    /// Passes the document's place under each of its terms. It is Ok only where each is stored, and the place is the next one of it.
-    pub fn pass_document(
+    /// Passes the document's place under the words of a text. It takes memory for a copy of the text in small letters, which it gives back.
+    pub fn pass_text(
         &mut self,
         alloc: Global,
         segment: &Segment,
-        doc: &Document,
-        place: u32,
+        text: &str,
+        doc: u32,
     ) -> Result<(), Unlike>
         requires { length self.old.next.items ≡ length segment.now.terms }
-        ensures { OnOk result (Passes segment.now.terms place (doc_terms doc.now) self.old.next.items self.new.next.items) }
+        ensures { OnOk result (Passes segment.now.terms doc (piece_terms (slice_split is_blank (str_to_ascii_lowercase text.now))) self.old.next.items self.new.next.items) }
     {
-        let lowered = doc.text().to_ascii_lowercase(alloc)?;
-        self.pass_words(segment, lowered.as_str(), place)?;
-        self.pass_labels(segment, doc.facets(), place)
+        let lowered = text.to_ascii_lowercase(alloc)?;
+        self.pass_words(segment, lowered.as_str(), doc)
+    }
+
+    /// Passes the document's place under the terms at these indexes.
+    pub fn pass_terms(&mut self, segment: &Segment, terms: &[usize], doc: u32) -> Result<(), Unlike>
+        requires there { All (λ at. at < length segment.now.terms) terms.now }
+        requires size { length self.old.next.items ≡ length segment.now.terms }
+        ensures { OnOk result (Passes segment.now.terms doc (texts_at segment.now.terms terms.now) self.old.next.items self.new.next.items) }
+    {
+        for term in terms {
+            pass(segment, &mut self.next, *term, doc)?;
+        }
+        Ok(())
     }
 }

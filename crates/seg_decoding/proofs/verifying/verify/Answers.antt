@@ -29,20 +29,19 @@ loop-doc-preserved c =
     let needs = c.args.needs in
     let s : Records = c.args.segment.now in
     let i = c.loop-doc.doc in
-    let lt : c.loop-doc.doc < length c.args.segment.now.records = omega (arith, c.loop-doc-test.true, c.docs-docs.ensures.number) in
+    let lt : c.loop-doc.doc < length c.args.segment.now.records = omega (arith, c.loop-doc-test.true, c.docs-doc-end.ensures.number) in
     let passes = c.in_ok-check_document.ensures.passes in
     record {
-      size = passes.size ∙ c.loop-doc.invariant.size;
+      ready = c.in_ok-check_document.ensures.ready;
       right = λ p pl. elim (cases_lt p i) [
         | inl less ↦ c.loop-doc.invariant.right p less
         | inr ge ↦ let same : i ≡ p = omega arith in subst (λ (q : ℕ). IsRight config known needs (record_of s q)) same c.in_ok-check_document.ensures.right
       ];
       only = passes.only (map (doc_in known) s.records) (own_has s.terms (map (doc_in known) s.records) i (doc_in known (record_of s i)) (there known s i lt)) c.loop-doc.invariant.only;
       each = λ p pl. elim (cases_lt p i) [
-        | inl less ↦ λ k d kl. passed_stays s.terms c.loop-doc.walk.next.items c.check_document.new.walk.next.items (slice_index_or (doc_terms (doc_in known (record_of s p))) k d) p passes.grows (c.loop-doc.invariant.each p less k d kl)
-        | inr ge ↦ let same : i ≡ p = omega arith in subst (λ (q : ℕ). All (λ t. IsPassed s.terms c.check_document.new.walk.next.items t q) (doc_terms (doc_in known (record_of s q)))) same passes.each
+        | inl less ↦ λ k d kl. passed_stays s.terms c.loop-doc.verifier.walk.next.items c.check_document.new.self.walk.next.items (slice_index_or (doc_terms (doc_in known (record_of s p))) k d) p passes.grows (c.loop-doc.invariant.each p less k d kl)
+        | inr ge ↦ let same : i ≡ p = omega arith in subst (λ (q : ℕ). All (λ t. IsPassed s.terms c.check_document.new.self.walk.next.items t q) (doc_terms (doc_in known (record_of s q)))) same passes.each
       ];
-      list = λ _. c.in_ok-check_document.ensures.list;
     }
 
 pub returns-clause-right : goal.returns-clause-right
@@ -50,7 +49,7 @@ returns-clause-right c =
     let s : Records = c.args.segment.now in
     let right : All (IsRight c.args.config.now c.args.labels.now c.args.needs) s.records = λ k d lt.
     let same : slice_index_or s.records k d ≡ record_of s k = get_or_from_slice_get s.records k (record_of s k) d (slice_get-get_or s.records k none lt) in
-    subst (IsRight c.args.config.now c.args.labels.now c.args.needs) (sym same) (c.loop-doc.invariant.right k (omega (arith, lt, c.loop-doc-test.false, c.docs-docs.ensures.number))) in
+    subst (IsRight c.args.config.now c.args.labels.now c.args.needs) (sym same) (c.loop-doc.invariant.right k (omega (arith, lt, c.loop-doc-test.false, c.docs-doc-end.ensures.number))) in
     on_ok_weaker c.check_end.result (λ ends. all_each (IsRight c.args.config.now c.args.labels.now c.args.needs) s.records right) c.check_end.ensures
 
 same_some : {X : Type 0} {x y : X} → Some x ≡ Some y → x ≡ y
@@ -61,12 +60,9 @@ returns-clause-theirs c =
     let s : Records = c.args.segment.now in
     let known = c.args.labels.now in
     let docs : List Doc = map (doc_in known) s.records in
-    let next : List ℕ = c.loop-doc.walk.next.items in
+    let next : List ℕ = c.loop-doc.verifier.walk.next.items in
     let each : (p : ℕ) (doc : Doc) → slice_get docs p ≡ Some doc → All (λ t. IsPassed s.terms next t p) (doc_terms doc) = λ p doc e.
     let lt : p < length c.args.segment.now.records = omega (arith, slice_get_within docs p doc e, length-map s.records (doc_in known)) in
     let same : doc_in known (record_of s p) ≡ doc = same_some (sym (there known s p lt) ∙ e) in
-    subst (λ (d : Doc). All (λ t. IsPassed s.terms next t p) (doc_terms d)) same (c.loop-doc.invariant.each p (omega (arith, lt, c.loop-doc-test.false, c.docs-docs.ensures.number))) in
+    subst (λ (d : Doc). All (λ t. IsPassed s.terms next t p) (doc_terms d)) same (c.loop-doc.invariant.each p (omega (arith, lt, c.loop-doc-test.false, c.docs-doc-end.ensures.number))) in
     on_ok_weaker c.check_end.result (λ (ends : (at : ℕ) → at < length s.terms → slice_index_or next at 0 ≡ length (term_of s.terms at).1). theirs_at_end s.terms docs next c.terms.ensures.rise ends c.loop-doc.invariant.only each) c.check_end.ensures
-
-pub returns-clause-list : goal.returns-clause-list
-returns-clause-list c = on_ok_weaker c.check_end.result (λ (ends : (at : ℕ) → at < length c.args.segment.now.terms → slice_index_or c.loop-doc.walk.next.items at 0 ≡ length (term_of c.args.segment.now.terms at).1). c.loop-doc.invariant.list (omega (arith, c.loop-doc-test.false, c.docs-docs.ensures.number, c.docs-docs.ensures.is.some))) c.check_end.ensures

@@ -1,19 +1,21 @@
 use Rattle.std.proofs.Common.{rules, ◌≡◌, ℕ, ◌<◌, List, ◌∷◌, [], ◌++◌, ◌+◌, subst, sym, ap, ◌∙◌, arith, length, take, map, string_bytes}
-use Rattle.std.specs.Prelude.{codes, cond, nat_eq}
+use Rattle.std.specs.Prelude.{All, codes, cond, nat_eq}
 use Rattle.std.specs.List.{range_with_len}
-use Rattle.std.proofs.lemmas.List.{length-take-le, take_more}
+use Rattle.std.proofs.lemmas.List.{length-take-le, map_push, take_more}
+use Rattle.std.proofs.lemmas.List.Elements.{All-push}
 use Rattle.std.proofs.lemmas.Option.{get_or_from_slice_get}
+use Rattle.facet_names.specs.Labels.{prefixes}
 use Rattle.facet_names.specs.Terms.{term_text, escaped}
 use Rattle.facet_names.proofs.TermTexts.{longer_text}
+use Rattle.seg_file.specs.Search.{term_of}
 use Rattle.seg_terms.specs.Noting.{Table, path_terms}
 use Rattle.seg_terms.proofs.Pieces.{one_more_prefix}
-use Rattle.seg_decoding.specs.Pairs.{Passes}
-use Rattle.seg_decoding.proofs.Walked.{passes_more, passes_none}
-use Rattle.seg_decoding.proofs.walk.Walk.pass_label.Goals as goal
+use Rattle.seg_decoding.specs.Facts.{texts_at}
+use Rattle.seg_decoding.proofs.facts.find_prefixes.Goals as goal
 
 pub loop-at-init : goal.loop-at-init
 unfolding term_text
-loop-at-init c = record { text = search rules; size = c.requires; passed = passes_none c.args.segment.now.terms c.args.doc c.args.self.now.next.items }
+loop-at-init c = record { text = search rules; there = subst (All (λ index. index < length c.args.segment.now.terms)) (sym c.in_ok-terms.ensures.items) (λ k d lt. absurd (omega (arith, lt))); texts = search rules }
 
 pub loop-at-preserved : goal.loop-at-preserved
 loop-at-preserved c =
@@ -30,18 +32,16 @@ loop-at-preserved c =
     ∙ ap (λ t. t ++ end) c.loop-at.invariant.text
     ∙ ap (λ t. 102 ∷ t) (longer_text (take at label) part at size)
     ∙ ap (λ ps. 102 ∷ term_text ps) (sym longer) in
-    let term : c.as_str.result.now ≡ codes "f" ++ term_text (take (at + 1) label) = c.as_str.ensures.value ∙ text in
-    let before : List ℕ = c.loop-at.self.next.items in
-    let new : List ℕ = c.pass_term.new.next.items in
-    let last : Passes terms c.args.doc ((codes "f" ++ term_text (take (at + 1) label)) ∷ []) before new = subst (λ t. Passes terms c.args.doc (t ∷ []) before new) term c.in_ok-pass_term.ensures in
+    let index = c.in_ok-index.index in
+    let is : (term_of terms index).0 ≡ codes "f" ++ term_text (take (at + 1) label) = c.in_ok-index.ensures.is ∙ c.as_str.ensures.value ∙ text in
     record {
       text = text;
-      size = c.in_ok-pass_term.ensures.size ∙ c.loop-at.invariant.size;
-      passed = subst (λ ts. Passes terms c.args.doc ts c.args.self.now.next.items new) (sym (one_more_prefix label at)) (passes_more terms c.args.doc (path_terms (map (λ n. take n label) (range_with_len 1 at))) ((codes "f" ++ term_text (take (at + 1) label)) ∷ []) c.args.self.now.next.items before new c.loop-at.invariant.passed last);
+      there = subst (All (λ at. at < length terms)) (sym c.in_ok-push-2.ensures.items) (All-push (λ at. at < length terms) c.loop-at.terms.items index c.loop-at.invariant.there c.in_ok-index.ensures.there);
+      texts = ap (texts_at terms) c.in_ok-push-2.ensures.items ∙ map_push (λ at. (term_of terms at).0) c.loop-at.terms.items index ∙ (λ i. c.loop-at.invariant.texts i ++ is i ∷ []) ∙ sym (one_more_prefix label at);
     }
 
-pub returns : goal.returns
-returns c =
+pub returns-clause-texts : goal.returns-clause-texts
+returns-clause-texts c =
     let label = c.args.label.now in
     let all : c.loop-at.at ≡ length label = search rules in
-    subst (λ (n : ℕ). Passes c.args.segment.now.terms c.args.doc (path_terms (map (λ m. take m label) (range_with_len 1 n))) c.args.self.now.next.items c.loop-at.self.next.items) all c.loop-at.invariant.passed
+    subst (λ (n : ℕ). texts_at c.args.segment.now.terms c.loop-at.terms.items ≡ path_terms (map (λ m. take m label) (range_with_len 1 n))) all c.loop-at.invariant.texts
