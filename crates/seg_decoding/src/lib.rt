@@ -6,6 +6,7 @@ mod difference;
 mod entries;
 mod facts;
 mod fault;
+mod hints;
 pub mod laws;
 mod met;
 mod opening;

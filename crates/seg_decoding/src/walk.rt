@@ -8,15 +8,16 @@ ghost use Rattle.seg_terms.specs.Noting.{piece_terms};
 ghost use Rattle.seg_decoding.specs.Facts.{texts_at};
 ghost use Rattle.seg_decoding.specs.Pairs.{Passes};
 
-use crate::facts::find_term;
+use crate::hints::TermHints;
 use crate::unlike::Unlike;
 use seg_file::Segment;
 use std::alloc::Global;
 
-/// How many places of each term were passed, and a buffer for the text of a term.
+/// How many places of each term were passed, where words were found, and a buffer for the text of a term.
 #[derive(Drop)]
 pub struct Walk {
     pub next: Vec<usize>,
+    pub hints: TermHints,
     pub term: String,
 }
 
@@ -64,6 +65,7 @@ impl Walk {
         }
         Ok(Walk {
             next,
+            hints: TermHints::new(alloc, terms)?,
             term: String::new(alloc),
         })
     }
@@ -94,7 +96,7 @@ impl Walk {
         self.term.clear();
         self.term.push('w')?;
         self.term.push_str(word)?;
-        let term = find_term(segment, self.term.as_str())?;
+        let term = self.hints.find(segment, self.term.as_str())?;
         pass(segment, &mut self.next, term, doc)
     }
 
