@@ -8,3 +8,11 @@ pub mod Closed
 pub mod Shut
 pub mod Ending
 pub mod Reopened
+pub mod Lone
+pub mod Alike
+pub mod Equal
+pub mod Adds
+pub mod Placed
+pub mod Counted
+pub mod Commits
+pub mod Acknowledged

@@ -3,3 +3,6 @@ pub mod Runs
 pub mod Closing
 pub mod Serving
 pub mod Laws
+pub mod Alike
+pub mod Added
+pub mod Acknowledged

@@ -1,3 +1,6 @@
+ghost use Rattle.facet_shell.specs.Acknowledged.{AcknowledgedStays, CommitsAreAcknowledged};
+ghost use Rattle.facet_shell.specs.Added.{AddsArePlaced, EachAddStands, EachIsAddedOnce};
+ghost use Rattle.facet_shell.specs.Alike.{EqualFilesOpenTheSame, EqualStoresReplyAlike, EqualStoresWriteTheSame};
 ghost use Rattle.facet_shell.specs.Laws.{AcknowledgedIsReopened, LeavesStore};
 
 use facet_disk::Disk;
@@ -6,6 +9,34 @@ use facet_disk::Disk;
 pub fn runs_go_on<D: Disk>(disk: &D)
     ensures reopened { AcknowledgedIsReopened D.Disk }
     ensures stands { LeavesStore D.Disk }
+{
+    let _ = disk;
+}
+
+/// Each operation that a run added is that of one add, which was answered with its place, and each add that was answered so stands there, under its session. An
+/// add whose document is accepted, whose labels fit and for which there is room is answered so, or finds no memory.
+pub fn adds_stand<D: Disk>(disk: &D)
+    ensures once { EachIsAddedOnce D.Disk }
+    ensures stands { EachAddStands D.Disk }
+    ensures placed { AddsArePlaced D.Disk }
+{
+    let _ = disk;
+}
+
+/// Whatever a crash leaves at the end of a run has all that each acknowledged commit has acknowledged: the documents of the adds that came before it, and the labels
+/// that its session had been shown. Where the disk's count of faults does not rise and there are numbers, a commit is acknowledged, or finds no memory.
+pub fn commits_stay<D: Disk>(disk: &D)
+    ensures stays { AcknowledgedStays D.Disk }
+    ensures acknowledged { CommitsAreAcknowledged D.Disk }
+{
+    let _ = disk;
+}
+
+/// Runs of one session over stores whose files stand for the same are answered alike, and where no reply tells of its store or of want of memory, byte for byte.
+pub fn equal_stores_reply_alike<D: Disk>(disk: &D)
+    ensures opened { EqualFilesOpenTheSame D.Disk }
+    ensures alike { EqualStoresReplyAlike D.Disk }
+    ensures same { EqualStoresWriteTheSame D.Disk }
 {
     let _ = disk;
 }

@@ -12,6 +12,6 @@ mod telling;
 
 pub use facet_engine::Trace;
 pub use facet_phases::{Gate, OpenGate};
-pub use laws::runs_go_on;
+pub use laws::{adds_stand, commits_stay, equal_stores_reply_alike, runs_go_on};
 pub use program::{place, run};
 pub use status::{Ended, Status};
