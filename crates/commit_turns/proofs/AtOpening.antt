@@ -59,6 +59,7 @@ module _ {D : Type 0} (disk : Ghosts D) (only_now : (d : D) (c : Image) → disk
     };
     closed = sym o.opened.unclosed;
     counted = omega (arith, o.opened.still);
+    exact = o.opened.still;
     rose = λ count some. absurd (cc some);
     numbers = omega arith;
     tells = λ is. let w = was_told is in (w.0, o.opened.quiet.same ∙ w.1);

@@ -23,7 +23,7 @@ use Rattle.commit_store.specs.Promised.{IsHere, OfBoth, PassesThree, LeavesThree
 use Rattle.store_opening.specs.Files.{files}
 use Rattle.store_opening.proofs.Held.{files_stand}
 use Rattle.commit_turns.specs.Commits.{IsLast, Keeps, IsFollowed, Stands}
-use Rattle.commit_turns.specs.Points.{made, failed_after, first_of}
+use Rattle.commit_turns.specs.Points.{count_after, made, failed_after, first_of}
 use Rattle.commit_turns.specs.Recovery.{AreFirst, Holds}
 use Rattle.pair_manager.specs.declared.point.CommitPoint.{CommitPoint}
 use Rattle.commit_turns.proofs.Imaged.{holds_more, holds_less, holds_found}
@@ -68,6 +68,7 @@ module _ {D : Type 0} (disk : Ghosts D) where
       };
       closed = st.closed;
       counted = st.counted;
+      exact = st.exact;
       rose = st.rose;
       numbers = st.numbers;
       tells = st.tells;
@@ -182,6 +183,7 @@ module _ {D : Type 0} (disk : Ghosts D) where
         points = points_failed (disk.faults old.disk) (length view) (length docs) last es st.points count unfailed (disk.faults new.disk) (omega (arith, is_count));
         closed = sym closed;
         counted = omega (arith, st.counted, later);
+        exact = sym is_count;
         rose = λ k is. let same : count ≡ k = cc is in subst (Rose (disk.faults start)) same (rose_since (disk.faults start) (disk.faults old.disk) (disk.faults new.disk) count st.counted is_count rises);
         numbers = let n : new.state.next ≡ old.state.next = ap (λ (s : Committed). s.next) state in omega (arith, n, one_longer (failed_after last count) es, st.numbers);
         tells = λ is. let before = st.tells is in tells before.0 before.1;
@@ -217,6 +219,7 @@ module _ {D : Type 0} (disk : Ghosts D) where
         points = points_made (disk.faults old.disk) (length view) (length docs) last es st.points unfailed (disk.faults new.disk);
         closed = sym unclosed;
         counted = omega (arith, st.counted, still);
+        exact = still ∙ st.exact ∙ ap (count_after (disk.faults start)) unfailed;
         rose = λ count is. absurd (cc is);
         numbers = omega (arith, one_longer (made (length docs) (length view)) es, st.numbers, takes);
         tells = λ is. let before = st.tells is in tells before.0 before.1;

@@ -12,7 +12,7 @@ use Rattle.store_opening.specs.Settled.{IsSettled}
 use Rattle.store_opening.proofs.Held.{stands_settled}
 use Rattle.commit_turns.specs.Commits.{IsLast}
 use Rattle.commit_turns.specs.Ending.{Lasts, FailsWith}
-use Rattle.commit_turns.specs.Points.{last_of}
+use Rattle.commit_turns.specs.Points.{count_after, last_of}
 use Rattle.commit_turns.specs.Recovery.{HoldsJust}
 use Rattle.pair_manager.specs.declared.point.CommitPoint.{CommitPoint}
 use Rattle.commit_turns.proofs.Carried.{On, last_files}
@@ -37,6 +37,10 @@ module _ {D : Type 0} (disk : Ghosts D) (told settled : Type 0) (start : D) (beg
 
   ends : last_of es ≡ last
   ends = ap last_of st.points.ends ∙ last_push st.points.before last
+
+  -- the disk's count of faults is that of the last point, where it has failed
+  pub count_is : disk.faults committer.disk ≡ count_after (disk.faults start) (last_of es).failed
+  count_is = st.exact ∙ ap (λ (p : CommitPoint). count_after (disk.faults start) p.failed) (sym ends)
 
   -- the committer is closed as the last point has failed
   pub shut : (last_of es).failed ≡ committer.closed

@@ -13,7 +13,7 @@ use Rattle.store_opening.specs.Newest.{AreListed}
 use Rattle.commit_store.specs.Committed.{Committed}
 use Rattle.commit_store.specs.Committers.{CommitterView}
 use Rattle.commit_store.specs.Promised.{HasNamed, IsHere}
-use Rattle.commit_turns.specs.Points.{first_of}
+use Rattle.commit_turns.specs.Points.{count_after, first_of}
 use Rattle.commit_turns.specs.Recovery.{AreFirst, Holds}
 use Rattle.pair_manager.specs.declared.point.CommitPoint.{CommitPoint}
 
@@ -65,6 +65,7 @@ module _ {D : Type 0} (disk : Ghosts D) where
     pub points : ArePoints (disk.faults committer.disk) (length labels) (length docs) last es
     pub closed : last.failed ≡ committer.closed
     pub counted : disk.faults start ≤ disk.faults committer.disk
+    pub exact : disk.faults committer.disk ≡ count_after (disk.faults start) last.failed
     pub rose : (count : ℕ) → last.failed ≡ Some count → Rose (disk.faults start) count
     pub numbers : committer.state.next + 1000003 ≤ begun.next + 1000003 * length es
     pub tells : told → (s : Told) × (disk.told committer.disk ≡ Some s)

@@ -8,7 +8,7 @@ ghost use Rattle.facet_model.specs.Flags.{Config};
 ghost use Rattle.taxo_cache.specs.Seen.{labels_of};
 ghost use Rattle.commit_turns.specs.Ending.{Lasts, FailsWith};
 ghost use Rattle.commit_turns.specs.Frames.{HasNumbers};
-ghost use Rattle.commit_turns.specs.Points.{last_of};
+ghost use Rattle.commit_turns.specs.Points.{count_after, last_of};
 ghost use Rattle.commit_turns.specs.Seen.{docs_of, ComesBack};
 
 use crate::start::Start;
@@ -41,11 +41,14 @@ pub fn end_commits<
     requires idle { MayTake seen_labels.old × MayTake seen_operations.old × MayTake token.old }
     requires tied { token.old.frame.identities ≡ seen_operations.old.identity ∷ seen_labels.old.identity ∷ [] }
 
-    // The disk counts at least the faults of each commit that failed on it, whose count rose since opening began, and no fewer than then.
+    // The disk counts at least the faults of each commit that failed on it, whose count rose since opening began, and no fewer than then: just what the last commit
+    // was told, where that failed on it, and else what it counted then.
     ensures counts { All (λ p. (count : ℕ) → p.failed ≡ Some count → count ≤ D.faults result) (entries token.new.seen) }
     ensures rose { (first moment faults failures : ℕ) → HasNumbers first moment faults failures token.old.frame
         → All (λ p. (count : ℕ) → p.failed ≡ Some count → Rose faults count) (entries token.new.seen) }
     ensures later { (first moment faults failures : ℕ) → HasNumbers first moment faults failures token.old.frame → faults ≤ D.faults result }
+    ensures exact { (first moment faults failures : ℕ) → HasNumbers first moment faults failures token.old.frame
+        → D.faults result ≡ count_after faults (last_of (entries token.new.seen)).failed }
 
     // Where the disk told its files when opening began, it still does, and its device failed exactly where a commit failed on it.
     ensures tells { N.told → (s : Told) × (D.told result ≡ Some s) }

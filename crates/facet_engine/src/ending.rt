@@ -8,7 +8,7 @@ ghost use Rattle.facet_names.specs.Labels.{IsLabelList};
 ghost use Rattle.facet_output.specs.Seen.{IsTold, labels_of};
 ghost use Rattle.commit_turns.specs.Ending.{Lasts, FailsWith};
 ghost use Rattle.commit_turns.specs.Frames.{HasNumbers};
-ghost use Rattle.commit_turns.specs.Points.{last_of};
+ghost use Rattle.commit_turns.specs.Points.{count_after, last_of};
 ghost use Rattle.commit_turns.specs.Seen.{docs_of};
 ghost use Rattle.facet_engine.specs.Ending.{AreUpTo, ArePublished, NamesOwn};
 ghost use Rattle.facet_engine.specs.Notes.{noted, AreOf};
@@ -60,11 +60,14 @@ impl<D: Disk, N: Name + Start> System<D, N> {
         ensures numbers { (made : ℕ) → HaveMade made first → AreUpTo made (noted result.notes) }
         ensures named { NamesSession 0 first → NamesOwn 0 result.notes }
 
-        // The disk counts at least the faults of each commit that failed on it, whose count rose since opening began, and no fewer than then.
+        // The disk counts at least the faults of each commit that failed on it, whose count rose since opening began, and no fewer than then: just what the last
+        // commit was told, where that failed on it, and else what it counted then.
         ensures counts { All (λ p. (count : ℕ) → p.failed ≡ Some count → count ≤ D.faults result.disk) (entries result.notes.commits.seen) }
         ensures rose { (next moment faults failures : ℕ) → HasNumbers next moment faults failures first.commits.frame
             → All (λ p. (count : ℕ) → p.failed ≡ Some count → Rose faults count) (entries result.notes.commits.seen) }
         ensures later { (next moment faults failures : ℕ) → HasNumbers next moment faults failures first.commits.frame → faults ≤ D.faults result.disk }
+        ensures exact { (next moment faults failures : ℕ) → HasNumbers next moment faults failures first.commits.frame
+            → D.faults result.disk ≡ count_after faults (last_of (entries result.notes.commits.seen)).failed }
 
         // Where the disk told its files when opening began, it still does, and its device failed exactly where a commit failed on it.
         ensures tells { N.told → (s : Told) × (D.told result.disk ≡ Some s) }

@@ -11,7 +11,7 @@ ghost use Rattle.facet_words.specs.Sessions.CommandViews.{order_view};
 ghost use Rattle.facet_words.specs.Sessions.Laws.{lines_rise};
 ghost use Rattle.commit_turns.specs.Ending.{Lasts, FailsWith};
 ghost use Rattle.commit_turns.specs.Frames.{HasNumbers};
-ghost use Rattle.commit_turns.specs.Points.{last_of};
+ghost use Rattle.commit_turns.specs.Points.{count_after, last_of};
 ghost use Rattle.commit_turns.specs.Seen.{docs_of};
 ghost use Rattle.facet_engine.specs.Notes.{noted};
 ghost use Rattle.facet_engine.specs.Systems.{BelongsTo};
@@ -112,11 +112,14 @@ pub fn run_to_end<
     ensures sessions { result.ended.trace.sessions.items ≡ sessions_in (history_of (noted result.ended.notes)) }
     ensures list { IsLabelList (labels_of (noted result.ended.notes)) }
 
-    // The disk counts at least the faults of each commit that failed on it, whose count rose since opening began, and no fewer than then.
+    // The disk counts at least the faults of each commit that failed on it, whose count rose since opening began, and no fewer than then: just what the last commit
+    // was told, where that failed on it, and else what it counted then.
     ensures counts { All (λ p. (count : ℕ) → p.failed ≡ Some count → count ≤ D.faults result.ended.disk) (entries result.ended.notes.commits.seen) }
     ensures rose { (next moment faults failures : ℕ) → HasNumbers next moment faults failures first.commits.frame
         → All (λ p. (count : ℕ) → p.failed ≡ Some count → Rose faults count) (entries result.ended.notes.commits.seen) }
     ensures later { (next moment faults failures : ℕ) → HasNumbers next moment faults failures first.commits.frame → faults ≤ D.faults result.ended.disk }
+    ensures exact { (next moment faults failures : ℕ) → HasNumbers next moment faults failures first.commits.frame
+        → D.faults result.ended.disk ≡ count_after faults (last_of (entries result.ended.notes.commits.seen)).failed }
 
     // Where the disk told its files when opening began, it still does, and its device failed exactly where a commit failed on it.
     ensures tells { N.told → (s : Told) × (D.told result.ended.disk ≡ Some s) }

@@ -3,7 +3,7 @@ use Rattle.std.proofs.Common.{◌≡◌, ◌∙◌, ℕ, ◌≤◌, List, [], �
 use Rattle.std.specs.Prelude.{All}
 use Rattle.chronicle.specs.History.{entries}
 use Rattle.commit_turns.specs.Ending.{FailsWith, Lasts}
-use Rattle.commit_turns.specs.Points.{last_of}
+use Rattle.commit_turns.specs.Points.{count_after, last_of}
 use Rattle.commit_turns.specs.Seen.{docs_of}
 use Rattle.facet_disk.specs.Images.{Told}
 use Rattle.facet_disk.specs.declared.disk.Disk.{Ghosts}
@@ -32,6 +32,7 @@ module _ {D : Type 0} (ghosts : Ghosts D) (config : Config) (notes : Notes) (old
   pub record Leaves : Type 0 where
     pub counts : All (λ (p : CommitPoint). (count : ℕ) → p.failed ≡ Some count → count ≤ ghosts.faults new) (entries notes.commits.seen)
     pub rose : All (λ (p : CommitPoint). (count : ℕ) → p.failed ≡ Some count → Rose (ghosts.faults old) count) (entries notes.commits.seen)
+    pub exact : ghosts.faults new ≡ count_after (ghosts.faults old) (last_of (entries notes.commits.seen)).failed
     pub tells : told → (s : Told) × (ghosts.told new ≡ Some s)
     pub failed : told → FailsWith ghosts (ghosts.failures old) (last_of (entries notes.commits.seen)).failed new
     pub lasts : settled → Lasts ghosts config (ghosts.moment old) (labels_of (noted notes)) (docs_of notes.operations.seen) (entries notes.commits.seen) new
@@ -42,6 +43,7 @@ module _ {D : Type 0} (ghosts : Ghosts D) (config : Config) (notes : Notes) (old
       let documents : docs (history_of (noted notes)) ≡ docs_of notes.operations.seen = docs_are notes.operations.seen in
       record {
         counted = subst (λ (l : List CommitPoint). All (CountsFault ghosts old new) l) (sym points) (λ k p lt count failed. (leaves.rose k p lt count failed, leaves.counts k p lt count failed));
+        exact = leaves.exact ∙ ap (λ (l : List CommitPoint). count_after (ghosts.faults old) (last_of l).failed) (sym points);
         tells = λ t tells. leaves.tells (is_told t tells);
         failed = λ t tells. subst (λ (l : List CommitPoint). FailsWith ghosts (ghosts.failures old) (last_of l).failed new) (sym points) (leaves.failed (is_told t tells));
         lasts = λ t tells was.

@@ -3,7 +3,7 @@ use Rattle.std.specs.Prelude.{◌≡◌, ◌≤◌, ◌<◌, ◌+◌, ◌*◌, �
 use Rattle.std.specs.List.{list_all}
 use Rattle.std.specs.Io.KnownBytes.{Appends, Consumes, IsAtEnd}
 use Rattle.commit_turns.specs.Ending.{FailsWith, Lasts}
-use Rattle.commit_turns.specs.Points.{last_of}
+use Rattle.commit_turns.specs.Points.{count_after, last_of}
 use Rattle.commit_turns.specs.Recovery.{docs_found}
 use Rattle.facet_disk.specs.declared.disk.Disk.{Ghosts}
 use Rattle.facet_disk.specs.Images.{Image, Told}
@@ -92,10 +92,12 @@ CountsFault ghosts old new point = (count : ℕ) → point.failed ≡ Some count
 abbrev pub points_of : Entries Point → List CommitPoint
 points_of commits = map (λ e. record { operations = e.1.operations; labels = e.1.labels; failed = e.1.failed }) commits
 
--- What the disk keeps of the labels, the operations and the commits that there are at the end. It tells its files where it told them; there the device failed
--- exactly where a commit did. Where it was settled too, what was committed lasts.
+-- What the disk keeps of the labels, the operations and the commits that there are at the end. Its count of faults is what the last commit was told, where that
+-- failed on it, and else as it was. It tells its files where it told them; there the device failed exactly where a commit did. Where it was settled too, what was
+-- committed lasts.
 pub record Keeps {D : Type 0} (ghosts : Ghosts D) (config : Config) (last : Seen) (old new : D) : Type 0 where
   pub counted : All (CountsFault ghosts old new) (points_of last.commits)
+  pub exact : ghosts.faults new ≡ count_after (ghosts.faults old) (last_of (points_of last.commits)).failed
   pub tells : StillTells ghosts old new
   pub failed : (t : Told) → ghosts.told old ≡ Some t → FailsWith ghosts (ghosts.failures old) (last_of (points_of last.commits)).failed new
   pub lasts : (t : Told) → ghosts.told old ≡ Some t → IsSettled ghosts config t old

@@ -4,11 +4,11 @@ use Rattle.facet_disk.specs.Calls.{Rose}
 use Rattle.facet_model.proofs.ConfigTexts.{config_told}
 use Rattle.taxo_cache.specs.Seen.{labels_of}
 use Rattle.commit_turns.specs.Ending.{Lasts, FailsWith}
-use Rattle.commit_turns.specs.Points.{last_of}
+use Rattle.commit_turns.specs.Points.{count_after, last_of}
 use Rattle.commit_turns.specs.Seen.{docs_of}
 use Rattle.pair_manager.specs.declared.point.CommitPoint.{CommitPoint}
 use Rattle.commit_turns.proofs.Carried.{stands_more}
-use Rattle.commit_turns.proofs.Ended.{counts, rose, fails_with, lasts}
+use Rattle.commit_turns.proofs.Ended.{count_is, counts, rose, fails_with, lasts}
 use Rattle.commit_turns.proofs.Prefixed.{labels_on, docs_on}
 use Rattle.commit_turns.proofs.ending.end_commits.Goals as goal
 
@@ -41,6 +41,19 @@ returns-clause-later g c first moment faults failures numbers =
     let are : v.begun.value.state.next ∷ d.moment v.start.value ∷ d.faults v.start.value ∷ d.failures v.start.value ∷ [] ≡ first ∷ moment ∷ faults ∷ failures ∷ [] = ap (λ f. f.numbers) frame ∙ numbers in
     let same : d.faults v.start.value ≡ faults = cc are in
     subst (λ x. faults ≤ d.faults x) (sym c.into_disk.ensures) (omega (arith, same, c.end-committer.ensures.value.0.counted))
+
+pub returns-clause-exact : goal.returns-clause-exact
+returns-clause-exact g c first moment faults failures numbers =
+    let d = g.D.Disk in
+    let n = g.N.Start in
+    let v = c.end-committer.result in
+    let points = entries c.end-committer.new.token.seen in
+    let frame = c.end-committer.ensures.value.1 ∙ ap (λ t. t.frame) c.end-committer.ensures.ended in
+    let are : v.begun.value.state.next ∷ d.moment v.start.value ∷ d.faults v.start.value ∷ d.failures v.start.value ∷ [] ≡ first ∷ moment ∷ faults ∷ failures ∷ [] = ap (λ f. f.numbers) frame ∙ numbers in
+    let same : d.faults v.start.value ≡ faults = cc are in
+    ap d.faults c.into_disk.ensures
+    ∙ count_is d n.told n.settled v.start.value v.begun.value.state v.committer v.last (labels_of v.labels.seen) (docs_of v.operations.seen) points c.end-committer.ensures.value.0
+    ∙ ap (λ (x : ℕ). count_after x (last_of points).failed) same
 
 pub returns-clause-tells : goal.returns-clause-tells
 returns-clause-tells g c is =

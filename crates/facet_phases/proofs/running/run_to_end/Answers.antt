@@ -13,7 +13,7 @@ use Rattle.facet_words.specs.Sessions.CommandViews.{order_view}
 use Rattle.facet_words.specs.declared.sessions.command.Order.{Order}
 use Rattle.commit_turns.specs.Ending.{Lasts, FailsWith}
 use Rattle.commit_turns.specs.Frames.{HasNumbers}
-use Rattle.commit_turns.specs.Points.{last_of}
+use Rattle.commit_turns.specs.Points.{count_after, last_of}
 use Rattle.commit_turns.specs.Seen.{docs_of}
 use Rattle.pair_manager.specs.declared.point.CommitPoint.{CommitPoint}
 use Rattle.facet_engine.specs.declared.notes.Notes.{Notes}
@@ -55,6 +55,11 @@ returns-clause-rose g c next moment faults failures numbers =
 pub returns-clause-later : goal.returns-clause-later
 returns-clause-later g c next moment faults failures numbers =
     c.end-ended.ensures.later next moment faults failures (subst (λ (f : Frame). HasNumbers next moment faults failures f) (sym c.run_sessions-result.ensures.frames.1) numbers)
+
+pub returns-clause-exact : goal.returns-clause-exact
+returns-clause-exact g c next moment faults failures numbers =
+    subst (λ (n : Notes). g.D.Disk.faults c.end-ended.result.disk ≡ count_after faults (last_of (entries n.commits.seen)).failed) (sym c.spread_all.ensures.notes)
+    (c.end-ended.ensures.exact next moment faults failures (subst (λ (f : Frame). HasNumbers next moment faults failures f) (sym c.run_sessions-result.ensures.frames.1) numbers))
 
 pub returns-clause-failed : goal.returns-clause-failed
 returns-clause-failed g c next moment faults failures told numbers =

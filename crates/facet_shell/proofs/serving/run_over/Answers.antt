@@ -77,6 +77,7 @@ returns-in-Ok g c =
     let kept = keeps disk s.settings.config ended.notes start ended.disk g.N.Start.told g.N.Start.settled c.requires.told.1 c.requires.settled.1 (record {
       counts = r.counts;
       rose = r.rose _ _ _ _ e.numbers;
+      exact = r.exact _ _ _ _ e.numbers;
       tells = r.tells;
       failed = λ told. r.failed _ _ _ _ told e.numbers;
       lasts = λ settled. r.lasts s.settings.config _ _ _ _ settled texts e.numbers;
