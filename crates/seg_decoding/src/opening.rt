@@ -59,9 +59,9 @@ fn opened(alloc: Global, documents: u32, bytes: Vec<u8>) -> Result<Segment, Stor
 /// each document: a leaf that is none of the labels is told where it stands, a document that is not accepted where it begins. In the end each byte is
 /// compared. Beside a refused allocation it answers that there is no memory where the documents have 2^32 terms or more.
 ///
-/// Where the segment is answered, no document is made, and it takes in between 8 bytes for each label, 16 for each term and some 150 for each label that a
-/// document has. Else it makes the documents and the segment anew, which takes the time and memory of adding them all. It keeps the given bytes and their
-/// index, 16 bytes a document and 8 a term.
+/// A segment that is answered is read once, and no document is made: in between that takes 8 bytes for each label that there is, 16 for each term, and
+/// some 150 for each label that a document has. For another one the documents and the segment are made anew, to find the first fault, which takes the time
+/// and memory of adding them all. It keeps the given bytes and their index, 16 bytes a document and 8 a term.
 pub fn open_stored(
     alloc: Global,
     config: &FacetsConfig,

@@ -157,8 +157,14 @@ impl Verifier {
     }
 }
 
-/// It is Ok only where each record is right, and the terms and places that are stored are exactly those of the documents. It makes no document: it takes
-/// 8 bytes for each label and each term, and some 150 for each label that a document has.
+// Room for all labels is little beside the documents.
+fn has_many_documents(labels: u32, docs: u32) -> bool {
+    labels as u64 <= 64 * (docs as u64 + 64)
+}
+
+/// It is Ok only where each record is right, and the terms and places that are stored are exactly those of the documents. It makes no document, and looks
+/// each label up once: what is known of it then serves each document that has it. Where there are many labels and few documents it looks at nothing, since
+/// then it would save nothing.
 pub(crate) fn verify(
     alloc: Global,
     config: &FacetsConfig,
@@ -171,8 +177,12 @@ pub(crate) fn verify(
     ensures theirs { OnOk result (AreTheirs (map (doc_in labels.now) segment.now.records) segment.now.terms) }
     ensures list { OnOk result (IsLabelList labels.now) }
 {
+    let labels_known = labels.size();
+    if !has_many_documents(labels_known, segment.docs()) {
+        return Err(Unlike::Differs);
+    }
     let mut verifier = Verifier {
-        met: MetLabels::new(alloc, labels.size() as usize)?,
+        met: MetLabels::new(alloc, labels_known as usize)?,
         walk: Walk::new(alloc, segment.terms())?,
         leaves: Vec::new(alloc),
         counted: Vec::new(alloc),
