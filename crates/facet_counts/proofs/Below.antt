@@ -1,10 +1,10 @@
 -- The counts below a path are those of the documents that were added.
-use Rattle.std.proofs.Common.{◌≡◌, ℕ, zero, suc, ◌+◌, ◌<◌, ◌≤◌, Bool, true, false, not, ◌&&◌, ◌||◌, ◌==◌, cond, ltb, List, [], ◌∷◌, ◌++◌, length, map, get_or, slice_get, Option, Some, None, pos, negsuc, refl, sym, ap, subst, ◌∙◌, arith}
-use Rattle.std.specs.Prelude.{All, sum_by, nat_lt}
+use Rattle.std.proofs.Common.{◌≡◌, ℕ, zero, suc, ◌+◌, ◌<◌, Bool, true, false, not, ◌&&◌, ◌||◌, ◌==◌, cond, ltb, List, [], ◌∷◌, ◌++◌, length, map, get_or, slice_get, Option, Some, None, pos, negsuc, refl, sym, ap, subst, ◌∙◌, arith}
+use Rattle.std.specs.Prelude.{sum_by, nat_lt}
 use Rattle.std.specs.Option.{option_map_or}
 use Rattle.std.specs.List.{AllZip}
 use Rattle.std.proofs.lemmas.Bool.{ne_eqb, ltb-true, or_right, and_from}
-use Rattle.std.proofs.lemmas.List.{length-append, get_or-map, length-map}
+use Rattle.std.proofs.lemmas.List.{length-append}
 use Rattle.std.proofs.lemmas.List.Elements.{All-nil}
 use Rattle.std.proofs.lemmas.List.Sums.{sum_by-cons}
 use Rattle.std.proofs.lemmas.Option.{get_or_from_slice_get, slice_get_within}
@@ -43,21 +43,6 @@ module _ (counts : Totals) (kept : IsTotals counts) (path : List (List ℕ)) (so
           let root : path ≡ [] = sym (get_or_from_slice_get counts.labels 0 path [] label) ∙ root_first counts.labels kept.list [] in
           absurd (omega (arith, ap length root))
       by (suc ord) label = omega arith
-
-  count_small : (part : List ℕ) → count_at counts.labels counts.totals (path ++ part ∷ []) ≤ 1000000
-  count_small part = by (place counts.labels (path ++ part ∷ [])) refl
-    where
-      by : (o : Option ℕ) → place counts.labels (path ++ part ∷ []) ≡ o → option_map_or (λ k. get_or counts.totals k 0) (place counts.labels (path ++ part ∷ [])) 0 ≤ 1000000
-      by None e = subst (λ o. option_map_or (λ k. get_or counts.totals k 0) o 0 ≤ 1000000) (sym e) (omega arith)
-      by (Some q) e = let at = at_child part q e in subst (λ o. option_map_or (λ k. get_or counts.totals k 0) o 0 ≤ 1000000) (sym e) (kept.small q at.0 at.1)
-
-  -- the counts of a listing are at most a million
-  pub children_small : (ys : List Child) → IsListing (λ part. count_at counts.labels counts.totals (path ++ part ∷ [])) (map counted_child ys) → All (λ (c : Child). c.count ≤ 1000000) ys
-  children_small ys listing = λ k d lt.
-      let is = listing.counted k (counted_child d) (omega (arith, length-map ys counted_child)) in
-      let entry = get_or-map counted_child ys k d (counted_child d) lt in
-      let number : (get_or ys k d).count ≡ count_at counts.labels counts.totals (path ++ (get_or ys k d).part ∷ []) = sym (ap (λ (e : PartCount). e.1) entry) ∙ is ∙ ap (λ (e : PartCount). count_at counts.labels counts.totals (path ++ e.0 ∷ [])) entry in
-      omega (arith, number, count_small (get_or ys k d).part)
 
   module _ (docs : List Doc) (lists : List (List ℕ)) (are : AreCounts counts lists) (all : AllZip (IsListOf counts.config counts.labels) lists docs) where
     -- the count of a child is the number of documents that have it

@@ -12,3 +12,4 @@ pub mod Listed
 pub mod Below
 pub mod Results
 pub mod EachDim
+pub mod Ordered

@@ -10,7 +10,7 @@ use Rattle.std.proofs.lemmas.Bool.{eq-eqb, cases_eq, false_from_ne_true, and_lef
 use Rattle.std.proofs.lemmas.List.{length-append, get_or-map, length-map}
 use Rattle.std.proofs.lemmas.List.Elements.{All-nil, All-cons}
 use Rattle.std.proofs.lemmas.List.Sums.{sum_by-cons}
-use Rattle.std.proofs.lemmas.List.Sorted.{IsPermutation-map, All-permutation, sum_by-IsPermutation}
+use Rattle.std.proofs.lemmas.List.Sorted.{All-permutation, sum_by-IsPermutation}
 use Rattle.std.proofs.lemmas.Option.{same_Some, none-some, slice_get-get_or, get_or_from_slice_get, slice_get_within}
 use Rattle.facet_names.specs.Paths.{last_part}
 use Rattle.facet_names.specs.Labels.{IsLabelList, above, place}
@@ -64,7 +64,7 @@ falling_one passes hit (suc n) q lt here others = by (cases_eq n q) (λ low. fal
 abbrev pub child_cmp : Child → Child → Ordering
 child_cmp = then_cmp (flip_args (on (λ (c : Child). c.count) nat_cmp)) (on (λ c. c.part) (slice_cmp nat_cmp))
 
-ordered_images : (ys : List Child) → IsSorted child_cmp ys → IsSorted listing_cmp (map counted_child ys)
+pub ordered_images : (ys : List Child) → IsSorted child_cmp ys → IsSorted listing_cmp (map counted_child ys)
 ordered_images [] h = λ k d low high. absurd (omega arith)
 ordered_images (y ∷ ys) h = λ k d low high.
     let long : k + 1 < length (y ∷ ys) = omega (arith, length-map (y ∷ ys) counted_child) in
@@ -177,15 +177,13 @@ module _ (labels : List (List (List ℕ))) (is : IsLabelList labels) (totals : L
           by true e rest = entry_counted n (entries_of labels totals (falling (is_child labels ord) n)) (omega arith) e rest (nat_lt 0 (get_or totals n 0))
           by false e rest = rest
 
-  -- The children, sorted, are the listing.
-  pub listing_is : (xs ys : List Child) → map counted_child xs ≡ children_at labels totals ord → IsPermutation xs ys → IsSorted child_cmp ys → IsListing (λ part. count_at labels totals (path ++ part ∷ [])) (map counted_child ys)
-  listing_is xs ys same moved sorted =
-      let images : IsPermutation (map counted_child xs) (map counted_child ys) = IsPermutation-map counted_child xs ys moved in
-      record {
-        each_once = λ q. sum_by-IsPermutation (λ c. cond (bytes_eq q c.0) 1 0) (map counted_child xs) (map counted_child ys) images ∙ ap (count_by (λ (e : PartCount). bytes_eq q e.0)) same ∙ each_once q;
-        counted = All-permutation (λ (e : PartCount). e.1 ≡ count_at labels totals (path ++ e.0 ∷ [])) (map counted_child xs) (map counted_child ys) images (subst (All (λ (e : PartCount). e.1 ≡ count_at labels totals (path ++ e.0 ∷ []))) (sym same) each_counted);
-        ordered = ordered_images ys sorted;
-      }
+  -- The children, in order, are the listing.
+  pub listing_from : (ys : List PartCount) → IsPermutation (children_at labels totals ord) ys → IsSorted listing_cmp ys → IsListing (λ part. count_at labels totals (path ++ part ∷ [])) ys
+  listing_from ys moved sorted = record {
+    each_once = λ q. sum_by-IsPermutation (λ c. cond (bytes_eq q c.0) 1 0) (children_at labels totals ord) ys moved ∙ each_once q;
+    counted = All-permutation (λ (e : PartCount). e.1 ≡ count_at labels totals (path ++ e.0 ∷ [])) (children_at labels totals ord) ys moved each_counted;
+    ordered = sorted;
+  }
 
 -- where the path is no label, none below it is
 pub absent_below : (labels : List (List (List ℕ))) → IsLabelList labels → (path : List (List ℕ)) → place labels path ≡ None → (part : List ℕ) → place labels (path ++ part ∷ []) ≡ None

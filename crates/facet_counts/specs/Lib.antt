@@ -3,6 +3,7 @@ pub mod Tallies
 pub mod Climbs
 pub mod Kept
 pub mod Children
+pub mod Firsts
 pub mod Dims
 pub mod Asks
 pub mod Laws

@@ -2,7 +2,7 @@
 ghost use Rattle.std.specs.Prelude.{◌≡◌, ◌<◌, ◌≤◌, ◌++◌, ◌*◌, ◌∷◌, [], All, length, map, sum_by, IfOk, OnOk};
 ghost use Rattle.facet_names.specs.Paths.{last_part};
 ghost use Rattle.facet_model.specs.Listing.{counted_child};
-ghost use Rattle.facet_counts.specs.Children.{entries_of, children_at};
+ghost use Rattle.facet_counts.specs.Children.{entry_of, entries_of, children_at};
 
 use crate::links::{child_of, sibling_of};
 use facet_model::{Child, Word};
@@ -15,6 +15,23 @@ fn last_part(alloc: Global, path: &Path) -> Result<Word, NoMemory>
     ensures { IfOk result (λ w. w ≡ last_part path.now) }
 {
     Ok(Word::new(alloc, path.part(path.len() - 1))?.unwrap())
+}
+
+/// A child with its count.
+pub fn child_with(
+    alloc: Global,
+    view: &TaxoView,
+    totals: &[u32],
+    child: u32,
+) -> Result<Child, NoMemory>
+    requires some { 0 < child }
+    requires within { child < length view.now }
+    requires sized { length totals.now ≡ length view.now }
+    ensures { IfOk result (λ c. counted_child c ≡ entry_of view.now totals.now child) }
+{
+    let part = last_part(alloc, view.path_of(child))?;
+    let count = totals[child as usize];
+    Ok(Child { part, count })
 }
 
 // Notes a child, where its count is above 0.
@@ -30,10 +47,9 @@ fn note(
     requires sized { length totals.now ≡ length view.now }
     ensures { OnOk result (map counted_child children.new.items ≡ map counted_child children.old.items ++ entries_of view.now totals.now (child ∷ [])) }
 {
-    let count = totals[child as usize];
-    if count > 0 {
-        let part = last_part(alloc, view.path_of(child))?;
-        children.push(Child { part, count })?;
+    if totals[child as usize] > 0 {
+        let one = child_with(alloc, view, totals, child)?;
+        children.push(one)?;
     }
     Ok(())
 }

@@ -11,8 +11,8 @@ ghost use Rattle.facet_counts.specs.Kept.{IsTotals};
 ghost use Rattle.facet_counts.specs.Lists.{IsListOf, lists_at};
 ghost use Rattle.facet_counts.specs.Tallies.{AreCounts};
 
-use crate::children::{children_below, sum_of};
 use crate::dims::{note_dim, order_dims};
+use crate::firsts::{Firsts, first_below};
 use crate::links::{child_of, sibling_of};
 use facet_config::FacetsConfig;
 use facet_model::{DimFlags, FacetResult};
@@ -84,7 +84,7 @@ impl<'a> Counts<'a> {
     /// The `n` children of a path that the most documents have, as Lucene's `getTopChildren`; ties go by the components' bytes. There is no
     /// result where no document has a label below the path.
     ///
-    /// It walks over the path's children, and takes memory for each that has a document.
+    /// It walks over the path's children, and takes memory for the `n` that it shows; where `n` is above 64, for each that has a document.
     pub fn top(&self, alloc: Global, path: &Path, n: u32) -> Result<Option<FacetResult>, NoMemory>
         requires { 0 < n }
         ensures { IfOk result (λ r. (docs : List Doc) (lists : List (List ℕ)) → AreCounts self.now lists
@@ -112,21 +112,22 @@ impl<'a> Counts<'a> {
         ensures { IfOk result (λ r. (docs : List Doc) (lists : List (List ℕ)) → AreCounts self.now lists
             → AllZip (IsListOf self.now.config self.now.labels) lists docs → IsTop self.now.config docs path.now n (option_map result_view r)) }
     {
-        let mut children = children_below(alloc, self.view, &self.totals, ord)?;
-        children.sort()?;
-        if children.is_empty() {
+        let Firsts {
+            children,
+            sum,
+            number,
+        } = first_below(alloc, self.view, &self.totals, ord, n)?;
+        if number == 0 {
             return Ok(None);
         }
-        let child_count = children.len() as u32;
         let own = self.totals[ord as usize];
-        let value = value_for(dim_flags, own, sum_of(&children));
-        children.truncate(n as usize);
+        let value = value_for(dim_flags, own, sum);
         let path = path.dup(alloc)?;
         Ok(Some(FacetResult {
             path,
             value,
             children,
-            child_count,
+            child_count: number,
         }))
     }
 

@@ -8,6 +8,7 @@ mod children;
 mod counter;
 mod counts;
 mod dims;
+mod firsts;
 mod laws;
 mod links;
 mod rolled;

@@ -1,0 +1,21 @@
+-- The first of some children in the order of a listing.
+use Rattle.std.specs.Prelude.{◌≡◌, ◌<◌, ◌≤◌, ◌*◌, ℕ, List, length, take, map, sum_by, All}
+use Rattle.std.specs.List.Sorted.{IsPermutation, IsSorted}
+use Rattle.facet_model.specs.Listing.{PartCount, listing_cmp}
+use Rattle.facet_counts.specs.Children.{entry_of}
+use Rattle.facet_counts.specs.declared.firsts.Chosen.{Chosen}
+
+-- These children, put in order; the first n of them are shown, and all are added up and counted.
+pub record AreFirst (n : ℕ) (children shown : List PartCount) (sum number : ℕ) : Type 0 where
+  pub ordered : List PartCount
+  pub moved : IsPermutation children ordered
+  pub sorted : IsSorted listing_cmp ordered
+  pub first : shown ≡ take n ordered
+  pub total : sum ≡ sum_by (λ c. c.1) ordered
+  pub as_many : number ≡ length ordered
+
+-- The first of these children, by their ordinals.
+pub record AreChosen (labels : List (List (List ℕ))) (totals : List ℕ) (n : ℕ) (children : List PartCount) (chosen : Chosen) : Type 0 where
+  pub first : AreFirst n children (map (entry_of labels totals) chosen.ords.items) chosen.sum chosen.number
+  pub within : All (λ ord. (0 < ord) × (ord < length labels)) chosen.ords.items
+  pub small : chosen.sum ≤ 1000000 * chosen.number
