@@ -3,3 +3,4 @@ pub mod Walks
 pub mod Unions
 pub mod Choices
 pub mod Orders
+pub mod Marked

@@ -1,8 +1,10 @@
 ghost use Rattle.std.specs.Prelude.{◌≡◌, ◌≤◌, ◌<◌};
 ghost use Rattle.seg_postings.specs.Rising.{IsRising, IsNext, first_of, from_place};
 ghost use Rattle.seg_postings.specs.Steps.{IsPeeked};
+ghost use Rattle.plan_places.specs.Marks.{IsMarkable, AreMarkedToo};
 ghost use Rattle.plan_places.specs.Nodes.{leaf_left};
 
+use place_bits::Bits;
 use seg_postings::{Places, PostingsCursor};
 
 /// The places of a list, the first of which was looked at and is kept.
@@ -30,6 +32,20 @@ impl<'a> Leaf<'a> {
         }
         self.head = sought(&mut self.cursor, place);
         self.head
+    }
+
+    /// Marks all places left.
+    pub(crate) fn mark(self, bits: &mut Bits)
+        requires kept { IsPeeked self.head self.cursor }
+        requires room { IsMarkable bits.old (leaf_left self) }
+        ensures { AreMarkedToo (leaf_left self.entry) bits.new bits.old }
+    {
+        let Some(head) = self.head else {
+            return;
+        };
+        let mut cursor = self.cursor;
+        bits.add(head);
+        bits.mark(&mut cursor);
     }
 }
 

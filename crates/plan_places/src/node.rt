@@ -2,13 +2,16 @@ ghost use Rattle.std.specs.Prelude.{◌≡◌, ◌≤◌, ◌<◌, ◌&&◌, not
 ghost use Rattle.std.specs.List.{range_with_len, All};
 ghost use Rattle.seg_postings.specs.Rising.{IsRising, is_in, first_of};
 ghost use Rattle.seg_postings.specs.Sets.{without};
+ghost use Rattle.plan_places.specs.Marks.{IsMarkable, AreMarkedToo};
 ghost use Rattle.plan_places.specs.Planned.{moved_to, any_of, all_have};
 
 use crate::conjunction::Conjunction;
 use crate::leaf::Leaf;
+use crate::places::PlanPlaces;
 use crate::range::Range;
 use crate::union::any_at_least;
 use facet_names::NoMemory;
+use place_bits::Bits;
 use seg_postings::{Places, Postings};
 use std::alloc::Global;
 use std::marker::Model;
@@ -139,6 +142,34 @@ impl<'a> PlanNode<'a> {
         })
     }
 
+    /// About how many places there are at most: what the node's parts told when it was made. A choice of how to go over them, and no clause, may rest
+    /// on it.
+    pub fn at_most(&self) -> u64 {
+        self.at_most
+    }
+
+    /// Whether its places are those of lists, which `mark` runs through without asking for one after the other. No clause may rest on it either.
+    pub fn is_of_lists(&self) -> bool {
+        matches!(self.kind, Kind::Term(_) | Kind::Any(_))
+    }
+
+    /// Marks all places. A list is run through, and so are the lists of a union; any other node is asked place by place.
+    pub fn mark(self, bits: &mut Bits)
+        requires { IsMarkable bits.old self.left }
+        ensures { AreMarkedToo self.entry.left bits.new bits.old }
+    {
+        match self.kind {
+            Kind::Any(children) => mark_each(children, bits),
+            kind => mark_one(
+                PlanNode {
+                    kind,
+                    at_most: self.at_most,
+                },
+                bits,
+            ),
+        }
+    }
+
     /// The first place left that is at least `place`. All before it are passed, and it is not.
     #[cycle(at_least)]
     pub fn at_least(&mut self, place: u64) -> Option<u32>
@@ -152,6 +183,32 @@ impl<'a> PlanNode<'a> {
             Kind::Term(leaf) => leaf.at_least(place),
             Kind::Any(children) => any_at_least(children, place),
             Kind::All(conjunction) => conjunction.at_least(place),
+        }
+    }
+}
+
+// Marks the places of each child.
+fn mark_each(children: Vec<PlanNode<'_>>, bits: &mut Bits)
+    requires { IsMarkable bits.old (any_of children.items) }
+    ensures { AreMarkedToo (any_of children.entry.items) bits.new bits.old }
+{
+    let mut children = children;
+    while let Some(child) = children.pop() {
+        mark_one(child, bits);
+    }
+}
+
+// Marks the places of a node: of a list at once, and of any other node one after the other.
+fn mark_one(node: PlanNode<'_>, bits: &mut Bits)
+    requires { IsMarkable bits.old node.left }
+    ensures { AreMarkedToo node.entry.left bits.new bits.old }
+{
+    match node.kind {
+        Kind::Term(leaf) => leaf.mark(bits),
+        kind => {
+            let at_most = node.at_most;
+            let mut places = PlanPlaces::new(PlanNode { kind, at_most });
+            bits.mark(&mut places);
         }
     }
 }

@@ -6,3 +6,4 @@ pub mod Decoded
 pub mod Ready
 pub mod Gathered
 pub mod Answered
+pub mod Shared

@@ -26,7 +26,7 @@ pub same_all : (docs : List Doc) (f g : Doc → Bool) (nodes : List Planned) →
 same_all docs f g nodes same all = record { each = all.each; have = λ n doc there. all.have n doc there ∙ same doc }
 
 -- one node more
-all_have_more : (n : ℕ) (nodes : List Planned) (p : Planned) → all_have n (nodes ++ p ∷ []) ≡ (all_have n nodes && is_in n p.left)
+pub all_have_more : (n : ℕ) (nodes : List Planned) (p : Planned) → all_have n (nodes ++ p ∷ []) ≡ (all_have n nodes && is_in n p.left)
 all_have_more n [] p = and_true (is_in n p.left)
   where
     and_true : (b : Bool) → (b && true) ≡ b
@@ -66,7 +66,7 @@ each_rises docs [] all = All-nil (λ (p : Planned). IsRising p.left)
 each_rises docs (p ∷ ps) all = All-cons (λ (q : Planned). IsRising q.left) p ps (subst IsRising (sym all.0.1) (rising_places all.0.0 docs)) (each_rises docs ps all.1)
 
 -- where no document stands, no node has the place
-none_past : (docs : List Doc) (n : ℕ) (nodes : List Planned) → 0 < length nodes → slice_get docs n ≡ None → AllByRecursion (λ p. (other : Doc → Bool) × (p.left ≡ places other docs)) nodes → all_have n nodes ≡ false
+pub none_past : (docs : List Doc) (n : ℕ) (nodes : List Planned) → 0 < length nodes → slice_get docs n ≡ None → AllByRecursion (λ p. (other : Doc → Bool) × (p.left ≡ places other docs)) nodes → all_have n nodes ≡ false
 none_past docs n [] some none all = absurd (omega arith)
 none_past docs n (p ∷ ps) some none all = ap (λ b. b && all_have n ps) (ap (is_in n) all.0.1 ∙ is_in_places n all.0.0 docs ∙ ap (λ o. option_map_or all.0.0 o false) none)
 

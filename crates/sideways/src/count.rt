@@ -5,22 +5,21 @@ ghost use Rattle.facet_counts.specs.Tallies.{HasAdded};
 ghost use Rattle.sideways.specs.Counted.{AreCountable, AreWithin, lists_at, IsGrown};
 
 use facet_counts::Counter;
-use plan_places::PlanPlaces;
 use seg_file::Segment;
 use seg_postings::Places;
 
 /// Counts the records at the places, and says how many they are.
-pub(crate) fn count_places(
+pub(crate) fn count_places<P: Places>(
     segment: &Segment,
-    places: &mut PlanPlaces<'_>,
+    places: &mut P,
     counter: &mut Counter<'_>,
 ) -> u64
     requires countable { AreCountable counter.old.config counter.old.labels segment.now }
-    requires within { AreWithin segment.now places.old }
-    requires room { counter.old.added + length places.old ≤ 1000000 }
-    ensures grown { IsGrown counter.old counter.new (lists_at segment.now places.old) }
-    ensures number { result ≡ length places.old }
-    ensures end { places.new ≡ [] }
+    requires within { AreWithin segment.now (P.left places.old) }
+    requires room { counter.old.added + length (P.left places.old) ≤ 1000000 }
+    ensures grown { IsGrown counter.old counter.new (lists_at segment.now (P.left places.old)) }
+    ensures number { result ≡ length (P.left places.old) }
+    ensures end { P.left places.new ≡ [] }
 {
     let mut number = 0;
     while let Some(place) = places.next() {

@@ -4,6 +4,7 @@
 
 mod answer;
 mod ask;
+mod common;
 mod count;
 mod node;
 mod part;

@@ -7,11 +7,13 @@ ghost use Rattle.query_eval.specs.Segments.{HasTermsOf};
 ghost use Rattle.seg_postings.specs.Rising.{IsNext};
 ghost use Rattle.sideways.specs.Counted.{AreCountable, IsGrown, lifted_of, lists_at, passes_all};
 
+use crate::common::{are_many, in_common};
 use crate::count::{count_from, count_places};
 use crate::node::{joined, nodes_of};
 use facet_counts::Counter;
 use facet_model::Query;
 use facet_names::{NoMemory, Path};
+use place_bits::BitPlaces;
 use plan_places::PlanPlaces;
 use seg_file::Segment;
 use seg_postings::Places;
@@ -32,6 +34,8 @@ pub(crate) enum Left<'a> {
     From(u32),
     /// Those at the places of a plan.
     At(PlanPlaces<'a>),
+    /// Those at the places of a set.
+    Marked(BitPlaces),
 }
 
 impl<'a> Model for Part<'a> {
@@ -79,6 +83,11 @@ impl<'a> Part<'a> {
             let left = Left::From(0);
             return Ok(Part { segment, left });
         }
+        if are_many(&nodes, segment.docs()) {
+            let common = in_common(alloc, nodes, segment.docs())?;
+            let left = Left::Marked(common.into_places());
+            return Ok(Part { segment, left });
+        }
         let node = joined(alloc, nodes)?;
         let left = Left::At(PlanPlaces::new(node));
         Ok(Part { segment, left })
@@ -93,6 +102,7 @@ impl<'a> Part<'a> {
         match &mut self.left {
             Left::From(next) => take_below(next, self.segment.docs()),
             Left::At(places) => places.next(),
+            Left::Marked(places) => places.next(),
         }
     }
 
@@ -116,6 +126,7 @@ impl<'a> Part<'a> {
         match &mut self.left {
             Left::From(next) => count_from(self.segment, *next, counter),
             Left::At(places) => count_places(self.segment, places, counter),
+            Left::Marked(places) => count_places(self.segment, places, counter),
         }
     }
 

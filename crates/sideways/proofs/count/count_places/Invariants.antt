@@ -3,7 +3,7 @@ use Rattle.sideways.proofs.Walked.{IsWalked}
 use Rattle.sideways.proofs.count.count_places.Given as goal
 
 abbrev pub invariant-loop-place : goal.invariant-loop-place
-invariant-loop-place l = IsWalked l.segment l.fn.places l.places l.fn.counter l.counter l.number
+invariant-loop-place g l = IsWalked l.segment (g.P.Places.left l.fn.places) (g.P.Places.left l.places) l.fn.counter l.counter l.number
 
 abbrev pub decreases-loop-place : goal.decreases-loop-place
-decreases-loop-place l = length l.places
+decreases-loop-place g l = length (g.P.Places.left l.places)

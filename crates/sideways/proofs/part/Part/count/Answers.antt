@@ -5,10 +5,13 @@ use Rattle.sideways.specs.Counted.{AreCountable}
 use Rattle.sideways.specs.Parts.{left_of}
 use Rattle.sideways.specs.declared.part.Left.{Left}
 use Rattle.sideways.proofs.part.Part.count.Goals as goal
-use Rattle.sideways.proofs.part.Part.count.Goals.{in-From, in-At}
+use Rattle.sideways.proofs.part.Part.count.Goals.{in-From, in-At, in-Marked}
 
 pub count_places-requires-clause-countable : goal.count_places-requires-clause-countable
 count_places-requires-clause-countable c = subst (AreCountable c.args.counter.now.config c.args.counter.now.labels) (sym (ap (λ p. p.segment) c.self.view_is)) c.requires.countable
+
+pub count_places-requires-in-Marked-clause-countable : goal.count_places-requires-in-Marked-clause-countable
+count_places-requires-in-Marked-clause-countable c = subst (AreCountable c.args.counter.now.config c.args.counter.now.labels) (sym (ap (λ p. p.segment) c.self.view_is)) c.requires.countable
 
 pub count_from-requires-clause-countable : goal.count_from-requires-clause-countable
 count_from-requires-clause-countable c = subst (AreCountable c.args.counter.now.config c.args.counter.now.labels) (sym (ap (λ p. p.segment) c.self.view_is)) c.requires.countable
@@ -28,4 +31,5 @@ returns-clause-number c =
           w.result-is ∙ w.count_from.ensures.number
           ∙ sym (ap (λ p. length p.left) (sym c.self.view_is) ∙ ap (λ (l : Left). length (left_of segment l)) w.in-From.is ∙ length-range_with_len w.in-From.next (length segment.records - w.in-From.next))
       | in-At w ↦ w.result-is ∙ w.count_places.ensures.number ∙ sym (ap (λ p. length p.left) (sym c.self.view_is) ∙ ap (λ (l : Left). length (left_of segment l)) w.in-At.is)
+      | in-Marked w ↦ w.result-is ∙ w.count_places-in-Marked.ensures.number ∙ sym (ap (λ p. length p.left) (sym c.self.view_is) ∙ ap (λ (l : Left). length (left_of segment l)) w.in-Marked.is)
     ]

@@ -26,3 +26,10 @@ invariant_of-result-2 c =
     let docs = c.requires.0 in
     let test = passes_all (query_view c.args.query.now) c.args.drill.now (lifted_of c.args.lifted) in
     within_docs c.args.segment.now docs test c.new.result c.requires.1.records (c.new.ensures.left ∙ c.in_ok-node.ensures docs test (c.in_ok-nodes.ensures docs c.requires.1))
+
+pub invariant_of-result-then-are_many : goal.invariant_of-result-then-are_many
+invariant_of-result-then-are_many c =
+    let docs = c.requires.0 in
+    let test = passes_all (query_view c.args.query.now) c.args.drill.now (lifted_of c.args.lifted) in
+    let long : c.docs-then-are_many.result ≡ length docs = c.docs-then-are_many.ensures.number ∙ c.requires.1.records in
+    within_docs c.args.segment.now docs test c.into_places.result c.requires.1.records (c.into_places.ensures.places ∙ c.in_ok-common.ensures docs test long (c.in_ok-nodes.ensures docs c.requires.1))

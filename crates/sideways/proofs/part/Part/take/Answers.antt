@@ -8,7 +8,7 @@ use Rattle.sideways.specs.Parts.{IsLeft, left_of}
 use Rattle.sideways.specs.declared.part.Part.TheInside.{Inside}
 use Rattle.sideways.proofs.Walked.{next_within, next_record}
 use Rattle.sideways.proofs.part.Part.take.Goals as goal
-use Rattle.sideways.proofs.part.Part.take.Goals.{in-From, in-At}
+use Rattle.sideways.proofs.part.Part.take.Goals.{in-From, in-At, in-Marked}
 
 pub invariant_of-self : goal.invariant_of-self
 invariant_of-self c =
@@ -18,6 +18,9 @@ invariant_of-self c =
       | in-At w ↦
           let within : AreWithin segment w.in-At.places = subst (IsLeft segment) w.in-At.is c.self.invariant in
           subst (λ (x : Inside). IsLeft x.segment.now x.left) (sym w.self-inside-is) (next_within segment w.next.result w.in-At.places w.next.new.self within w.next.ensures.next)
+      | in-Marked w ↦
+          let within : AreWithin segment w.in-Marked.places = subst (IsLeft segment) w.in-Marked.is c.self.invariant in
+          subst (λ (x : Inside). IsLeft x.segment.now x.left) (sym w.self-inside-is) (next_within segment w.next-in-Marked.result w.in-Marked.places w.next-in-Marked.new.self within w.next-in-Marked.ensures.next)
     ]
 
 pub returns-clause-next : goal.returns-clause-next
@@ -36,6 +39,9 @@ returns-clause-next c =
       | in-At w ↦
           subst (λ (x : Inside). IsNext c.match-self.result c.args.self.now.left (left_of x.segment.now x.left)) (sym w.self-inside-is)
           (subst (λ (r : Option ℕ). IsNext r c.args.self.now.left w.next.new.self) (sym w.result-is) (subst (λ (old : List ℕ). IsNext w.next.result old w.next.new.self) (sym (left ∙ ap (left_of segment) w.in-At.is)) w.next.ensures.next))
+      | in-Marked w ↦
+          subst (λ (x : Inside). IsNext c.match-self.result c.args.self.now.left (left_of x.segment.now x.left)) (sym w.self-inside-is)
+          (subst (λ (r : Option ℕ). IsNext r c.args.self.now.left w.next-in-Marked.new.self) (sym w.result-is) (subst (λ (old : List ℕ). IsNext w.next-in-Marked.result old w.next-in-Marked.new.self) (sym (left ∙ ap (left_of segment) w.in-Marked.is)) w.next-in-Marked.ensures.next))
     ]
 
 pub returns-clause-within : goal.returns-clause-within
@@ -48,4 +54,7 @@ returns-clause-within c =
       | in-At w ↦
           let within : AreWithin segment w.in-At.places = subst (IsLeft segment) w.in-At.is c.self.invariant in
           subst (λ (r : Option ℕ). IfSome r (λ place. place < length segment.records)) (sym w.result-is) (next_record segment w.next.result w.in-At.places w.next.new.self within w.next.ensures.next)
+      | in-Marked w ↦
+          let within : AreWithin segment w.in-Marked.places = subst (IsLeft segment) w.in-Marked.is c.self.invariant in
+          subst (λ (r : Option ℕ). IfSome r (λ place. place < length segment.records)) (sym w.result-is) (next_record segment w.next-in-Marked.result w.in-Marked.places w.next-in-Marked.new.self within w.next-in-Marked.ensures.next)
     ])

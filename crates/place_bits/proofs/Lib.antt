@@ -1,0 +1,5 @@
+mod WordBits
+mod Lists
+mod Marks
+mod Firsts
+mod Fills

@@ -1,0 +1,83 @@
+ghost use Rattle.std.specs.Prelude.{◌≡◌, ◌<◌, ◌≤◌, ◌+◌, ◌*◌, ◌/◌, ◌&&◌, ◌∷◌, [], ℕ, IfOk};
+ghost use Rattle.std.specs.List.{range_with_len};
+ghost use Rattle.seg_postings.specs.Rising.{IsRising, is_in};
+ghost use Rattle.seg_postings.specs.Sets.{either};
+ghost use Rattle.place_bits.specs.Words.{AreBelow, empty_set, with_places};
+
+use crate::cursor::BitPlaces;
+use crate::words;
+use seg_postings::Places;
+use std::alloc::{AllocError, Global};
+use std::marker::Model;
+
+/// A set of places below a bound, a bit each. It takes memory when it is made, and no later call does.
+#[derive(Drop)]
+pub struct Bits {
+    words: Vec<u64>,
+}
+
+impl Model for Bits {
+    ghost use Rattle.std.specs.Prelude.{◌≤◌, length};
+    ghost use Rattle.place_bits.specs.Words.{Marked, marked};
+
+    ghost Value = { Marked };
+
+    ghost view = { λ b. marked b.words.items };
+
+    ghost invariant = { λ b. length b.words.items ≤ 67108864 };
+}
+
+impl Bits {
+    /// No places, with room for those below `docs`: an eighth of a byte for each.
+    pub fn none(alloc: Global, docs: u32) -> Result<Bits, AllocError>
+        ensures { IfOk result (λ b. b ≡ empty_set ((docs + 63) / 64)) }
+    {
+        let number = (docs as usize + 63) / 64;
+        let words = vec![in alloc; 0u64; number]?;
+        Ok(Bits { words })
+    }
+
+    /// Has the places below `docs` and no others, a word at a time.
+    pub fn fill(&mut self, docs: u32)
+        requires { docs ≤ 64 * self.old.words }
+        ensures { self.new ≡ with_places (range_with_len 0 docs) self.old }
+    {
+        words::fill(&mut self.words, docs);
+    }
+
+    /// Leaves the places that the other has too, a word at a time.
+    pub fn keep(&mut self, other: &Bits)
+        requires { self.old.words ≡ other.now.words }
+        ensures words { self.new.words ≡ self.old.words }
+        ensures kept { (n : ℕ) → is_in n self.new.places ≡ (is_in n self.old.places && is_in n other.now.places) }
+        ensures rising { IsRising self.new.places }
+    {
+        words::keep(&mut self.words, &other.words);
+    }
+
+    /// Adds one place, in constant time.
+    pub fn add(&mut self, place: u32)
+        requires { place < 64 * self.old.words }
+        ensures { self.new ≡ with_places (either (place ∷ []) self.old.places) self.old }
+    {
+        words::mark(&mut self.words, place);
+    }
+
+    /// Adds all places that are left.
+    pub fn mark<P: Places>(&mut self, places: &mut P)
+        requires { AreBelow (64 * self.old.words) (P.left places.old) }
+        ensures rising { IsRising (P.left places.old) }
+        ensures marked { self.new ≡ with_places (either self.old.places (P.left places.old)) self.old }
+        ensures end { P.left places.new ≡ [] }
+    {
+        words::mark_all(&mut self.words, places);
+    }
+
+    /// The places, one after the other.
+    pub fn into_places(self) -> BitPlaces
+        ensures places { result ≡ self.places }
+        ensures rising { IsRising result }
+    {
+        BitPlaces::new(self.words)
+    }
+}

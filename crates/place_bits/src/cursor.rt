@@ -1,0 +1,93 @@
+//! The places of words, one after the other.
+ghost use Rattle.std.specs.Prelude.{◌≡◌, ◌≤◌, ◌*◌, length};
+ghost use Rattle.seg_postings.specs.Rising.{IsRising, from_place};
+ghost use Rattle.place_bits.specs.Words.{IsFirstIn, members};
+
+use seg_postings::Places;
+use std::marker::Model;
+
+/// The places of a set, one after the other. `next` and `seek` look once at each word between the last place and the next one, and take no memory.
+#[derive(Drop)]
+pub struct BitPlaces {
+    words: Vec<u64>,
+    // where what is left begins
+    next: u64,
+}
+
+impl Model for BitPlaces {
+    ghost use Rattle.std.specs.Prelude.{List, ℕ, ◌≤◌, length};
+    ghost use Rattle.seg_postings.specs.Rising.{from_place};
+    ghost use Rattle.place_bits.specs.Words.{members};
+
+    ghost Value = { List ℕ };
+
+    ghost view = { λ p. from_place p.next (members p.words.items) };
+
+    ghost invariant = { λ p. (p.next ≤ 4294967296) × (length p.words.items ≤ 67108864) };
+}
+
+impl BitPlaces {
+    /// All places of the words.
+    pub(crate) fn new(words: Vec<u64>) -> BitPlaces
+        requires { length words.items ≤ 67108864 }
+        ensures places { result ≡ members words.items }
+        ensures rising { IsRising result }
+    {
+        BitPlaces { words, next: 0 }
+    }
+
+    // Passes all before `place`.
+    fn pass(&mut self, place: u32)
+        ensures rising { IsRising self.old }
+        ensures moved { self.new ≡ from_place place self.old }
+    {
+        if self.next < place as u64 {
+            self.next = place as u64;
+        }
+    }
+}
+
+impl Places for BitPlaces {
+    ghost left = { λ p. p };
+
+    fn next(&mut self) -> Option<u32> {
+        let place = first_from(&self.words, self.next)?;
+        self.next = place as u64 + 1;
+        Some(place)
+    }
+
+    fn seek(&mut self, place: u32) -> Option<u32> {
+        self.pass(place);
+        self.next()
+    }
+}
+
+// The first place from there on.
+fn first_from(words: &[u64], from: u64) -> Option<u32>
+    requires few { length words.now ≤ 67108864 }
+    ensures { IsFirstIn words.now from result }
+{
+    let start = (from / 64) as usize;
+    if start >= words.len() {
+        return None;
+    }
+    let left = words[start] & (u64::MAX << (from % 64));
+    if left != 0 {
+        return Some(start as u32 * 64 + left.trailing_zeros());
+    }
+    first_word(words, start + 1)
+}
+
+// The first place from a word on.
+fn first_word(words: &[u64], start: usize) -> Option<u32>
+    requires few { length words.now ≤ 67108864 }
+    ensures { IsFirstIn words.now (64 * start) result }
+{
+    for k in start..words.len() {
+        let word = words[k];
+        if word != 0 {
+            return Some(k as u32 * 64 + word.trailing_zeros());
+        }
+    }
+    None
+}

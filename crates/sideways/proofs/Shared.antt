@@ -1,0 +1,100 @@
+-- What nodes have in common, one node after the other.
+use Rattle.std.proofs.Common.{◌≡◌, ℕ, ◌+◌, ◌/◌, ◌<◌, Bool, true, false, ◌&&◌, ◌||◌, List, [], ◌∷◌, ◌++◌, length, Option, Some, None, refl, sym, ap, subst, ◌∙◌, arith}
+use Rattle.std.specs.Prelude.{slice_get}
+use Rattle.std.specs.List.{range_with_len, AllByRecursion}
+use Rattle.std.specs.Option.{option_map_or}
+use Rattle.std.proofs.lemmas.Option.{slice_get_within}
+use Rattle.facet_model.specs.CountedPaths.{places}
+use Rattle.facet_model.specs.Documents.{Doc}
+use Rattle.place_bits.specs.Words.{Marked, empty_set, with_places}
+use Rattle.plan_places.specs.Marks.{AreMarkedToo, IsMarkable}
+use Rattle.plan_places.specs.Planned.{Planned, all_have}
+use Rattle.query_eval.proofs.Marks.{at, rising_places, is_in_places, are_places, all_from_place}
+use Rattle.seg_postings.specs.Rising.{IsRising, is_in}
+use Rattle.sideways.specs.Counted.{AreAllOf}
+use Rattle.sideways.proofs.Gathered.{all_front, all_last}
+use Rattle.sideways.proofs.Narrowed.{all_have_more, none_past}
+
+-- the node has places of records alone
+abbrev pub IsAmong : ℕ → Planned → Type 0
+IsAmong docs p = (n : ℕ) → is_in n p.left ≡ true → n < docs
+
+at_within : (test : Doc → Bool) (docs : List Doc) (n : ℕ) → at test docs n ≡ true → n < length docs
+at_within test docs n among = by (slice_get docs n) refl among
+  where
+    by : (o : Option Doc) → slice_get docs n ≡ o → option_map_or test o false ≡ true → n < length docs
+    by None e there = absurd cc
+    by (Some doc) e there = slice_get_within docs n doc e
+
+nodes_among : (among : List Doc) (docs : ℕ) (ps : List Planned) → docs ≡ length among → AllByRecursion (λ p. (other : Doc → Bool) × (p.left ≡ places other among)) ps → AllByRecursion (IsAmong docs) ps
+nodes_among among docs [] same each = tt
+nodes_among among docs (p ∷ ps) same each =
+    ((λ n there. omega (arith, same, at_within each.0.0 among n (sym (is_in_places n each.0.0 among) ∙ ap (is_in n) (sym each.0.1) ∙ there))), nodes_among among docs ps same each.1)
+
+-- What is common so far, and what all nodes have that are left, are together what all nodes have.
+pub record AreCommonSoFar (docs : ℕ) (all left : List Planned) (common : Marked) : Type 0 where
+  pub words : common.words ≡ (docs + 63) / 64
+  pub rising : IsRising common.places
+  pub each : AllByRecursion (IsAmong docs) left
+  pub same : (n : ℕ) → (is_in n common.places && all_have n left) ≡ (is_in n (range_with_len 0 docs) && all_have n all)
+
+all_places : (among : List Doc) (docs : ℕ) → docs ≡ length among → range_with_len 0 docs ≡ places (λ doc. true) among
+all_places among docs same = ap (range_with_len 0) same ∙ all_from_place 0 among
+
+pub none_common : (docs : ℕ) (all : List Planned) (among : List Doc) (test : Doc → Bool) (empty common : Marked) → AreAllOf among test all → docs ≡ length among → empty ≡ empty_set ((docs + 63) / 64) → common ≡ with_places (range_with_len 0 docs) empty
+    → AreCommonSoFar docs all all common
+none_common docs all among test empty common are same none filled = record {
+  words = ap (λ (m : Marked). m.words) filled ∙ ap (λ (m : Marked). m.words) none;
+  rising = subst IsRising (sym (ap (λ (m : Marked). m.places) filled ∙ all_places among docs same)) (rising_places (λ (doc : Doc). true) among);
+  each = nodes_among among docs all same are.each;
+  same = λ n. ap (λ (m : Marked). is_in n m.places && all_have n all) filled;
+}
+
+module _ (docs : ℕ) (all left rest : List Planned) (node : Planned) (common : Marked) (so_far : AreCommonSoFar docs all left common) (is : left ≡ rest ++ node ∷ []) where
+  each_left : AllByRecursion (IsAmong docs) (rest ++ node ∷ [])
+  each_left = subst (AllByRecursion (IsAmong docs)) is so_far.each
+
+  pub node_room : (empty : Marked) → empty ≡ empty_set ((docs + 63) / 64) → IsMarkable empty node.left
+  node_room empty none n there = omega (arith, ap (λ (m : Marked). m.words) none, all_last (IsAmong docs) rest node each_left n there)
+
+  pub one_common : (empty marked new : Marked) → empty ≡ empty_set ((docs + 63) / 64) → AreMarkedToo node.left marked empty → new.words ≡ common.words → IsRising new.places
+      → ((n : ℕ) → is_in n new.places ≡ (is_in n common.places && is_in n marked.places)) → AreCommonSoFar docs all rest new
+  one_common empty marked new none too words rising kept = record {
+    words = words ∙ so_far.words;
+    rising = rising;
+    each = all_front (IsAmong docs) rest node each_left;
+    same = λ n.
+        let has : is_in n marked.places ≡ is_in n node.left = too.members n ∙ ap (λ (m : Marked). is_in n m.places || is_in n node.left) none in
+        ap (λ b. b && all_have n rest) (kept n ∙ ap (λ b. is_in n common.places && b) has) ∙ turned (is_in n common.places) (is_in n node.left) (all_have n rest)
+        ∙ ap (λ b. is_in n common.places && b) (sym (ap (all_have n) is ∙ all_have_more n rest node)) ∙ so_far.same n;
+  }
+    where
+      turned : (a b c : Bool) → ((a && b) && c) ≡ (a && (c && b))
+      turned true true true = refl
+      turned true true false = refl
+      turned true false true = refl
+      turned true false false = refl
+      turned false b c = refl
+
+none : (ps : List Planned) → length ps ≡ 0 → ps ≡ []
+none [] e = refl
+none (p ∷ ps) e = absurd (omega (arith, e))
+
+pub all_common : (docs : ℕ) (all left : List Planned) (common : Marked) → AreCommonSoFar docs all left common → length left ≡ 0 → 0 < length all
+    → (among : List Doc) (test : Doc → Bool) → docs ≡ length among → AreAllOf among test all → common.places ≡ places test among
+all_common docs all left common so_far end some among test same are =
+    are_places test among common.places so_far.rising (λ n. sym (and_true (is_in n common.places)) ∙ ap (λ ps. is_in n common.places && all_have n ps) (sym (none left end)) ∙ so_far.same n ∙ by n (slice_get among n) refl)
+  where
+    and_true : (b : Bool) → (b && true) ≡ b
+    and_true true = refl
+    and_true false = refl
+
+    and_false : (b : Bool) → (b && false) ≡ false
+    and_false true = refl
+    and_false false = refl
+
+    by : (n : ℕ) (o : Option Doc) → slice_get among n ≡ o → (is_in n (range_with_len 0 docs) && all_have n all) ≡ at test among n
+    by n None e = ap (λ b. is_in n (range_with_len 0 docs) && b) (none_past among n all some e are.each) ∙ and_false (is_in n (range_with_len 0 docs)) ∙ sym (ap (λ o. option_map_or test o false) e)
+    by n (Some doc) e =
+        let there : is_in n (range_with_len 0 docs) ≡ true = ap (is_in n) (all_places among docs same) ∙ is_in_places n (λ (d : Doc). true) among ∙ ap (λ (o : Option Doc). option_map_or (λ d. true) o false) e in
+        ap (λ b. b && all_have n all) there ∙ are.have n doc e ∙ sym (ap (λ o. option_map_or test o false) e)
