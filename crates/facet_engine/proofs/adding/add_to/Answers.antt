@@ -67,6 +67,3 @@ returns-in-Err-NoMemory-clause-adds g c = c.resolve_labels.ensures.adds
 
 pub returns-in_default-clause-adds : goal.returns-in_default-clause-adds
 returns-in_default-clause-adds g c = c.resolve_labels.ensures.adds
-
-pub returns-in_default-entry_of-clause-adds : goal.returns-in_default-entry_of-clause-adds
-returns-in_default-entry_of-clause-adds g c = c.resolve_labels.ensures.adds

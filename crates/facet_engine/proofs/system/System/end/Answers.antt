@@ -5,7 +5,7 @@ use Rattle.chronicle.proofs.Prefixes.{prefix_trans}
 use Rattle.facet_disk.specs.Calls.{Rose}
 use Rattle.facet_model.specs.Histories.{Operation}
 use Rattle.commit_turns.specs.Ending.{Lasts, FailsWith}
-use Rattle.commit_turns.specs.Points.{last_of}
+use Rattle.commit_turns.specs.Points.{count_after, last_of}
 use Rattle.commit_turns.specs.Seen.{docs_of}
 use Rattle.commit_turns.proofs.Prefixed.{labels_on, docs_on}
 use Rattle.pair_manager.specs.declared.point.CommitPoint.{CommitPoint}
@@ -89,3 +89,8 @@ returns-clause-lasts g c config next moment faults failures settled texts number
     subst (λ (l : List (ℕ × CommitPoint)). Lasts g.D.Disk config moment (labels_of labels) (docs_of operations) (entries l) e.result) (sym n.ensures.commits.1.2)
     (lasts_more config (labels_of e.new.seen_labels.seen) (labels_of labels) (docs_of e.new.seen_operations.seen) (docs_of operations) (labels_on e.new.seen_labels.seen labels more_labels) (docs_on e.new.seen_operations.seen operations more_operations)
     g.D.Disk moment points e.result (e.ensures.lasts config next moment faults failures settled texts numbers))
+
+pub returns-clause-exact : goal.returns-clause-exact
+returns-clause-exact g c next moment faults failures is =
+    c.end_commits-disk.ensures.exact next moment faults failures is
+    ∙ ap (λ (es : List (ℕ × CommitPoint)). count_after faults (last_of (entries es)).failed) (sym c.note_each-notes.ensures.commits.1.2)
