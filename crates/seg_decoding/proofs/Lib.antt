@@ -12,7 +12,6 @@ pub mod Again
 pub mod Longer
 pub mod Telling
 pub mod Compared
-pub mod PlacesOf
 pub mod Pairs
 pub mod Walked
 pub mod Verified

@@ -21,7 +21,7 @@ use Rattle.seg_terms.specs.Laws.{has_term, term_places}
 use Rattle.seg_terms.specs.Noting.{Table, found}
 use Rattle.seg_terms.proofs.TermLists.{found_in_terms, rises, same_tables}
 use Rattle.seg_decoding.specs.Pairs.{is_stored, has_at, AreTheirs}
-use Rattle.seg_decoding.proofs.PlacesOf.{are_places}
+use Rattle.seg_file.proofs.PlacesOf.{are_places}
 
 -- ---- terms that rise
 

@@ -23,7 +23,7 @@ use Rattle.seg_decoding.specs.Decoding.{doc_in}
 use Rattle.seg_decoding.specs.Facts.{AreFacts, AreSeen, AreUnbroken, IsUnbroken, label_of, labels_of, texts_at}
 use Rattle.seg_decoding.specs.Pairs.{IsRight, Passes}
 use Rattle.seg_decoding.specs.declared.facts.LabelFacts.{LabelFacts}
-use Rattle.seg_decoding.proofs.PlacesOf.{are_places, is_in_places}
+use Rattle.seg_file.proofs.PlacesOf.{are_places, is_in_places}
 use Rattle.seg_decoding.proofs.Stored.{each_at}
 use Rattle.seg_decoding.proofs.Walked.{passes_more}
 

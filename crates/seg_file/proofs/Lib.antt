@@ -3,3 +3,4 @@ pub mod Marks
 pub mod Parts
 pub mod Search
 pub mod Opened
+pub mod PlacesOf

@@ -1,4 +1,4 @@
--- A rising list that has exactly the places of those that pass.
+-- The places of those that pass a test: they rise, and a place is among them exactly where there is one that passes.
 use Rattle.std.proofs.Common.{◌≡◌, ℕ, zero, suc, ◌+◌, ◌<◌, Bool, true, false, List, [], ◌∷◌, map, refl, sym, subst, ◌∙◌, arith}
 use Rattle.std.specs.Prelude.{cond, filter, slice_get}
 use Rattle.std.specs.List.{enumerate_from}
@@ -32,7 +32,7 @@ rising_from_place k test (x ∷ xs) = by (test x) (rising_from_place (k + 1) tes
     by true rest = (below_places k (k + 1) test xs (omega arith), rest)
     by false rest = rest
 
-rising_places : {A : Type 0} (test : A → Bool) (xs : List A) → IsRising (places test xs)
+pub rising_places : {A : Type 0} (test : A → Bool) (xs : List A) → IsRising (places test xs)
 rising_places test xs = rising_from_place 0 test xs
 
 is_in_later : (n k : ℕ) (rest : List ℕ) → k < n → is_in n (k ∷ rest) ≡ is_in n rest
