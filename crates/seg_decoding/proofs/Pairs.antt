@@ -1,5 +1,5 @@
 -- Terms that rise are those of documents where their pairs are.
-use Rattle.std.proofs.Common.{◌≡◌, ℕ, zero, suc, ◌<◌, ◌≤◌, Bool, true, false, cond, ◌||◌, List, [], ◌∷◌, length, Option, Some, None, refl, sym, ap, subst, ◌∙◌, arith}
+use Rattle.std.proofs.Common.{◌≡◌, ℕ, zero, suc, Bool, true, false, cond, List, [], ◌∷◌, length, Option, Some, None, refl, sym, ap, subst, ◌∙◌, arith}
 use Rattle.std.specs.Prelude.{slice_get}
 use Rattle.std.specs.declared.cmp.Ordering.{Ordering}
 use Rattle.std.specs.declared.cmp.Ordering.TheVariants.{Less, Equal, Greater}
@@ -20,7 +20,7 @@ use Rattle.seg_postings.specs.Rising.{is_in}
 use Rattle.seg_terms.specs.Laws.{has_term, term_places}
 use Rattle.seg_terms.specs.Noting.{Table, found}
 use Rattle.seg_terms.proofs.TermLists.{found_in_terms, rises, same_tables}
-use Rattle.seg_decoding.specs.Pairs.{is_stored, has_at, AreTheirs}
+use Rattle.seg_decoding.specs.Pairs.{has_at, AreTheirs}
 use Rattle.seg_file.proofs.PlacesOf.{are_places}
 
 -- ---- terms that rise

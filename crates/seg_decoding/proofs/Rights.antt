@@ -1,16 +1,16 @@
 -- What shows that a record is right without making its document: label by label, and ordinal by ordinal.
-use Rattle.std.proofs.Common.{◌≡◌, ℕ, zero, suc, ◌+◌, ◌<◌, Bool, true, false, cond, ◌||◌, List, [], ◌∷◌, ◌++◌, length, map, take, get_or, slice_get, Option, Some, None, refl, sym, ap, subst, ◌∙◌, arith, inl, inr}
-use Rattle.std.specs.Prelude.{not, unwrap_or, filter_map, flat_map, ◌&&◌, ◌==◌, nat_eq, nat_le}
+use Rattle.std.proofs.Common.{◌≡◌, ℕ, suc, ◌+◌, ◌<◌, Bool, true, false, ◌||◌, List, [], ◌∷◌, ◌++◌, length, take, get_or, slice_get, Option, Some, None, refl, sym, ap, subst, ◌∙◌, arith, inl, inr}
+use Rattle.std.specs.Prelude.{not, unwrap_or, filter_map, flat_map, ◌&&◌, ◌==◌, nat_eq}
 use Rattle.std.specs.List.{enumerate_from, list_any, AllByRecursion}
 use Rattle.std.specs.Option.{option_map_or}
 use Rattle.std.specs.Str.{bytes_eq}
 use Rattle.std.proofs.lemmas.Bool.{cases_lt}
-use Rattle.std.proofs.lemmas.List.{get_or_append_left, get_or_push, take-append-le, take_all, map_push, length-append, length-map}
+use Rattle.std.proofs.lemmas.List.{get_or_append_left, get_or_push, take-append-le, take_all, map_push, length-append}
 use Rattle.std.proofs.lemmas.List.Folds.{list_any-append}
 use Rattle.std.proofs.lemmas.Option.{get_or_from_slice_get, slice_get_within}
 use Rattle.facet_names.specs.Labels.{prefixes}
 use Rattle.facet_names.proofs.LabelLists.{Labels}
-use Rattle.facet_model.specs.Accepts.{Accepts, Broken, broken_at, first_broken}
+use Rattle.facet_model.specs.Accepts.{Accepts, Broken, broken_at}
 use Rattle.facet_model.specs.CountedPaths.{is_counted, counted_ordinals}
 use Rattle.facet_model.specs.Documents.{Doc, dim_of}
 use Rattle.facet_model.specs.Flags.{Config, flags}

@@ -1,7 +1,6 @@
 -- A segment whose records are right and whose pairs are its documents' is what is written for them.
-use Rattle.std.proofs.Common.{◌≡◌, ℕ, ◌≤◌, List, [], ◌∷◌, length, map, None, Ok, refl, sym, ap, subst, ◌∙◌, arith}
+use Rattle.std.proofs.Common.{◌≡◌, ℕ, ◌≤◌, List, [], ◌∷◌, length, map, Ok, refl, sym, subst}
 use Rattle.std.specs.List.{AllByRecursion}
-use Rattle.facet_model.specs.Documents.{Doc}
 use Rattle.facet_model.specs.Flags.{Config}
 use Rattle.facet_model.specs.Stored.{Stored, Records, IsSegmentOf}
 use Rattle.facet_model.specs.Terms.{terms_of}

@@ -1,8 +1,7 @@
 -- Places that were passed, term after term and document after document.
-use Rattle.std.proofs.Common.{◌≡◌, ℕ, zero, suc, ◌+◌, ◌<◌, ◌≤◌, ◌⊎◌, eqb, Bool, true, false, cond, ◌||◌, List, [], ◌∷◌, ◌++◌, length, get_or, Option, Some, None, refl, sym, ap, subst, ◌∙◌, arith, inl, inr}
+use Rattle.std.proofs.Common.{◌≡◌, ℕ, zero, suc, ◌<◌, ◌⊎◌, eqb, Bool, true, false, cond, List, [], ◌∷◌, ◌++◌, length, get_or, Option, Some, None, refl, sym, ap, subst, ◌∙◌, arith, inl, inr}
 use Rattle.std.specs.Prelude.{slice_get, All}
 use Rattle.std.specs.List.{list_any, AllByRecursion}
-use Rattle.std.specs.List.Sorted.{IsStrictlySortedBy}
 use Rattle.std.specs.Map.{keys_of}
 use Rattle.std.specs.Option.{option_map_or}
 use Rattle.std.specs.Str.{bytes_eq}
@@ -12,15 +11,15 @@ use Rattle.std.proofs.lemmas.Map.Text.{is_eq-slice_cmp}
 use Rattle.std.specs.Ordering.{is_eq}
 use Rattle.facet_model.specs.Documents.{Doc}
 use Rattle.facet_model.specs.Words.{word_cmp}
-use Rattle.facet_model.specs.Terms.{doc_terms, terms_of}
-use Rattle.seg_grammar.specs.Spelling.{TermsRise, IsTerm}
+use Rattle.facet_model.specs.Terms.{doc_terms}
+use Rattle.seg_grammar.specs.Spelling.{TermsRise}
 use Rattle.seg_postings.specs.Rising.{is_in}
 use Rattle.seg_file.specs.Search.{term_of}
 use Rattle.seg_terms.specs.Laws.{has_term}
 use Rattle.seg_terms.specs.Noting.{Table, found}
 use Rattle.seg_terms.proofs.Tables.{bytes_same, same_bytes}
 use Rattle.seg_decoding.specs.Pairs.{is_stored, has_at, AreTheirs, IsPassed, OnlyTheirs, Passes}
-use Rattle.seg_decoding.proofs.Pairs.{behind, sorted_from_rising, terms_are}
+use Rattle.seg_decoding.proofs.Pairs.{behind}
 use Rattle.seg_decoding.proofs.Stored.{each_at, all_each}
 
 -- ---- one after the other

@@ -6,7 +6,6 @@ use Rattle.facet_model.specs.Flags.{Config}
 use Rattle.facet_model.specs.CountedPaths.{counted_ordinals}
 use Rattle.facet_model.specs.Accepts.{Accepts}
 use Rattle.facet_model.specs.Stored.{Stored}
-use Rattle.facet_model.specs.Terms.{doc_terms}
 use Rattle.seg_postings.specs.Rising.{is_in}
 use Rattle.seg_terms.specs.Laws.{has_term}
 use Rattle.seg_terms.specs.Noting.{Table, found}

@@ -4,7 +4,6 @@ use Rattle.std.specs.List.{range_with_len}
 use Rattle.std.proofs.lemmas.List.{length-take-le, map_push, take_more}
 use Rattle.std.proofs.lemmas.List.Elements.{All-push}
 use Rattle.std.proofs.lemmas.Option.{get_or_from_slice_get}
-use Rattle.facet_names.specs.Labels.{prefixes}
 use Rattle.facet_names.specs.Terms.{term_text, escaped}
 use Rattle.facet_names.proofs.TermTexts.{longer_text}
 use Rattle.seg_file.specs.Search.{term_of}

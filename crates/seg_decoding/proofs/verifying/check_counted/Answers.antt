@@ -1,5 +1,5 @@
-use Rattle.std.proofs.Common.{◌≡◌, ℕ, eqb, nat_eq, sym, ap, ◌∙◌}
-use Rattle.std.specs.List.{list_any, dedup}
+use Rattle.std.proofs.Common.{◌≡◌, eqb, sym, ap, ◌∙◌}
+use Rattle.std.specs.List.{dedup}
 use Rattle.std.proofs.lemmas.List.Filters.{dedup_is}
 use Rattle.facet_config.proofs.Expanded.{once_members}
 use Rattle.seg_postings.specs.Rising.{is_in}

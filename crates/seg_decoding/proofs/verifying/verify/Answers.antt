@@ -1,6 +1,5 @@
 use Rattle.std.proofs.Common.{◌≡◌, ◌<◌, ℕ, List, [], length, map, slice_get, Some, option_map, sym, ap, subst, ◌∙◌, arith, inl, inr}
 use Rattle.std.specs.Prelude.{All, slice_index_or}
-use Rattle.std.specs.List.{AllByRecursion}
 use Rattle.std.proofs.lemmas.Bool.{cases_lt}
 use Rattle.std.proofs.lemmas.List.{length-map}
 use Rattle.std.proofs.lemmas.Option.{get_or_from_slice_get, slice_get-get_or, slice_get_within}
@@ -11,7 +10,7 @@ use Rattle.facet_model.specs.Terms.{doc_terms}
 use Rattle.seg_grammar.specs.Lookups.{record_of}
 use Rattle.seg_file.specs.Search.{term_of}
 use Rattle.seg_decoding.specs.Decoding.{doc_in}
-use Rattle.seg_decoding.specs.Pairs.{AreTheirs, IsPassed, IsRight}
+use Rattle.seg_decoding.specs.Pairs.{IsPassed, IsRight}
 use Rattle.seg_decoding.proofs.Stored.{all_each, map_get}
 use Rattle.seg_decoding.proofs.Walked.{passed_stays, own_has, theirs_at_end}
 use Rattle.seg_decoding.proofs.verifying.verify.Goals as goal

@@ -1,19 +1,16 @@
-use Rattle.std.proofs.Common.{rules, refl, Bool, true, ◌≡◌, ◌<◌, ◌≤◌, ◌∷◌, [], ◌++◌, ℕ, List, false, length, slice_get, Some, subst, sym, ap, ◌∙◌, arith}
-use Rattle.std.specs.Prelude.{All, not, ◌&&◌}
-use Rattle.std.specs.List.{AllByRecursion, list_any}
+use Rattle.std.proofs.Common.{rules, refl, Bool, true, ◌≡◌, ◌∷◌, [], ◌++◌, ℕ, List, false, subst, sym, ap, ◌∙◌}
+use Rattle.std.specs.Prelude.{not, ◌&&◌}
+use Rattle.std.specs.List.{list_any}
 use Rattle.std.specs.Str.{bytes_eq}
 use Rattle.std.proofs.lemmas.Option.{get_or_from_slice_get}
 use Rattle.std.proofs.lemmas.Result.{on_ok_weaker}
 use Rattle.facet_model.specs.Documents.{dim_of}
 use Rattle.facet_model.specs.Flags.{flags}
 use Rattle.seg_terms.specs.Noting.{Table}
-use Rattle.seg_decoding.specs.Answers.{IsLeaf}
 use Rattle.seg_decoding.specs.Facts.{AreFacts, AreSeen, label_of, labels_of, texts_at}
 use Rattle.seg_decoding.specs.Pairs.{Passes}
-use Rattle.seg_decoding.specs.Ready.{IsReady}
 use Rattle.seg_decoding.specs.declared.facts.LabelFacts.{LabelFacts}
 use Rattle.seg_decoding.proofs.Rights.{at_place, dim_is, seen_more}
-use Rattle.seg_decoding.proofs.Stored.{each_at}
 use Rattle.seg_decoding.proofs.verifying.Verifier.check_label.Goals.{else-not-facts-via-then-not-facts+else-has_dimension, else-not-facts-via-else-not-facts}
 use Rattle.seg_decoding.proofs.verifying.Verifier.check_label.Goals as goal
 

@@ -1,4 +1,4 @@
-use Rattle.std.proofs.Common.{◌≡◌, List, ℕ, subst, ap, ◌∙◌}
+use Rattle.std.proofs.Common.{◌≡◌, List, ℕ, subst, ◌∙◌}
 use Rattle.std.specs.List.{slice_split}
 use Rattle.std.specs.Str.{str_to_ascii_lowercase}
 use Rattle.std.proofs.lemmas.Result.{on_ok_weaker}
