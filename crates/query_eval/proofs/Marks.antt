@@ -1,5 +1,5 @@
 -- The places of the documents that pass a test.
-use Rattle.std.proofs.Common.{◌≡◌, ℕ, zero, suc, ◌+◌, ◌<◌, ◌≤◌, Bool, true, false, List, [], ◌∷◌, length, map, Some, refl, sym, ap, subst, ◌∙◌, arith}
+use Rattle.std.proofs.Common.{◌≡◌, ℕ, ◌+◌, ◌≤◌, Bool, true, false, List, [], ◌∷◌, length, map, Some, refl, sym, ap, ◌∙◌, arith}
 use Rattle.std.specs.Prelude.{cond, filter, slice_get, count_by}
 use Rattle.std.specs.List.{list_any, enumerate_from, range_with_len}
 use Rattle.std.specs.Option.{option_map_or}
@@ -7,9 +7,7 @@ use Rattle.std.proofs.lemmas.Bool.{or_parts}
 use Rattle.std.proofs.lemmas.List.Sums.{sum_by-cons}
 use Rattle.facet_model.specs.CountedPaths.{places}
 use Rattle.plan_places.proofs.Walks.{is_in_from}
-use Rattle.seg_postings.specs.Rising.{IsBelowAll, IsRising, is_in, from_place}
-use Rattle.seg_postings.proofs.Members.{one_rising}
-use Rattle.seg_postings.proofs.Sets.{is_in_below}
+use Rattle.seg_postings.specs.Rising.{is_in, from_place}
 pub use Rattle.seg_file.proofs.PlacesOf.{at, places_from, rising_places, is_in_places, are_places}
 
 -- every document passes
