@@ -40,7 +40,8 @@ pub record AreFacts (config : Config) (known : List (List (List ℕ))) (needs : 
 abbrev pub HasFacts : List LabelFacts → ℕ → ℕ → Type 0
 HasFacts facts at ord = (f : LabelFacts) × (slice_get facts at ≡ Some f) × (f.ord ≡ ord)
 
--- A label behind others breaks nothing: it has a component behind its dimension, exactly one where that is not hierarchical, and no label before it has the dimension where that is not multi-valued.
+-- A label behind others breaks nothing: it has a component behind its dimension, exactly one where that is not hierarchical, and no label before it has
+-- the dimension where that is not multi-valued.
 pub record IsUnbroken (config : Config) (front : List (List (List ℕ))) (label : List (List ℕ)) : Type 0 where
   pub long : nat_le (length label) 1 ≡ false
   pub flat : (not (flags config (dim_of label)).hierarchical && not (length label == 2)) ≡ false

@@ -44,7 +44,8 @@ pub record IsPassed (terms : Table) (next : List ℕ) (term : List ℕ) (place :
 
 -- at each place that was passed stands a document that has the term
 abbrev pub OnlyTheirs : List Doc → Table → List ℕ → Type 0
-OnlyTheirs docs terms next = (at index : ℕ) → at < length terms → index < slice_index_or next at 0 → has_at docs (term_of terms at).0 (slice_index_or (term_of terms at).1 index 0) ≡ true
+OnlyTheirs docs terms next = (at index : ℕ) → at < length terms → index < slice_index_or next at 0
+    → has_at docs (term_of terms at).0 (slice_index_or (term_of terms at).1 index 0) ≡ true
 
 -- The place was passed under each of the document's terms, under no other term, and nothing that was passed before was lost.
 pub record Passes (terms : Table) (place : ℕ) (own : List (List ℕ)) (old new : List ℕ) : Type 0 where

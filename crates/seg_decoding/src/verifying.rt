@@ -122,7 +122,9 @@ impl Verifier {
         requires ready { IsReady config.now labels.now needs segment.now.terms self.old }
         ensures ready { OnOk result (IsReady config.now labels.now needs segment.now.terms self.new) }
         ensures fit { OnOk result (AllByRecursion (IsLeaf needs) (record_of segment.now doc).leaves) }
-        ensures seen { OnOk result (AreSeen config.now labels.now segment.now.terms doc (record_of segment.now doc).leaves self.new.counted.items self.old.walk.next.items self.new.walk.next.items) }
+        ensures seen { OnOk result
+            (AreSeen config.now labels.now segment.now.terms doc (record_of segment.now doc).leaves self.new.counted.items
+            self.old.walk.next.items self.new.walk.next.items) }
     {
         self.leaves.clear();
         self.counted.clear();
@@ -149,7 +151,8 @@ impl Verifier {
         requires ready { IsReady config.now labels.now needs segment.now.terms self.old }
         ensures ready { OnOk result (IsReady config.now labels.now needs segment.now.terms self.new) }
         ensures right { OnOk result (IsRight config.now labels.now needs (record_of segment.now doc)) }
-        ensures passes { OnOk result (Passes segment.now.terms doc (doc_terms (doc_in labels.now (record_of segment.now doc))) self.old.walk.next.items self.new.walk.next.items) }
+        ensures passes { OnOk result
+            (Passes segment.now.terms doc (doc_terms (doc_in labels.now (record_of segment.now doc))) self.old.walk.next.items self.new.walk.next.items) }
     {
         self.walk.pass_text(alloc, segment, segment.text(doc), doc)?;
         self.check_labels(alloc, config, labels, needs, segment, doc)?;
@@ -177,12 +180,12 @@ pub(crate) fn verify(
     ensures theirs { OnOk result (AreTheirs (map (doc_in labels.now) segment.now.records) segment.now.terms) }
     ensures list { OnOk result (IsLabelList labels.now) }
 {
-    let labels_known = labels.size();
-    if !has_many_documents(labels_known, segment.docs()) {
+    let all_labels = labels.size();
+    if !has_many_documents(all_labels, segment.docs()) {
         return Err(Unlike::Differs);
     }
     let mut verifier = Verifier {
-        met: MetLabels::new(alloc, labels_known as usize)?,
+        met: MetLabels::new(alloc, all_labels as usize)?,
         walk: Walk::new(alloc, segment.terms())?,
         leaves: Vec::new(alloc),
         counted: Vec::new(alloc),

@@ -123,7 +123,8 @@ impl Walk {
         doc: u32,
     ) -> Result<(), Unlike>
         requires { length self.old.next.items ≡ length segment.now.terms }
-        ensures { OnOk result (Passes segment.now.terms doc (piece_terms (slice_split is_blank (str_to_ascii_lowercase text.now))) self.old.next.items self.new.next.items) }
+        ensures { OnOk result
+            (Passes segment.now.terms doc (piece_terms (slice_split is_blank (str_to_ascii_lowercase text.now))) self.old.next.items self.new.next.items) }
     {
         let lowered = text.to_ascii_lowercase(alloc)?;
         self.pass_words(segment, lowered.as_str(), doc)
