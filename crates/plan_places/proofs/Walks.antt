@@ -3,7 +3,7 @@ use Rattle.std.proofs.Common.{◌≡◌, ℕ, ◌+◌, ◌-◌, ◌<◌, ◌≤�
 use Rattle.std.specs.Option.{option_eq}
 use Rattle.std.proofs.lemmas.Bool.{le-leb, lt-leb, ne_eqb, eq-eqb, cases_lt}
 use Rattle.seg_postings.specs.Rising.{IsRising, IsNext, is_in, from_place, first_of}
-use Rattle.seg_postings.proofs.Order.{IsFrom, below_weaker, from_below, from_all, rising_from}
+use Rattle.seg_postings.proofs.Order.{IsFrom, below_weaker, from_below, from_all, from_later, rising_from}
 use Rattle.seg_postings.proofs.Sets.{is_in_below}
 use Rattle.seg_postings.proofs.Either.{after_head, from_none}
 
@@ -137,3 +137,16 @@ pub walk_next : (next : ℕ) (xs ys old : List ℕ) (x : ℕ) → IsRising xs �
 walk_next next xs ys old x h f e k =
     let rises : IsRising ys = subst IsRising (sym e) (rising_from next xs h) in
     sym (e ∙ k) ∙ walk_step ys x rises (sym f)
+
+-- ---- a place that may be the next one
+
+pub next_is : (p x : ℕ) (old new : List ℕ) → old ≡ x ∷ new → IsRising old → p ≤ x → from_place p old ≡ x ∷ new
+next_is p x old new e rises le =
+    let rising : IsRising (x ∷ new) = subst IsRising e rises in
+    ap (from_place p) e ∙ from_all p (x ∷ new) (le, from_below p x new le rising.0)
+
+pub next_none : (p : ℕ) (old : List ℕ) → old ≡ [] → from_place p old ≡ []
+next_none p old e = ap (from_place p) e ∙ from_none p
+
+pub next_before : (p x : ℕ) (old new : List ℕ) (r : Option ℕ) (rest : List ℕ) → old ≡ x ∷ new → x < p → IsNext r (from_place p new) rest → IsNext r (from_place p old) rest
+next_before p x old new r rest e lt next = subst (λ xs. IsNext r xs rest) (sym (ap (from_place p) e ∙ from_later p x new lt)) next

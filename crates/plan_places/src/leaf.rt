@@ -49,8 +49,23 @@ impl<'a> Leaf<'a> {
     }
 }
 
-// The first place of a cursor that is at least `place`. It and all before it are passed.
+// The first place of a cursor that is at least `place`. It and all before it are passed. The next one is tried first: a walk over a list asks for the
+// place behind the last.
 fn sought(cursor: &mut PostingsCursor<'_>, place: u64) -> Option<u32>
+    requires some { 0 < place }
+    requires fits { place ≤ 4294967296 }
+    ensures rising { IsRising cursor.old }
+    ensures next { IsNext result (from_place place cursor.old) cursor.new }
+{
+    let next = cursor.next()?;
+    if next as u64 >= place {
+        return Some(next);
+    }
+    sought_behind(cursor, place)
+}
+
+// The same, where the next place is not tried.
+fn sought_behind(cursor: &mut PostingsCursor<'_>, place: u64) -> Option<u32>
     requires some { 0 < place }
     requires fits { place ≤ 4294967296 }
     ensures rising { IsRising cursor.old }

@@ -1,11 +1,11 @@
-use Rattle.plan_places.proofs.Walks.{sought_none, sought_found, sought_next}
+use Rattle.plan_places.proofs.Walks.{next_before, next_is, next_none}
 use Rattle.plan_places.proofs.leaf.sought.Goals as goal
 
-pub returns-in_err-found-clause-next : goal.returns-in_err-found-clause-next
-returns-in_err-found-clause-next c = rw c.from_residual.ensures (sought_none _ _ c.in_err-found.ensures.next.0, c.in_err-found.ensures.next.1)
+pub returns-in_err-next-clause-next : goal.returns-in_err-next-clause-next
+returns-in_err-next-clause-next c = rw c.from_residual.ensures (next_none c.args.place c.args.cursor.now c.in_err-next.ensures.next.0, c.in_err-next.ensures.next.1)
 
-pub returns-then-found-place-clause-next : goal.returns-then-found-place-clause-next
-returns-then-found-place-clause-next c = sought_found c.args.place c.args.cursor.now _ _ c.seek.ensures.rising c.in_ok-found.ensures.next c.if-found-place.true
+pub returns-then-next-place-clause-next : goal.returns-then-next-place-clause-next
+returns-then-next-place-clause-next c = next_is c.args.place c.in_ok-next.next c.args.cursor.now c.next.new.self c.in_ok-next.ensures.next c.next.ensures.rising c.if-next-place.true
 
 pub returns-clause-next : goal.returns-clause-next
-returns-clause-next c = sought_next c.args.place c.args.cursor.now _ _ _ _ c.requires.some c.seek.ensures.rising c.in_ok-found.ensures.next c.if-found-place.false c.next.ensures.next
+returns-clause-next c = next_before c.args.place c.in_ok-next.next c.args.cursor.now c.next.new.self c.sought_behind.result c.sought_behind.new.cursor c.in_ok-next.ensures.next c.if-next-place.false c.sought_behind.ensures.next
