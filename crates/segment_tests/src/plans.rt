@@ -1,5 +1,6 @@
 ghost use Rattle.std.specs.Prelude.{◌<◌, length, IfOk};
 
+use crate::bits::in_common;
 use crate::making::{all, sought, spelled};
 use crate::places::far_ahead_are_sought;
 use plan_places::{PlanNode, PlanPlaces};
@@ -85,6 +86,7 @@ fn set_operations(rt: HostRuntime) -> Result<(), Fail> {
         assert!(rt; got[1].as_slice() == both);
         assert!(rt; got[2].as_slice() == lacking);
     }
+    assert!(rt; in_common(alloc)? == [Some(63), Some(64), Some(128), None]);
     Ok(())
 }
 
