@@ -1,5 +1,5 @@
 -- The first pass of a store that was opened, and the orders of a script.
-use Rattle.std.proofs.Common.{◌≡◌, ◌∙◌, ℕ, ◌≤◌, Bool, true, List, [], ◌∷◌, ◌++◌, length, map, drop, get_or, refl, sym, ap, subst, arith}
+use Rattle.std.proofs.Common.{◌≡◌, ◌∙◌, ℕ, ◌≤◌, Bool, true, List, [], ◌∷◌, length, map, drop, get_or, refl, sym, ap, subst, arith}
 use Rattle.std.specs.Prelude.{All, IsTrue}
 use Rattle.std.specs.Global.{Vec}
 use Rattle.std.specs.List.{list_all}
@@ -7,7 +7,6 @@ use Rattle.std.proofs.lemmas.Bool.{and_parts, leb-true}
 use Rattle.std.proofs.lemmas.List.Elements.{All-cons, All-nil}
 use Rattle.std.proofs.lemmas.List.Folds.{list_all-append}
 use Rattle.chronicle.specs.History.{NumbersUpTo}
-use Rattle.facet_engine.specs.Sessions.{HaveOneNumber}
 use Rattle.facet_engine.specs.Steps.{point_of, seen_of}
 use Rattle.facet_engine.specs.Telling.{AreCounted, HaveMade}
 use Rattle.facet_model.specs.Histories.{Operation}

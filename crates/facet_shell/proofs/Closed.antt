@@ -1,5 +1,5 @@
 -- How sessions end, by what their phases and the last line have written.
-use Rattle.std.proofs.Common.{◌≡◌, ◌∙◌, inl, inr, ⊎_elim, ℕ, ◌+◌, List, [], ◌∷◌, ◌++◌, length, map, take, drop, Option, Some, Result, Ok, Err, refl, sym, ap, subst, append-nil, rules}
+use Rattle.std.proofs.Common.{◌≡◌, ◌∙◌, inl, inr, ℕ, List, [], ◌++◌, length, map, take, drop, Option, Some, Result, Ok, Err, sym, ap, subst, append-nil, rules}
 use Rattle.std.specs.Prelude.{All}
 use Rattle.std.specs.Io.KnownBytes.{Appends}
 use Rattle.commit_turns.specs.Frames.{HasNumbers}
@@ -11,11 +11,11 @@ use Rattle.facet_engine.specs.declared.ending.Trace.{Trace}
 use Rattle.facet_io.specs.Faults.{Rose}
 use Rattle.facet_io.specs.declared.sink.Sink.{Ghosts as SinkGhosts}
 use Rattle.facet_model.specs.Histories.{Operation}
-use Rattle.facet_output.specs.Answered.{Answered, in_writing_order}
+use Rattle.facet_output.specs.Answered.{in_writing_order}
 use Rattle.facet_output.specs.Output.{Opened}
-use Rattle.facet_output.specs.OutputLines.{last_line, output_bytes, reply_lines}
+use Rattle.facet_output.specs.OutputLines.{last_line}
 use Rattle.facet_output.specs.Seen.{Seen, history_of, labels_of}
-use Rattle.facet_output.specs.Sessions.{AllRan, answers_of, steps_of}
+use Rattle.facet_output.specs.Sessions.{answers_of, steps_of}
 use Rattle.facet_output.specs.Steps.{Step}
 use Rattle.facet_phases.proofs.Pieces.{appends_some, appends_then}
 use Rattle.facet_phases.specs.Ending.{Moment, Writes, moment}
@@ -33,11 +33,11 @@ use Rattle.store_opening.specs.Newest.{next_after}
 use Rattle.facet_shell.proofs.Sessions.{ran_so, spends}
 use Rattle.facet_shell.proofs.Whole.{lines_whole}
 use Rattle.facet_shell.specs.Closing.{Closes, IsWithoutMemory}
-use Rattle.facet_shell.specs.Runs.{EndsPartly, EndsShort, EndsWhole, IsTraceOf, Keeps, Opens, Ran, SpendsFrom, WritesBehind, WritesLine, bytes_of, lines_before}
+use Rattle.facet_shell.specs.Runs.{IsTraceOf, Keeps, Opens, Ran, SpendsFrom, WritesBehind, WritesLine, bytes_of, lines_before}
 use Rattle.facet_shell.specs.Serving.{EndsAs, Serves}
 use Rattle.facet_shell.specs.Statuses.{status_line}
 use Rattle.facet_shell.specs.declared.status.Status.{Status}
-use Rattle.facet_shell.specs.declared.status.Status.TheVariants.{Done, WriteFault, NoMemory}
+use Rattle.facet_shell.specs.declared.status.Status.TheVariants.{NoMemory}
 
 -- in each case some phases ran
 pub some_ran : (settings : Settings) (opened : Opened) (first : Pass) (last : Seen) (all : List (List Order)) (before now : Moment) (result : Result (Unit {0}) PhaseFault) → EndedSo (HasRun settings opened first last) all before now result → HasOpened opened last

@@ -10,7 +10,6 @@ use Rattle.facet_io.specs.declared.sink.Sink.{Ghosts as SinkGhosts}
 use Rattle.facet_io.specs.declared.source.Source.{Ghosts as SourceGhosts}
 use Rattle.facet_words.specs.Sessions.Commands.{Script}
 use Rattle.facet_words.specs.Sessions.Scripts.{script}
-use Rattle.store_opening.specs.Quiet.{IsQuiet}
 use Rattle.store_opening.specs.declared.fault.OpenFault.{OpenFault}
 use Rattle.store_opening.specs.declared.fault.OpenFault.TheVariants as faults
 use Rattle.facet_shell.specs.Runs.{EndsBefore, EndsPartly, EndsShort, EndsWhole, ReadsScript, ReadsWhole, RunsSessions, TellsOfStore, WritesLine, script_limit}

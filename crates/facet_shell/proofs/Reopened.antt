@@ -1,5 +1,5 @@
 -- Runs after one another.
-use Rattle.std.proofs.Common.{◌≡◌, ◌∙◌, ℕ, ◌≤◌, List, [], ◌∷◌, length, map, take, Some, None, Ok, refl, sym, ap, subst, arith}
+use Rattle.std.proofs.Common.{◌≡◌, ◌∙◌, ℕ, ◌≤◌, List, [], ◌∷◌, length, take, Some, None, Ok, sym, ap, subst, arith}
 use Rattle.std.specs.Prelude.{All}
 use Rattle.std.proofs.lemmas.List.Elements.{All-weaker}
 use Rattle.commit_turns.specs.Points.{last_of}
@@ -15,7 +15,7 @@ use Rattle.facet_output.specs.Seen.{CommitPoint as Point, Entries, Seen, history
 use Rattle.pair_manager.specs.declared.point.CommitPoint.{CommitPoint}
 use Rattle.store_opening.specs.Files.{Found, files}
 use Rattle.facet_shell.specs.Laws.{AcknowledgedIsReopened, IsReopened, LeavesStore}
-use Rattle.facet_shell.specs.Runs.{Opens, points_of}
+use Rattle.facet_shell.specs.Runs.{points_of}
 
 -- two readings of the same files are one
 one_found : (config : Config) (c : Image) (f f' : Found) → files config c ≡ Ok f → files config c ≡ Ok f' → f ≡ f'

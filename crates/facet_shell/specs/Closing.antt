@@ -1,5 +1,5 @@
 -- What is written behind the phases.
-use Rattle.std.specs.Prelude.{◌≡◌, ◌⊎◌, ℕ, List, [], take, Result, Ok, Err}
+use Rattle.std.specs.Prelude.{◌≡◌, ◌⊎◌, ℕ, List, take, Result, Ok, Err}
 use Rattle.std.specs.Io.KnownBytes.{Appends}
 use Rattle.facet_io.specs.Faults.{Rose}
 use Rattle.facet_io.specs.declared.sink.Sink.{Ghosts as SinkGhosts}

@@ -1,5 +1,5 @@
 -- What a run reads and writes, and how it ends.
-use Rattle.std.specs.Prelude.{◌≡◌, ◌≤◌, ◌<◌, ◌+◌, ◌*◌, ◌++◌, ◌⊎◌, [], ◌∷◌, ℕ, nat_lt, if◌then◌else◌, List, length, filter, map, take, Option, Some, None, Result, Ok, Err, All, IsTrue}
+use Rattle.std.specs.Prelude.{◌≡◌, ◌≤◌, ◌<◌, ◌+◌, ◌*◌, ◌++◌, ◌⊎◌, ℕ, nat_lt, if◌then◌else◌, List, length, filter, map, take, Option, Some, None, Result, Ok, Err, All, IsTrue}
 use Rattle.std.specs.List.{list_all}
 use Rattle.std.specs.Io.KnownBytes.{Appends, Consumes, IsAtEnd}
 use Rattle.commit_turns.specs.Ending.{FailsWith, Lasts}

@@ -1,4 +1,4 @@
-use Rattle.std.proofs.Common.{◌≡◌, ◌∙◌, ◌≤◌, ℕ, List, Some, drop, length, map, refl, sym, ap, subst, inl, inr, rules}
+use Rattle.std.proofs.Common.{◌≡◌, ◌∙◌, ◌≤◌, ℕ, List, drop, refl, sym, ap, subst, inl, inr}
 use Rattle.std.specs.Prelude.{All}
 use Rattle.std.specs.Global.{Vec}
 use Rattle.facet_engine.specs.Notes.{noted}
@@ -6,7 +6,7 @@ use Rattle.facet_engine.specs.Opening.{opened_of}
 use Rattle.facet_model.specs.ConfigTexts.{config_texts}
 use Rattle.facet_phases.specs.Ending.{moment}
 use Rattle.facet_replies.specs.LastLine.{last_line}
-use Rattle.facet_words.specs.Sessions.CommandViews.{order_view, script_view}
+use Rattle.facet_words.specs.Sessions.CommandViews.{script_view}
 use Rattle.facet_words.specs.declared.sessions.command.Order.{Order}
 use Rattle.facet_shell.proofs.Begun.{counted, lines_in_order, sessions_few, sessions_within}
 use Rattle.facet_shell.proofs.Closed.{serves, some_ran}

@@ -1,6 +1,6 @@
-use Rattle.std.proofs.Common.{◌≡◌, ◌∙◌, ◌⊎◌, ⊎_elim, refl, sym, subst, inl, inr}
+use Rattle.std.proofs.Common.{◌∙◌, ◌⊎◌, ⊎_elim, sym, subst, inl, inr}
 use Rattle.facet_words.specs.Sessions.CommandViews.{script_view}
-use Rattle.facet_shell.proofs.Shut.{shut_without, shuts}
+use Rattle.facet_shell.proofs.Shut.{shuts}
 use Rattle.facet_shell.specs.Serving.{EndsAs, Serves, StaysShut}
 use Rattle.facet_shell.specs.declared.status.Status.{Status}
 use Rattle.facet_shell.proofs.serving.run_script.Goals as goal
