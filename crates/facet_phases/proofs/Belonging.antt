@@ -1,5 +1,5 @@
 -- What a pass keeps that has only seen more.
-use Rattle.std.proofs.Common.{◌≡◌, ◌∙◌, ℕ, refl, sym, ap}
+use Rattle.std.proofs.Common.{◌∙◌, ℕ, refl, sym, ap}
 use Rattle.chronicle.specs.Frame.{Frame}
 use Rattle.chronicle.specs.Shown.{Shown, SameToken}
 use Rattle.pair_manager.specs.declared.pass.Pass.{Pass}

@@ -1,5 +1,5 @@
 -- A phase was carried out, behind whatever phases.
-use Rattle.std.proofs.Common.{◌≡◌, ◌∙◌, ◌⊎◌, inl, inr, ⊎_elim, ℕ, ◌+◌, ◌<◌, ◌≤◌, List, [], ◌∷◌, ◌++◌, length, map, get_or, true, eqb, eqb-true, refl, ap, sym, subst, arith, append-nil}
+use Rattle.std.proofs.Common.{◌≡◌, ◌∙◌, ◌⊎◌, ⊎_elim, ℕ, ◌+◌, ◌<◌, ◌≤◌, List, [], ◌∷◌, ◌++◌, length, map, get_or, true, eqb, eqb-true, refl, ap, sym, subst, arith, append-nil}
 use Rattle.std.specs.Prelude.{Result, Ok, Err, All, IsOk, IsErr, IsTrue, OnOk}
 use Rattle.std.specs.List.{AllZip}
 use Rattle.std.proofs.lemmas.List.Elements.{All-map, All-weaker, length_all_zip, AllZip-get_or, filter_passes}
@@ -11,8 +11,8 @@ use Rattle.facet_words.specs.Commands.{Settings}
 use Rattle.facet_words.specs.Sessions.Commands as commands
 use Rattle.facet_output.specs.Held.{Held}
 use Rattle.facet_output.specs.Output.{Opened}
-use Rattle.facet_output.specs.Seen.{CommitPoint, Seen, IsTold}
-use Rattle.facet_output.specs.Sessions.{held_by, own_steps, phase_in_order, steps_of}
+use Rattle.facet_output.specs.Seen.{CommitPoint, IsTold}
+use Rattle.facet_output.specs.Sessions.{held_by, own_steps, steps_of}
 use Rattle.facet_words.specs.Sessions.Laws.{lines_rise}
 use Rattle.facet_output.specs.Steps.{Step}
 use Rattle.facet_output.proofs.Gluing.{one_more_phase, own_append, unused}
@@ -27,8 +27,8 @@ use Rattle.facet_words.specs.declared.sessions.command.Order.{Order}
 use Rattle.facet_phases.specs.Lanes.{AreIdle, Each, Gathers, IsDealt, LaneRan, MayRun, all_lines}
 use Rattle.facet_phases.specs.Orders.{orders_of}
 use Rattle.facet_words.specs.Sessions.CommandViews.{order_view}
-use Rattle.facet_phases.specs.Phases.{AreSpentWithin, PhaseRan, asked, lines_of}
-use Rattle.facet_phases.specs.Running.{AreReady, AreUnderway, CarriedOut, CarriesOut}
+use Rattle.facet_phases.specs.Phases.{AreSpentWithin, PhaseRan, lines_of}
+use Rattle.facet_phases.specs.Running.{AreReady, AreUnderway, CarriesOut}
 use Rattle.facet_engine.proofs.SeenPairs.{still_named}
 use Rattle.facet_phases.proofs.Belonging.{still_belongs, still_set, still_numbered, still_made}
 use Rattle.facet_phases.proofs.Did.{LaneDid}

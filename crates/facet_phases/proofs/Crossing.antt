@@ -3,8 +3,6 @@ use denote.RattleType.{RattleType}
 use denote.Param.Send.{IsSend, sendable}
 use denote.Param.SendFields.{variants_send, as_row_send}
 use denote.Struct.Field.{row_field}
-use denote.Hole.Fix.{Ring, holes}
-use denote.Hole.FixLaws.{layer_row}
 use denote.Hole.FixSend.{Sends, fix_send}
 use Rattle.std.proofs.Crossing.{crosses as owned}
 use Rattle.std.specs.contracts.alloc.Global as heap

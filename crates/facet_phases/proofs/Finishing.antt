@@ -1,5 +1,5 @@
 -- A run from what was opened to its end.
-use Rattle.std.proofs.Common.{◌≡◌, ◌∙◌, inl, inr, ℕ, zero, suc, ◌+◌, ◌-◌, ◌<◌, ◌≤◌, true, List, [], ◌∷◌, ◌++◌, length, map, take, get_or, refl, sym, ap, subst, arith, append-nil}
+use Rattle.std.proofs.Common.{◌≡◌, ◌∙◌, ℕ, ◌+◌, ◌-◌, ◌<◌, ◌≤◌, List, [], ◌∷◌, ◌++◌, length, map, take, get_or, refl, sym, subst, arith, append-nil}
 use Rattle.std.specs.Prelude.{Result, Ok, Err, All, IsTrue}
 use Rattle.std.specs.Global.{Vec}
 use Rattle.std.specs.List.{AllZip}
@@ -15,24 +15,23 @@ use Rattle.facet_words.specs.Sessions.Commands.{Order}
 use Rattle.facet_words.specs.Sessions.CommandViews.{order_view}
 use Rattle.facet_words.specs.declared.sessions.command.Order.{Order as Given}
 use Rattle.facet_words.specs.Sessions.Laws.{lines_rise}
-use Rattle.facet_output.specs.Answered.{in_writing_order}
 use Rattle.facet_output.specs.Output.{Opened}
 use Rattle.facet_output.specs.Seen.{Seen, Sees, IsTold, labels_of, opened_seen}
-use Rattle.facet_output.specs.Sessions.{AllRan, PhasesRan, RanSoFar, own_steps, steps_of}
+use Rattle.facet_output.specs.Sessions.{PhasesRan, RanSoFar, own_steps, steps_of}
 use Rattle.facet_output.specs.Steps.{Step}
 use Rattle.facet_output.proofs.Gluing.{none_ran, one_more_phase, phases_append, ran_whole, session_told, unused}
 use Rattle.facet_engine.specs.Ending.{ArePublished, AreUpTo}
 use Rattle.facet_engine.specs.declared.notes.Notes.{Notes}
 use Rattle.facet_engine.specs.Notes.{noted}
 use Rattle.facet_engine.specs.Steps.{seen_of}
-use Rattle.facet_engine.specs.Systems.{Engine, BelongsTo, HasSettings}
+use Rattle.facet_engine.specs.Systems.{Engine, BelongsTo}
 use Rattle.facet_engine.specs.Telling.{HaveMade}
 use Rattle.facet_phases.specs.declared.fault.PhaseFault.{PhaseFault}
 use Rattle.facet_phases.specs.declared.fault.PhaseFault.TheVariants.{Write, NoMemory}
 use Rattle.facet_phases.specs.declared.lane.Lane.{Lane}
-use Rattle.facet_phases.specs.Ending.{EndsPhases, Moment, PhasesEnded, StopsShort, Writes}
-use Rattle.facet_phases.specs.Lanes.{AreNumbered, LaneTold}
-use Rattle.facet_phases.specs.Phases.{AreSpentWithin, asked, lines_of}
+use Rattle.facet_phases.specs.Ending.{EndsPhases, Moment, PhasesEnded, StopsShort}
+use Rattle.facet_phases.specs.Lanes.{LaneTold}
+use Rattle.facet_phases.specs.Phases.{AreSpentWithin}
 use Rattle.facet_phases.specs.Running.{AreReady, BeginsUnderway, IsFirst}
 use Rattle.facet_phases.specs.Runs.{EndedSo, HasRun, HasRunSoFar, RunsSoFar, RunsToEnd, StoppedBehind}
 use Rattle.facet_phases.proofs.Cutting.{cut, cut_asked, cut_rises, cut_sessions, cut_spent, cut_steps, has_first}

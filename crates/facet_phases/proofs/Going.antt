@@ -7,7 +7,6 @@ use Rattle.std.proofs.lemmas.List.Elements.{All-nil, All-push}
 use Rattle.chronicle.specs.Frame.{Frame}
 use Rattle.commit_turns.specs.Frames.{HasNumbers}
 use Rattle.facet_words.specs.Commands.{Settings}
-use Rattle.facet_words.specs.Sessions.Commands as commands
 use Rattle.facet_output.specs.Held.{Held, held_after}
 use Rattle.facet_replies.specs.ReplyLines.{reply_line}
 use Rattle.facet_replies.specs.Replies.{Reply}
@@ -20,7 +19,7 @@ use Rattle.facet_engine.specs.HeldPairs.{numbers_held}
 use Rattle.facet_engine.specs.Steps.{seen_of, step_of}
 use Rattle.facet_engine.specs.Systems.{Engine, HasSettings}
 use Rattle.facet_words.specs.declared.sessions.command.Order.{Order}
-use Rattle.facet_phases.specs.Orders.{Answers, HasAnswered}
+use Rattle.facet_phases.specs.Orders.{Answers}
 use Rattle.facet_words.specs.Sessions.CommandViews.{order_view}
 use Rattle.facet_phases.specs.Phases.{AreSpentWithin, asked, in_phase, lines_of}
 use Rattle.facet_phases.proofs.Belonging.{still_set}

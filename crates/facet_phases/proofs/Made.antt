@@ -1,5 +1,5 @@
 -- Sessions that are made, one after the other.
-use Rattle.std.proofs.Common.{◌≡◌, ◌∙◌, ℕ, ◌+◌, ◌<◌, ◌≤◌, List, [], ◌∷◌, ◌++◌, length, get_or, refl, ap, sym, subst, arith}
+use Rattle.std.proofs.Common.{◌≡◌, ◌∙◌, ℕ, ◌+◌, ◌≤◌, List, [], ◌∷◌, ◌++◌, length, refl, ap, sym, subst, arith}
 use Rattle.std.specs.Prelude.{All}
 use Rattle.std.proofs.lemmas.List.{get_or_append_left, get_or_push, length_push}
 use Rattle.std.proofs.lemmas.List.Elements.{All-nil, All-push, All-weaker}
@@ -9,9 +9,7 @@ use Rattle.chronicle.specs.Frame.{Frame}
 use Rattle.chronicle.specs.History.{own_of}
 use Rattle.facet_engine.proofs.SeenPairs.{still_named}
 use Rattle.pair_manager.specs.declared.pass.Pass.{Pass}
-use Rattle.facet_words.specs.Commands.{Settings}
-use Rattle.facet_output.specs.Output.{Opened}
-use Rattle.facet_output.specs.Seen.{Seen, opened_seen}
+use Rattle.facet_output.specs.Seen.{Seen}
 use Rattle.facet_output.specs.Sessions.{RanSoFar}
 use Rattle.facet_output.proofs.Gluing.{none_ran}
 use Rattle.facet_engine.specs.HeldPairs.{numbers_held}

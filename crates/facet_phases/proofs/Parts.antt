@@ -1,10 +1,8 @@
 -- A phase, session by session: the steps of the sessions one after the other.
-use Rattle.std.proofs.Common.{◌≡◌, ◌∙◌, ◌⊎◌, inl, inr, ⊎_elim, ℕ, zero, suc, ◌+◌, ◌-◌, ◌<◌, ◌≤◌, eqb, Bool, true, false, cond, List, [], ◌∷◌, ◌++◌, length, map, take, get_or, refl, sym, ap, subst, arith, append-nil, append_assoc, ne_eqb, eqb-true}
-use Rattle.std.specs.Prelude.{All, filter, flat_map, IsTrue, ◌≢◌}
+use Rattle.std.proofs.Common.{◌≡◌, ◌∙◌, ◌⊎◌, inl, inr, ℕ, zero, suc, ◌+◌, ◌-◌, ◌<◌, ◌≤◌, eqb, true, List, [], ◌∷◌, ◌++◌, length, take, get_or, refl, sym, ap, subst, arith, append-nil, append_assoc, ne_eqb, eqb-true}
+use Rattle.std.specs.Prelude.{All, flat_map, ◌≢◌}
 use Rattle.std.specs.List.{range_with_len}
-use Rattle.std.proofs.lemmas.Bool.{lt-ltb, le-ltb}
-use Rattle.std.proofs.lemmas.List.Concat.{flat_map-append}
-use Rattle.std.proofs.lemmas.List.Elements.{All-nil, All-cons, All-head, All-tail, All-take, All-weaker, filter-append, filter_passes}
+use Rattle.std.proofs.lemmas.List.Elements.{All-head, All-tail, All-take, All-weaker, filter-append, filter_passes}
 use native.Mathlib.Decide.{dec_lt}
 use mathlib.Core.Logic.{dite}
 use Rattle.facet_words.specs.Commands.{Settings}
@@ -12,10 +10,10 @@ use Rattle.facet_output.specs.Answered.{by_session}
 use Rattle.facet_words.specs.Sessions.Commands.{Order}
 use Rattle.facet_output.specs.Held.{Held}
 use Rattle.facet_output.specs.Seen.{Seen, IsTold}
-use Rattle.facet_output.specs.Sessions.{SessionRan, held_by, own_steps, is_by, steps_of, phase_in_order}
+use Rattle.facet_output.specs.Sessions.{SessionRan, own_steps, is_by, steps_of, phase_in_order}
 use Rattle.facet_output.specs.Steps.{Step}
-use Rattle.facet_phases.specs.Phases.{asked, in_phase, lines_of, orders_by, PhaseRan}
-use Rattle.facet_phases.proofs.Stepping.{AreBy, are_by, own_all, own_none, asked_append, lines_append, in_phase_append}
+use Rattle.facet_phases.specs.Phases.{asked, in_phase, orders_by}
+use Rattle.facet_phases.proofs.Stepping.{AreBy, are_by, own_all, own_none, asked_append, in_phase_append}
 
 -- the orders of a session are its orders
 pub orders_are_by : (session : ℕ) (orders : List Order) → All (λ (o : Order). o.session ≡ session) (orders_by session orders)

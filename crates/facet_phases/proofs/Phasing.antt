@@ -17,8 +17,8 @@ use Rattle.facet_phases.specs.declared.lane.Lane.{Lane}
 use Rattle.facet_words.specs.declared.sessions.command.Order.{Order}
 use Rattle.facet_phases.specs.Lanes.{AreNumbered, all_lines, kept_lines}
 use Rattle.facet_words.specs.Sessions.CommandViews.{order_view}
-use Rattle.facet_phases.specs.Phases.{AreSpentWithin, asked, in_phase, lines_of, orders_by}
-use Rattle.facet_phases.proofs.Did.{HasDone, LaneDid}
+use Rattle.facet_phases.specs.Phases.{AreSpentWithin, in_phase, lines_of, orders_by}
+use Rattle.facet_phases.proofs.Did.{LaneDid}
 use Rattle.facet_phases.proofs.Parts.{IsPart, AreParts, AreWhole}
 use Rattle.facet_phases.proofs.Spent.{spent_none, spent_append}
 use Rattle.facet_phases.proofs.Stepping.{lines_append}

@@ -1,6 +1,5 @@
 -- Steps that tell of spent file numbers.
-use Rattle.std.proofs.Common.{◌≡◌, ◌∙◌, ℕ, List, [], ◌∷◌, ◌++◌, Bool, sym, subst, append-nil}
-use Rattle.std.specs.Prelude.{All, filter}
+use Rattle.std.proofs.Common.{◌∙◌, ℕ, List, [], ◌∷◌, ◌++◌, sym, subst, append-nil}
 use Rattle.std.proofs.lemmas.List.Elements.{All-nil, All-append, All-filter}
 use Rattle.std.proofs.lemmas.List.Concat.{flat_map-append}
 use Rattle.chronicle.specs.Frame.{Frame}

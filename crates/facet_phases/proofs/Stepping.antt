@@ -1,16 +1,15 @@
 -- The steps of one session, one after the other.
-use Rattle.std.proofs.Common.{◌≡◌, ◌∙◌, ℕ, ◌+◌, ◌<◌, Bool, true, false, eqb, List, [], ◌∷◌, ◌++◌, length, map, take, get_or, drop, refl, sym, ap, subst, append_assoc, eq-eqb, ne_eqb}
-use Rattle.std.specs.Prelude.{All, filter, ◌≢◌}
+use Rattle.std.proofs.Common.{◌≡◌, ◌∙◌, ℕ, List, [], ◌∷◌, ◌++◌, map, get_or, drop, refl, sym, ap, subst, eq-eqb, ne_eqb}
+use Rattle.std.specs.Prelude.{All, ◌≢◌}
 use Rattle.std.proofs.lemmas.List.{map-append}
 use Rattle.std.proofs.lemmas.List.Elements.{All-nil, All-cons, All-head, All-tail}
 use Rattle.std.proofs.lemmas.List.Concat.{flat_map-append}
 use Rattle.facet_words.specs.Commands.{Settings}
-use Rattle.facet_output.specs.Answered.{Answered}
 use Rattle.facet_words.specs.Sessions.Commands.{Order}
 use Rattle.facet_output.specs.Held.{Held, held_after}
 use Rattle.facet_output.specs.OutputLines.{answered_line, reply_lines}
 use Rattle.facet_output.specs.Seen.{Seen, IsTold}
-use Rattle.facet_output.specs.Sessions.{SessionRan, held_by, own_steps, is_by}
+use Rattle.facet_output.specs.Sessions.{SessionRan, held_by, own_steps}
 use Rattle.facet_output.specs.Steps.{Step, IsStep}
 use Rattle.facet_output.proofs.Chain.{sees_self}
 use Rattle.facet_output.proofs.Gluing.{session_append}

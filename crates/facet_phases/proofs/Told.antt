@@ -1,5 +1,5 @@
 -- What the first pass is told.
-use Rattle.std.proofs.Common.{◌≡◌, ◌∙◌, refl, ap, sym, subst, ℕ, ◌+◌, ◌<◌, List, length, get_or, arith}
+use Rattle.std.proofs.Common.{◌∙◌, refl, ap, sym, subst, ℕ, ◌+◌, ◌<◌, List, length, get_or, arith}
 use Rattle.std.specs.Prelude.{set}
 use Rattle.std.proofs.lemmas.List.{get_or-set_same, get_or-set_other}
 use native.Mathlib.Decide.{ℕ_discrete}

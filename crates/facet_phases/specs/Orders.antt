@@ -2,7 +2,6 @@
 use Rattle.std.specs.Prelude.{◌≡◌, ◌==◌, ℕ, List, filter, map, take, Result, IfOk}
 use Rattle.std.specs.Global.{Vec}
 use Rattle.facet_words.specs.Commands.{Settings}
-use Rattle.facet_output.specs.OutputLines.{reply_lines}
 use Rattle.facet_output.specs.Sessions.{SessionRan, held_by}
 use Rattle.facet_output.specs.Steps.{Step}
 use Rattle.facet_engine.specs.declared.session.Session.{Session}

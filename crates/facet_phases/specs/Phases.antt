@@ -1,10 +1,9 @@
 -- The steps of all sessions in a phase.
-use Rattle.std.specs.Prelude.{◌≡◌, ◌==◌, ℕ, List, [], ◌∷◌, ◌++◌, filter, map, take, All}
+use Rattle.std.specs.Prelude.{◌≡◌, ◌==◌, ℕ, List, [], filter, map, take, All}
 use Rattle.chronicle.specs.Frame.{Frame}
 use Rattle.commit_turns.specs.Frames.{HasNumbers}
 use Rattle.facet_words.specs.Commands.{Settings}
 use Rattle.facet_words.specs.Sessions.Commands.{Order}
-use Rattle.facet_output.specs.Output.{Opened}
 use Rattle.facet_output.specs.OutputLines.{reply_lines}
 use Rattle.facet_output.specs.Seen.{Seen}
 use Rattle.facet_output.specs.Sessions.{SessionRan, held_by, own_steps, steps_of}

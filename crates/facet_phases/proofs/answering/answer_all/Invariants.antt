@@ -1,4 +1,3 @@
-use Rattle.std.proofs.Common.{◌≡◌}
 use Rattle.facet_engine.specs.Calls.{SameSession}
 use Rattle.facet_engine.specs.Systems.{BelongsTo}
 use Rattle.facet_phases.proofs.Going.{IsGoing}

@@ -1,4 +1,4 @@
-use Rattle.std.proofs.Common.{rules, ◌≡◌, ◌+◌, ◌∙◌, List, Ok, sym, subst}
+use Rattle.std.proofs.Common.{◌+◌, ◌∙◌, List, Ok, sym, subst}
 use Rattle.facet_phases.specs.declared.lane.Lane.{Lane}
 use Rattle.facet_phases.proofs.Made.{AreMade, made_more}
 use Rattle.facet_phases.proofs.making.make_lanes.Goals as goal

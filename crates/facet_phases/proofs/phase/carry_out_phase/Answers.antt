@@ -1,5 +1,5 @@
-use Rattle.std.proofs.Common.{rules, List}
-use Rattle.std.specs.Prelude.{All, IsOk, OnOk}
+use Rattle.std.proofs.Common.{rules}
+use Rattle.std.specs.Prelude.{All, IsOk}
 use Rattle.facet_engine.specs.Steps.{seen_of}
 use Rattle.facet_phases.specs.declared.lane.Lane.{Lane}
 use Rattle.facet_phases.proofs.Belonging.{same_pass}

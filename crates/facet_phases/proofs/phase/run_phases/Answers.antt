@@ -1,4 +1,4 @@
-use Rattle.std.proofs.Common.{rules, ◌≡◌, ◌∙◌, ◌≤◌, ◌++◌, ◌∷◌, [], ℕ, List, Ok, Err, length, map, refl, sym, ap, subst}
+use Rattle.std.proofs.Common.{rules, ◌∙◌, ◌≤◌, ◌∷◌, [], ℕ, List, Ok, Err, length, map, refl, sym, subst}
 use Rattle.std.specs.Prelude.{All, IsTrue}
 use Rattle.std.specs.Global.{Vec}
 use Rattle.std.proofs.lemmas.List.{map-append, map-id}

@@ -1,4 +1,4 @@
-use Rattle.std.proofs.Common.{rules, ◌≡◌, ◌≤◌, ◌∙◌, ℕ, List, Ok, Err, length, map, refl, sym, ap, subst}
+use Rattle.std.proofs.Common.{rules, ◌∙◌, List, map, sym, subst}
 use Rattle.std.specs.Global.{Vec}
 use Rattle.facet_words.specs.Sessions.CommandViews.{order_view}
 use Rattle.facet_words.specs.declared.sessions.command.Order.{Order}

@@ -1,13 +1,12 @@
-use Rattle.std.proofs.Common.{rules, ◌≡◌, ◌∙◌, ◌≤◌, ℕ, List, Some, map, sym, ap, subst}
+use Rattle.std.proofs.Common.{◌≡◌, ◌∙◌, ◌≤◌, ℕ, List, Some, map, sym, ap, subst}
 use Rattle.std.specs.Prelude.{All}
 use Rattle.std.specs.Global.{Vec}
 use Rattle.chronicle.specs.Frame.{Frame}
 use Rattle.chronicle.specs.History.{entries}
-use Rattle.facet_model.specs.Histories.{Operation}
 use Rattle.facet_names.specs.Labels.{IsLabelList}
 use Rattle.facet_io.specs.Faults.{Rose}
 use Rattle.facet_output.specs.Outputs.{sessions_in}
-use Rattle.facet_output.specs.Seen.{Seen, Sees, history_of, labels_of}
+use Rattle.facet_output.specs.Seen.{history_of, labels_of}
 use Rattle.facet_phases.proofs.Tracing.{sessions_told}
 use Rattle.facet_words.specs.Sessions.CommandViews.{order_view}
 use Rattle.facet_words.specs.declared.sessions.command.Order.{Order}
