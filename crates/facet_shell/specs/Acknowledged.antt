@@ -23,7 +23,8 @@ use Rattle.facet_shell.specs.Runs.{Ran, script_limit}
 
 -- of an add that came before a commit, of its session or of an earlier phase, and was answered with a place: of these documents its own stands there
 abbrev pub HasAdd : Answered → List Doc → Answered → Type 0
-HasAdd a documents b = (doc : Doc) (place : ℕ) → IsTrue (comes_after a b) → b.order.command ≡ add doc → b.reply ≡ placed place → slice_get documents place ≡ Some doc
+HasAdd a documents b = (doc : Doc) (place : ℕ) → IsTrue (comes_after a b) → b.order.command ≡ add doc → b.reply ≡ placed place
+    → slice_get documents place ≡ Some doc
 
 -- An image opens as the first of the labels and the first of the documents at the end, with all that a commit acknowledged which was answered this number.
 pub record Holds (settings : Settings) (last : Seen) (answered : List Answered) (a : Answered) (n : ℕ) (c : Image) : Type 0 where
@@ -40,7 +41,8 @@ IsHeld settings last answered c a = (n : ℕ) → a.order.command ≡ commit →
 
 -- Over a disk that tells its files and was settled, whatever a crash leaves at the end holds all that each acknowledged commit has acknowledged.
 abbrev pub AcknowledgedStays : {D : Type 0} → Ghosts D → Type 0
-AcknowledgedStays {D} ghosts = (settings : Settings) (phases : List (List Order)) (trace : Trace) (old new : D) (t : Told) → ghosts.told old ≡ Some t → IsSettled ghosts settings.config t old
+AcknowledgedStays {D} ghosts = (settings : Settings) (phases : List (List Order)) (trace : Trace) (old new : D) (t : Told) → ghosts.told old ≡ Some t
+    → IsSettled ghosts settings.config t old
     → (ran : Ran ghosts settings phases trace old new) → (c : Image) → ghosts.may_leave new c → All (IsHeld settings ran.last ran.answered c) ran.answered
 
 -- ---- commits are acknowledged
@@ -49,9 +51,11 @@ AcknowledgedStays {D} ghosts = (settings : Settings) (phases : List (List Order)
 abbrev pub IsAcknowledged : Answered → Type 0
 IsAcknowledged a = a.order.command ≡ commit → ((n : ℕ) × (a.reply ≡ numbered n)) ⊎ (a.reply ≡ refused no_memory)
 
--- Each commit of a script is acknowledged, where the disk tells files whose numbers are below 2^62 and its count of faults does not rise. So it is of the script's
--- phases, and of the first of them.
+-- Each commit of a script is acknowledged, where the disk tells files whose numbers are below 2^62 and its count of faults does not rise.
+-- So it is of the script's phases, and of the first of them.
 abbrev pub CommitsAreAcknowledged : {D : Type 0} → Ghosts D → Type 0
-CommitsAreAcknowledged {D} ghosts = (input : List ℕ) (s : Script) (phases : List (List Order)) (trace : Trace) (old new : D) (t : Told) → script input ≡ Ok s → length input ≤ script_limit
-    → length (in_writing_order phases) ≤ length (in_writing_order s.phases) → ghosts.told old ≡ Some t → next_after (greatest_number t.files) ≤ 2 ^ 62 → ¬ Rose (ghosts.faults old) (ghosts.faults new)
+CommitsAreAcknowledged {D} ghosts = (input : List ℕ) (s : Script) (phases : List (List Order)) (trace : Trace) (old new : D) (t : Told)
+    → script input ≡ Ok s → length input ≤ script_limit
+    → length (in_writing_order phases) ≤ length (in_writing_order s.phases) → ghosts.told old ≡ Some t → next_after (greatest_number t.files) ≤ 2 ^ 62
+    → ¬ Rose (ghosts.faults old) (ghosts.faults new)
     → (ran : Ran ghosts s.settings phases trace old new) → All IsAcknowledged ran.answered

@@ -20,13 +20,16 @@ placed_at place answered = filter (λ e. e.0 == place) (filter_map placed_operat
 
 -- Each operation behind the opened ones is that of one add and of no other, which was answered with its place. The trace has its session there.
 abbrev pub EachIsAddedOnce : {D : Type 0} → Ghosts D → Type 0
-EachIsAddedOnce {D} ghosts = (settings : Settings) (phases : List (List Order)) (trace : Trace) (old new : D) → (ran : Ran ghosts settings phases trace old new) → (place : ℕ) (o : Operation)
-    → length ran.opened.docs ≤ place → slice_get (history_of ran.last) place ≡ Some o → (slice_get trace.sessions.items place ≡ Some o.session) × (placed_at place ran.answered ≡ (place, o) ∷ [])
+EachIsAddedOnce {D} ghosts = (settings : Settings) (phases : List (List Order)) (trace : Trace) (old new : D)
+    → (ran : Ran ghosts settings phases trace old new) → (place : ℕ) (o : Operation)
+    → length ran.opened.docs ≤ place → slice_get (history_of ran.last) place ≡ Some o → (slice_get trace.sessions.items place ≡ Some o.session)
+    × (placed_at place ran.answered ≡ (place, o) ∷ [])
 
 -- of an add that was answered with a place: its document stands there, under its session, also in the trace
 abbrev pub Stands : Opened → Seen → Trace → Answered → Type 0
 Stands opened last trace a = (doc : Doc) (place : ℕ) → a.order.command ≡ add doc → a.reply ≡ placed place → (length opened.docs ≤ place)
-    × (slice_get (history_of last) place ≡ Some (record { session = a.order.session; doc = doc })) × (slice_get trace.sessions.items place ≡ Some a.order.session)
+    × (slice_get (history_of last) place ≡ Some (record { session = a.order.session; doc = doc }))
+    × (slice_get trace.sessions.items place ≡ Some a.order.session)
 
 abbrev pub EachAddStands : {D : Type 0} → Ghosts D → Type 0
 EachAddStands {D} ghosts = (settings : Settings) (phases : List (List Order)) (trace : Trace) (old new : D) → (ran : Ran ghosts settings phases trace old new)
@@ -34,7 +37,8 @@ EachAddStands {D} ghosts = (settings : Settings) (phases : List (List Order)) (t
 
 -- it tells a place, or of want of memory, or of as many documents as there may be, which are there
 abbrev pub IsPlacedOr : Settings → List Operation → Reply → Type 0
-IsPlacedOr settings history reply = ((at : ℕ) × (reply ≡ placed at)) ⊎ (reply ≡ refused no_memory) ⊎ ((n : ℕ) × (settings.max_docs ≤ n) × (n ≤ length history) × (reply ≡ refused (docs_full n)))
+IsPlacedOr settings history reply = ((at : ℕ) × (reply ≡ placed at)) ⊎ (reply ≡ refused no_memory) ⊎ ((n : ℕ) × (settings.max_docs ≤ n)
+    × (n ≤ length history) × (reply ≡ refused (docs_full n)))
 
 -- of an add whose document the config accepts: it is placed so, where all its labels are there at the end, or fewer labels than there may be
 abbrev pub IsPlacedWhereItFits : Settings → Seen → Answered → Type 0

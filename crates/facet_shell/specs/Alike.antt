@@ -41,18 +41,22 @@ replies_of answered = map (λ a. a.reply) answered
 -- Stores whose files stand for the same labels and documents are opened the same.
 abbrev pub EqualFilesOpenTheSame : {D : Type 0} → Ghosts D → Type 0
 EqualFilesOpenTheSame {D} ghosts = (settings : Settings) (phases more : List (List Order)) (trace other : Trace) (one two one_after two_after : D) (t u : Told) (f g : Found)
-    → (first : Ran ghosts settings phases trace one one_after) → (second : Ran ghosts settings more other two two_after) → ghosts.told one ≡ Some t → ghosts.told two ≡ Some u
-    → files settings.config t.files ≡ Ok f → files settings.config u.files ≡ Ok g → f.labels ≡ g.labels → docs_found f ≡ docs_found g → first.opened ≡ second.opened
+    → (first : Ran ghosts settings phases trace one one_after) → (second : Ran ghosts settings more other two two_after) → ghosts.told one ≡ Some t
+    → ghosts.told two ≡ Some u
+    → files settings.config t.files ≡ Ok f → files settings.config u.files ≡ Ok g → f.labels ≡ g.labels → docs_found f ≡ docs_found g
+    → first.opened ≡ second.opened
 
 -- Where the orders of one run of a session are the first of those of another, or all, and both opened the same, they are answered alike.
 abbrev pub EqualStoresReplyAlike : {D : Type 0} → Ghosts D → Type 0
 EqualStoresReplyAlike {D} ghosts = (settings : Settings) (phases more : List (List Order)) (trace other : Trace) (one two one_after two_after : D) (session : ℕ)
     → (first : Ran ghosts settings phases trace one one_after) → (second : Ran ghosts settings more other two two_after) → first.opened ≡ second.opened
-    → IsPrefix (in_writing_order phases) (in_writing_order more) → IsTrue (list_all (is_of session) second.answered) → AreAlike (replies_of first.answered) (replies_of second.answered)
+    → IsPrefix (in_writing_order phases) (in_writing_order more) → IsTrue (list_all (is_of session) second.answered)
+    → AreAlike (replies_of first.answered) (replies_of second.answered)
 
 -- Where no reply of two runs of one script tells of its store or of want of memory, all that they write is the same, byte for byte, and so is their trace.
 abbrev pub EqualStoresWriteTheSame : {D : Type 0} → Ghosts D → Type 0
 EqualStoresWriteTheSame {D} ghosts = (settings : Settings) (phases : List (List Order)) (trace other : Trace) (one two one_after two_after : D) (session : ℕ)
     → (first : Ran ghosts settings phases trace one one_after) → (second : Ran ghosts settings phases other two two_after) → first.opened ≡ second.opened
-    → IsTrue (list_all (is_of session) second.answered) → IsTrue (list_all is_plain (replies_of first.answered)) → IsTrue (list_all is_plain (replies_of second.answered))
+    → IsTrue (list_all (is_of session) second.answered) → IsTrue (list_all is_plain (replies_of first.answered))
+    → IsTrue (list_all is_plain (replies_of second.answered))
     → (bytes_of first ≡ bytes_of second) × (trace.labels ≡ other.labels) × (trace.sessions.items ≡ other.sessions.items)

@@ -23,8 +23,8 @@ pub fn adds_stand<D: Disk>(disk: &D)
     let _ = disk;
 }
 
-/// Whatever a crash leaves at the end of a run has all that each acknowledged commit has acknowledged: the documents of the adds that came before it, and the labels
-/// that its session had been shown. Where the disk's count of faults does not rise and there are numbers, a commit is acknowledged, or finds no memory.
+/// Whatever a crash leaves at the end of a run has all that each acknowledged commit has acknowledged: the documents of the adds that came before it, and the
+/// labels that its session had been shown. Where the disk's count of faults does not rise and there are numbers, a commit is acknowledged, or finds no memory.
 pub fn commits_stay<D: Disk>(disk: &D)
     ensures stays { AcknowledgedStays D.Disk }
     ensures acknowledged { CommitsAreAcknowledged D.Disk }
@@ -32,7 +32,7 @@ pub fn commits_stay<D: Disk>(disk: &D)
     let _ = disk;
 }
 
-/// Runs of one session over stores whose files stand for the same are answered alike, and where no reply tells of its store or of want of memory, byte for byte.
+/// Runs of one session over stores whose files stand for the same are answered alike: byte for byte, where no reply tells of its store or of want of memory.
 pub fn equal_stores_reply_alike<D: Disk>(disk: &D)
     ensures opened { EqualFilesOpenTheSame D.Disk }
     ensures alike { EqualStoresReplyAlike D.Disk }
