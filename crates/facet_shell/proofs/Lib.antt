@@ -1,4 +1,3 @@
-pub mod Firsts
 pub mod Opened
 pub mod Begun
 pub mod Kept

@@ -1,5 +1,6 @@
-ghost use Rattle.std.specs.Prelude.{◌≡◌, ◌≢◌, ◌∷◌, [], ◌↔◌, ◌⊎◌, ℕ, List, length, map, IfOk, IfSome, Some, None};
+ghost use Rattle.std.specs.Prelude.{◌≡◌, ◌≢◌, ◌⊎◌, ℕ, List, map, IfOk, Some, None, option_map, true, false};
 ghost use Rattle.std.specs.String.{string_bytes};
+ghost use Rattle.command_line.specs.Words.{reads_script, words_of};
 ghost use Rattle.facet_disk.specs.Images.{Told};
 ghost use Rattle.facet_io.specs.Faults.{Rose};
 ghost use Rattle.facet_shell.specs.Runs.{ReadsScript, ReadsSome, ReadsTooMuch, TellsOfScript, TellsOfStore, RunsSessions, EndsWhole, EndsPartly, EndsShort, EndsBefore, WritesLine, expected};
@@ -8,6 +9,7 @@ ghost use Rattle.facet_shell.specs.Statuses.{status_line};
 use crate::serving::run_script;
 use crate::status::{Ended, Status};
 use crate::telling::{tell, tell_of_script};
+use command_line::read_words;
 use facet_disk::Disk;
 use facet_io::{ReadFault, Sink, Source, read_to_end};
 use facet_names::NoMemory;
@@ -20,15 +22,24 @@ use std::thread::Threads;
 
 const SCRIPT_LIMIT: usize = 67_108_864;
 
-/// The directory of the store, which the words name: they are this one word. None for other words.
+/// The directory of the store, which the words name. None for words that `run` does not take.
 pub fn place(alloc: Global, words: &[String]) -> Result<Option<String>, NoMemory>
-    ensures some { IfOk result (λ place. IfSome place (λ dir. map string_bytes words.now ≡ string_bytes dir ∷ [])) }
-    ensures none { IfOk result (λ place. (place ≡ None) ↔ (length words.now ≢ 1)) }
+    ensures { IfOk result (λ place. option_map string_bytes place ≡ option_map (λ w. w.dir) (words_of (map string_bytes words.now))) }
 {
-    if words.len() != 1 {
-        return Ok(None);
+    match read_words(alloc, words)? {
+        Some(line) => Ok(Some(line.dir)),
+        None => Ok(None),
     }
-    Ok(Some(String::from_str(alloc, &words[0])?))
+}
+
+// Whether the words ask for a script to be read.
+fn ask_for_script(alloc: Global, words: &[String]) -> Result<bool, NoMemory>
+    ensures { IfOk result (λ b. b ≡ reads_script (words_of (map string_bytes words.now))) }
+{
+    match read_words(alloc, words)? {
+        Some(line) => Ok(line.generate.is_none()),
+        None => Ok(false),
+    }
 }
 
 /// Reads a script from the source to its end, opens the store of the disk, carries out the orders of its sessions, and writes their replies to the sink.
@@ -64,7 +75,9 @@ pub fn run<R: AllocGlobal + Threads + Wait + Sync, S: Source, K: Sink, D: Disk, 
         ⊎ WritesLine K.Sink sink.old sink.new (status_line result.status) }
 
     // When each end comes.
-    ensures bad_words { (result.status ≡ Status.BadWords) ↔ (length words.now ≢ 1) }
+    ensures bad_words { result.status ≡ Status.BadWords → reads_script (words_of (map string_bytes words.now)) ≡ false }
+    ensures words_refused { reads_script (words_of (map string_bytes words.now)) ≡ false
+        → (result.status ≡ Status.BadWords) ⊎ (result.status ≡ Status.NoMemory) }
     ensures read_failed { result.status ≡ Status.ReadFault → Rose (S.faults source.old) (S.faults source.new) }
     ensures write_failed { result.status ≡ Status.WriteFault → Rose (K.faults sink.old) (K.faults sink.new) }
     ensures disk_failed { result.status ≡ Status.DiskFault → ReadsScript S.Source source.old source.new × Rose (D.faults disk) (D.faults result.disk) }
@@ -76,14 +89,17 @@ pub fn run<R: AllocGlobal + Threads + Wait + Sync, S: Source, K: Sink, D: Disk, 
     ensures disk_still { (result.status ≡ Status.Done) ⊎ (result.status ≡ Status.WriteFault) ⊎ (result.status ≡ Status.NoMemory)
         ⊎ (result.status ≡ Status.DiskFault) ⊎ (D.faults result.disk ≡ D.faults disk) }
 
-    ensures complete { (input : List ℕ) (s : Told) → S.left source.old ≡ Some input → D.told disk ≡ Some s → length words.now ≡ 1
+    ensures complete { (input : List ℕ) (s : Told) → S.left source.old ≡ Some input → D.told disk ≡ Some s
+        → reads_script (words_of (map string_bytes words.now)) ≡ true
         → ¬ Rose (S.faults source.old) (S.faults source.new) → ¬ Rose (K.faults sink.old) (K.faults sink.new) → ¬ Rose (D.faults disk) (D.faults result.disk)
         → (result.status ≡ expected input s.files) ⊎ (result.status ≡ Status.NoMemory) }
 {
-    if words.len() != 1 {
-        return tell(sink, Status::BadWords, disk);
-    }
     let alloc = rt.alloc();
+    match ask_for_script(alloc, words) {
+        Ok(true) => {}
+        Ok(false) => return tell(sink, Status::BadWords, disk),
+        Err(NoMemory) => return tell(sink, Status::NoMemory, disk),
+    }
     match read_to_end(alloc, source, SCRIPT_LIMIT) {
         Err(ReadFault::Failed) => tell(sink, Status::ReadFault, disk),
         Err(ReadFault::TooLong) => tell(sink, Status::TooLong, disk),

@@ -1,0 +1,7 @@
+-- The plain data of what the words say.
+use Rattle.std.specs.Prelude.{string_bytes}
+use Rattle.command_line.specs.Words as plain
+use Rattle.command_line.specs.declared.words.CommandLine.{CommandLine}
+
+abbrev pub words_view : CommandLine → plain.Words
+words_view line = record { dir = string_bytes line.dir; generate = line.generate; sessions = line.sessions }

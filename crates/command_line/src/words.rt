@@ -1,0 +1,122 @@
+ghost use Rattle.std.specs.Prelude.{◌≡◌, ◌<◌, [], IfOk, IfSome, None, option_map, map, string_bytes, length};
+ghost use Rattle.clap.specs.Words.{app_of, first_of, found_of, fault_of, matches_of, rows_of};
+ghost use Rattle.command_line.specs.Words.{command as app, given_within, number_within, words_of, words_of_rows};
+ghost use Rattle.command_line.specs.Views.{words_view};
+
+use clap::builder::ValueParser;
+use clap::error::ErrorKind;
+use clap::{Arg, ArgMatches, Command};
+use facet_names::NoMemory;
+use std::alloc::{AllocError, Global};
+
+/// What the words say.
+#[derive(Debug, Drop)]
+pub struct CommandLine {
+    /// The directory of the store.
+    pub dir: String,
+    /// How many documents are generated, 1 to 1,000,000. None where a script is read.
+    pub generate: Option<u32>,
+    /// How many sessions generate them, 1 to 8. It says nothing where a script is read.
+    pub sessions: u32,
+}
+
+fn command<'a>(alloc: Global) -> Result<Command<'a>, AllocError>
+    ensures { IfOk result (λ c. app_of c ≡ app) }
+{
+    let generate = Arg::new(alloc, "generate")
+        .long("generate")
+        .value_parser(ValueParser::unsigned(1, 1_000_000));
+    let sessions = Arg::new(alloc, "sessions")
+        .long("sessions")
+        .value_parser(ValueParser::unsigned(1, 8));
+    let dir = Arg::new(alloc, "DIR").required(true);
+    Command::new(alloc, "facets")
+        .no_binary_name(true)
+        .disable_help_flag(true)
+        .arg(generate)?
+        .arg(sessions)?
+        .arg(dir)
+}
+
+// What the command finds among the words. None where it does not take them.
+fn matches_in<'a>(alloc: Global, words: &'a [String]) -> Result<Option<ArgMatches<'a>>, NoMemory>
+    ensures some { IfOk result (λ found. IfSome found (λ m. (fault_of app (map string_bytes words.entry.now) ≡ [])
+        × (rows_of (found_of m) ≡ matches_of app (map string_bytes words.entry.now)))) }
+    ensures none { IfOk result (λ found. found ≡ None → 0 < length (fault_of app (map string_bytes words.entry.now))) }
+{
+    let command = command(alloc)?;
+    match command.try_get_matches_from(words) {
+        Ok(matches) => Ok(Some(matches)),
+        Err(error) => if error.kind() == ErrorKind::OutOfMemory {
+            Err(NoMemory)
+        } else {
+            Ok(None)
+        },
+    }
+}
+
+fn number_in(text: &str, low: u32, high: u32) -> Option<u32>
+    ensures { result ≡ number_within low high text.now }
+{
+    match text.parse::<u64>() {
+        Ok(n) => if low as u64 <= n && n <= high as u64 {
+            Some(n as u32)
+        } else {
+            None
+        },
+        Err(_) => None,
+    }
+}
+
+// The text under a name.
+fn text_under<'a>(matches: &ArgMatches<'a>, id: &str) -> Option<&'a str>
+    ensures { option_map (λ s. s.now) result ≡ first_of id.now (rows_of (found_of matches.now)) }
+{
+    matches.get_str(id)
+}
+
+// The number under a name, where it is from `low` to `high`; Some(None) where none is given.
+fn number_under(matches: &ArgMatches<'_>, id: &str, low: u32, high: u32) -> Option<Option<u32>>
+    ensures { result ≡ given_within low high (first_of id.now (rows_of (found_of matches.now))) }
+{
+    match text_under(matches, id) {
+        None => Some(None),
+        Some(text) => match number_in(text, low, high) {
+            Some(n) => Some(Some(n)),
+            None => None,
+        },
+    }
+}
+
+// What was found, put together.
+fn line_of(alloc: Global, matches: &ArgMatches<'_>) -> Result<Option<CommandLine>, NoMemory>
+    ensures { IfOk result (λ line. option_map words_view line ≡ words_of_rows (rows_of (found_of matches.now))) }
+{
+    let Some(dir) = text_under(matches, "DIR") else {
+        return Ok(None);
+    };
+    let Some(generate) = number_under(matches, "generate", 1, 1_000_000) else {
+        return Ok(None);
+    };
+    let Some(sessions) = number_under(matches, "sessions", 1, 8) else {
+        return Ok(None);
+    };
+    let dir = String::from_str(alloc, dir)?;
+    Ok(Some(CommandLine {
+        dir,
+        generate,
+        sessions: sessions.unwrap_or(1),
+    }))
+}
+
+/// What the words behind the program's name say, as `clap` reads them for a command with one required word, the directory, and the options `--generate` and
+/// `--sessions`, each with a number in its range. None where it does not take them.
+#[tactic(auto, unfolding(crate::specs::Words::words_of))]
+pub fn read_words(alloc: Global, words: &[String]) -> Result<Option<CommandLine>, NoMemory>
+    ensures { IfOk result (λ line. option_map words_view line ≡ words_of (map string_bytes words.now)) }
+{
+    match matches_in(alloc, words)? {
+        Some(matches) => line_of(alloc, &matches),
+        None => Ok(None),
+    }
+}
