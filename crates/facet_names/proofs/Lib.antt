@@ -1,5 +1,6 @@
 pub mod LabelLists
 pub mod Parts
+pub mod Blocks
 pub mod TermTexts
 pub mod Greatest
 pub mod Places

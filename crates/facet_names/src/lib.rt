@@ -1,6 +1,7 @@
 //! Category paths, as Lucene's `FacetLabel`: their shape, order and hash, and the definitions of a label list and of its arrays.
 #![tactic(auto)]
 
+mod block;
 mod fault;
 mod laws;
 mod path;

@@ -1,9 +1,10 @@
-ghost use Rattle.std.specs.Prelude.{◌≡◌, ◌≢◌, ◌<◌, ◌≤◌, ◌++◌, [], ◌∷◌, Some, None, length, slice_get, IfOk, IfErr, IsOk, take, List, ℕ, MatchOption, string_bytes};
+ghost use Rattle.std.specs.Prelude.{◌≡◌, ◌≢◌, ◌<◌, ◌≤◌, ◌++◌, [], ◌∷◌, Some, None, length, slice_get, IfOk, IfErr, IsOk, take, drop, List, ℕ, MatchOption, string_bytes};
 ghost use Rattle.facet_names.specs.Paths.{texts, is_under, parent_of};
 ghost use Rattle.facet_names.specs.Faults.{IsPath, path_fault, part_fault};
 ghost use Rattle.facet_names.specs.Terms.{term_text, IsTermText};
 ghost use Rattle.facet_names.specs.declared.fault.PathFault.TheVariants.{NoMemory as Memory};
 
+use crate::block::{block_of, block_with, compared, cut, is_front, size, skip};
 use crate::fault::{NoMemory, PathFault};
 use crate::term::{joined, split};
 use std::alloc::Global;
@@ -14,22 +15,22 @@ use std::marker::Model;
 /// A category: 1 to 32 components, each of 1 to 1,024 bytes. The first is the dimension. As Lucene's `FacetLabel`; the root, which has no
 /// component, is no `Path`.
 ///
-/// Paths are equal where their components are, and are ordered component by component, by bytes.
+/// Paths are equal where their components are, and are ordered component by component, by bytes. One takes a single block of memory, of its components'
+/// bytes and two more for each.
 #[derive(Debug, Drop)]
 pub struct Path {
-    parts: Vec<String>,
+    text: String,
 }
 
 impl Model for Path {
-    ghost use Rattle.std.specs.Prelude.{List, ℕ};
-    ghost use Rattle.facet_names.specs.Paths.{texts};
-    ghost use Rattle.facet_names.specs.Faults.{IsPath};
+    ghost use Rattle.std.specs.Prelude.{List, ℕ, string_bytes};
+    ghost use Rattle.facet_names.specs.Blocks.{IsPathBlock, parts_of};
 
     ghost Value = { List (List ℕ) };
 
-    ghost view = { λ p. texts p.parts.items };
+    ghost view = { λ p. parts_of (string_bytes p.text) };
 
-    ghost invariant = { λ p. IsPath (texts p.parts.items) };
+    ghost invariant = { λ p. IsPathBlock (string_bytes p.text) };
 }
 
 fn check_part(at: usize, part: &str) -> Result<(), PathFault>
@@ -76,17 +77,8 @@ fn check(parts: &[String]) -> Result<(), PathFault>
     check_each(parts)
 }
 
-fn copied(alloc: Global, parts: &[String]) -> Result<Vec<String>, NoMemory>
-    ensures { IfOk result (λ v. texts v.items ≡ texts parts.now) }
-{
-    let mut copy = Vec::with_capacity(alloc, parts.len())?;
-    for part in parts {
-        copy.push(String::from_str(alloc, part.as_str())?)?;
-    }
-    Ok(copy)
-}
-
 impl Path {
+    #[tactic(auto, using(crate::proofs::Blocks::path_block))]
     /// The path of these components. The number of components is looked at first, and then each of them in order.
     pub fn new(alloc: Global, parts: &[String]) -> Result<Path, PathFault>
         ensures ok { IfOk result (λ p. p ≡ texts parts.now) }
@@ -95,10 +87,11 @@ impl Path {
         ensures memory { IfErr result (λ e. e ≡ Memory → path_fault (texts parts.now) ≡ None) }
     {
         check(parts)?;
-        let parts = copied(alloc, parts)?;
-        Ok(Path { parts })
+        let text = block_of(alloc, parts)?;
+        Ok(Path { text })
     }
 
+    #[tactic(auto, using(crate::proofs::Blocks::path_block))]
     /// The path of one component, a dimension alone. It is refused as `new` refuses it, before anything is copied.
     pub fn of_dim(alloc: Global, dim: &str) -> Result<Path, PathFault>
         ensures ok { IfOk result (λ p. p ≡ dim.now ∷ []) }
@@ -107,9 +100,8 @@ impl Path {
         ensures memory { IfErr result (λ e. e ≡ Memory → path_fault (dim.now ∷ []) ≡ None) }
     {
         check_part(0, dim)?;
-        let mut parts = Vec::with_capacity(alloc, 1)?;
-        parts.push(String::from_str(alloc, dim)?)?;
-        Ok(Path { parts })
+        let text = block_with(alloc, "", dim)?;
+        Ok(Path { text })
     }
 
     /// The number of components, from 1 to 32.
@@ -117,14 +109,14 @@ impl Path {
         ensures len { result ≡ length self.now }
         ensures fits { IsPath self.now }
     {
-        self.parts.len()
+        size(&self.text)
     }
 
     /// A law: a path has 1 to 32 components, so it is never the root of a label list. The call does nothing.
     pub fn has_components(&self)
         ensures { IsPath self.now }
     {
-        let _ = &self.parts;
+        let _ = &self.text;
     }
 
     /// The component at a place, from 0. It has 1 to 1,024 bytes.
@@ -134,39 +126,38 @@ impl Path {
         ensures some { 0 < length result.now }
         ensures short { length result.now ≤ 1024 }
     {
-        self.parts[at].as_str()
+        cut(skip(&self.text, at)).0
     }
 
     /// The first component, the dimension.
     pub fn dim(&self) -> &str
         ensures { slice_get self.now 0 ≡ Some result.now }
     {
-        self.parts[0].as_str()
+        cut(&self.text).0
     }
 
-    #[tactic(auto, using(crate::proofs::Parts::front_of))]
     /// The path of the first `len` components.
     pub fn front(&self, alloc: Global, len: usize) -> Result<Path, NoMemory>
         requires some { 0 < len }
         requires within { len ≤ length self.now }
         ensures { IfOk result (λ p. p ≡ take len self.now) }
     {
-        let (front, _) = self.parts.split_at(len);
-        let parts = copied(alloc, front)?;
-        Ok(Path { parts })
+        let rest = skip(&self.text, len);
+        let (front, _) = self.text.split_at(self.text.len() - rest.len());
+        let text = String::from_str(alloc, front)?;
+        Ok(Path { text })
     }
 
-    #[tactic(auto, using(crate::proofs::Parts::front_is_parent))]
     /// The path without its last component; None where it has one component alone, since the root is no `Path`.
     pub fn parent(&self, alloc: Global) -> Result<Option<Path>, NoMemory>
         ensures { IfOk result (λ o. o ≡ parent_of self.now) }
     {
-        let last = self.parts.len() - 1;
+        let last = self.len() - 1;
         if last == 0 {
             return Ok(None);
         }
-        let parts = copied(alloc, &self.parts[..last])?;
-        Ok(Some(Path { parts }))
+        let parent = self.front(alloc, last)?;
+        Ok(Some(parent))
     }
 
     #[tactic(auto, using(crate::proofs::Parts::child_fault))]
@@ -176,7 +167,7 @@ impl Path {
         ensures err { IfErr result (λ e. path_fault (self.now ++ part.now ∷ []) ≡ Some e) }
         ensures known { IfErr result (λ e. e ≢ Memory) }
     {
-        let at = self.parts.len();
+        let at = self.len();
         if at == 32 {
             return Err(PathFault::TooManyParts { len: 33 });
         }
@@ -191,16 +182,15 @@ impl Path {
         ensures memory { IfErr result (λ e. e ≡ Memory → path_fault (self.now ++ part.now ∷ []) ≡ None) }
     {
         self.check_child(part)?;
-        let mut parts = copied(alloc, &self.parts)?;
-        parts.push(String::from_str(alloc, part)?)?;
-        Ok(Path { parts })
+        let text = block_with(alloc, &self.text, part)?;
+        Ok(Path { text })
     }
 
     /// Whether the other path is a prefix of this one. Every path is under itself. It takes no memory.
     pub fn is_under(&self, other: &Path) -> bool
         ensures { result ≡ is_under self.now other.now }
     {
-        self.parts.starts_with(&other.parts)
+        is_front(&other.text, &self.text)
     }
 
     /// The path's drill-down term: the components with U+001F between them, and a U+001E before each U+001E or U+001F inside one. As Lucene's
@@ -209,7 +199,7 @@ impl Path {
         ensures text { IfOk result (λ text. string_bytes text ≡ term_text self.now) }
         ensures some { 0 < length self.now }
     {
-        joined(alloc, &self.parts)
+        joined(alloc, &self.text)
     }
 
     /// The path whose term text this is; None where it is that of no path. It takes memory for the components, and time by the text's length.
@@ -221,7 +211,10 @@ impl Path {
             return Ok(None);
         };
         match check(&parts) {
-            Ok(()) => Ok(Some(Path { parts })),
+            Ok(()) => {
+                let text = block_of(alloc, &parts)?;
+                Ok(Some(Path { text }))
+            }
             Err(_) => Ok(None),
         }
     }
@@ -230,8 +223,8 @@ impl Path {
     pub fn dup(&self, alloc: Global) -> Result<Path, NoMemory>
         ensures { IfOk result (λ p. p ≡ self.now) }
     {
-        let parts = copied(alloc, &self.parts)?;
-        Ok(Path { parts })
+        let text = String::from_str(alloc, &self.text)?;
+        Ok(Path { text })
     }
 }
 
@@ -244,7 +237,7 @@ impl PartialEq for Path {
     ghost laws = { partial_equiv_from_equiv path_eq_equiv };
 
     fn eq(&self, other: &Path) -> bool {
-        self.parts == other.parts
+        self.text == other.text
     }
 }
 
@@ -279,7 +272,7 @@ impl Ord for Path {
     ghost matches_eq = { path_ties };
 
     fn cmp(&self, other: &Path) -> Ordering {
-        self.parts.cmp(&other.parts)
+        compared(&self.text, &other.text)
     }
 }
 
@@ -291,6 +284,6 @@ impl Hash for Path {
     ghost respects_eq = { path_hash_alike.fed };
 
     fn hash<H: Hasher>(&self, state: &mut H) {
-        self.parts.hash(state);
+        self.text.hash(state);
     }
 }

@@ -1,8 +1,10 @@
 ghost use Rattle.std.specs.Prelude.{◌≡◌, ◌==◌, ◌<◌, ◌++◌, ◌∷◌, length, List, ℕ, string_bytes, IfOk, OnOk, OnErr, MatchOption};
 ghost use Rattle.std.specs.List.{list_any};
 ghost use Rattle.facet_names.specs.Paths.{texts};
+ghost use Rattle.facet_names.specs.Blocks.{IsBlock, parts_of};
 ghost use Rattle.facet_names.specs.Terms.{HasSome, behind, escaped, is_special, term_text};
 
+use crate::block::cut;
 use crate::fault::NoMemory;
 use std::alloc::Global;
 use std::mem;
@@ -62,12 +64,19 @@ pub fn push_part(text: &mut String, at: usize, part: &str) -> Result<(), NoMemor
     push_escaped(text, part)
 }
 
-pub fn joined(alloc: Global, parts: &[String]) -> Result<String, NoMemory>
-    ensures { IfOk result (λ text. string_bytes text ≡ term_text (texts parts.now)) }
+/// The term text of a block's components.
+pub fn joined(alloc: Global, block: &str) -> Result<String, NoMemory>
+    requires { IsBlock block.now }
+    ensures { IfOk result (λ text. string_bytes text ≡ term_text (parts_of block.now)) }
 {
-    let mut text = String::new(alloc);
-    for (at, part) in parts.iter().enumerate() {
-        push_part(&mut text, at, part.as_str())?;
+    let mut text = String::with_capacity(alloc, block.len())?;
+    let mut at = 0;
+    let mut rest = block;
+    while !rest.is_empty() {
+        let (part, behind) = cut(rest);
+        push_part(&mut text, at, part)?;
+        rest = behind;
+        at += 1;
     }
     Ok(text)
 }
