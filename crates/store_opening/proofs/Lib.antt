@@ -5,5 +5,6 @@ pub mod Greatest
 pub mod Held
 pub mod Loops
 pub mod Quiet
+pub mod Sorted
 pub mod Stopped
 pub mod Whole

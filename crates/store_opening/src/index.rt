@@ -16,6 +16,7 @@ ghost use Rattle.store_opening.specs.Newest.{AreListed, IsNewestIndex, IsNamedAs
 ghost use Rattle.store_opening.specs.Quiet.{IsRead, FailsOnly, OfListed, OfFiles};
 
 use crate::fault::{OpenFault, of_file, of_segment};
+use crate::names::Names;
 use crate::reading::{CommitBytes, read_newest, read_segment};
 use commit_file::{DocumentPart, IndexCommit, read_index_commit};
 use facet_config::FacetsConfig;
@@ -44,7 +45,7 @@ fn read_document_part<D: Disk>(
     config: &FacetsConfig,
     labels: &Taxonomy,
     needs: u32,
-    listed: &[FileName],
+    listed: &Names,
     part: DocumentPart,
 ) -> Result<Segment, OpenFault>
     requires { needs ≤ length labels.now }
@@ -83,7 +84,7 @@ fn read_document_parts<D: Disk>(
     config: &FacetsConfig,
     labels: &Taxonomy,
     needs: u32,
-    listed: &[FileName],
+    listed: &Names,
     parts: &[DocumentPart],
 ) -> Result<Vec<Arc<Segment>>, OpenFault>
     requires { needs ≤ length labels.now }
@@ -168,7 +169,7 @@ pub(crate) fn read_index<D: Disk>(
     disk: &mut D,
     config: &FacetsConfig,
     labels: &Taxonomy,
-    listed: &[FileName],
+    listed: &Names,
 ) -> Result<IndexRead, OpenFault>
     ensures ok { IfOk result (λ r. OfListed D.Disk listed.now disk.old (λ c.
         index_in config.now labels.now (newest_file Dir.Index c) (segments_in Dir.Index c) ≡ Ok (map arc_value r.segments.items))) }

@@ -4,6 +4,7 @@
 mod fault;
 mod index;
 pub mod laws;
+mod names;
 mod newest;
 mod numbers;
 mod opening;

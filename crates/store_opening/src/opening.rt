@@ -76,12 +76,12 @@ pub fn read_store<D: Disk>(
     ensures named { IfOk result (λ r. AllZip (IsNamedAs config.now r.labels) r.newest.document_parts.items (found r).segments) }
 {
     let listed = list_all(alloc, disk)?;
-    let next = next_number(&listed)?;
+    let next = next_number(listed.as_slice())?;
     let taxonomy = read_taxonomy(alloc, disk, &listed)?;
     let index = read_index(alloc, disk, config, &taxonomy.labels, &listed)?;
     let newest = Newest {
         next,
-        listed,
+        listed: listed.into_vec(),
         taxonomy: taxonomy.number,
         label_parts: taxonomy.parts,
         index: index.number,

@@ -12,6 +12,7 @@ ghost use Rattle.store_opening.specs.Commits.{commit_bytes};
 ghost use Rattle.store_opening.specs.Quiet.{IsRead, FailsOnly, OfListed, OfFiles};
 
 use crate::fault::{OpenFault, of_file};
+use crate::names::Names;
 use crate::numbers::newest_of;
 use commit_file::check_digest;
 use facet_disk::{Dir, Disk, FileName, Kind};
@@ -36,8 +37,8 @@ fn list_dir<D: Disk>(alloc: Global, disk: &mut D, dir: Dir) -> Result<Vec<FileNa
 }
 
 /// The names of both directories.
-pub(crate) fn list_all<D: Disk>(alloc: Global, disk: &mut D) -> Result<Vec<FileName>, OpenFault>
-    ensures ok { IfOk result (λ v. (s : Told) → D.told disk.old ≡ Some s → AreListed s.files v.items) }
+pub(crate) fn list_all<D: Disk>(alloc: Global, disk: &mut D) -> Result<Names, OpenFault>
+    ensures ok { IfOk result (λ names. (s : Told) → D.told disk.old ≡ Some s → AreListed s.files names) }
     ensures err { IfErr result (λ e. (e ≡ Memory) ⊎ (e ≡ Disk)) }
     ensures read { IsRead D.Disk disk.old disk.new result }
     ensures failed { IsErrOf result Disk → Rose (D.failures disk.old) (D.failures disk.new) }
@@ -45,7 +46,7 @@ pub(crate) fn list_all<D: Disk>(alloc: Global, disk: &mut D) -> Result<Vec<FileN
     let mut names = list_dir(alloc, disk, Dir::Taxonomy)?;
     let others = list_dir(alloc, disk, Dir::Index)?;
     names.extend_from_slice(&others)?;
-    Ok(names)
+    Ok(Names::new(names))
 }
 
 // The bytes of a file.
@@ -63,7 +64,7 @@ fn read_file<D: Disk>(alloc: Global, disk: &mut D, name: FileName) -> Result<Vec
 pub(crate) fn read_newest<D: Disk>(
     alloc: Global,
     disk: &mut D,
-    listed: &[FileName],
+    listed: &Names,
     dir: Dir,
 ) -> Result<Option<CommitBytes>, OpenFault>
     ensures ok { IfOk result (λ o. OfListed D.Disk listed.now disk.old (λ c. newest_file dir c ≡ option_map commit_bytes o)) }
@@ -71,7 +72,7 @@ pub(crate) fn read_newest<D: Disk>(
     ensures read { IsRead D.Disk disk.old disk.new result }
     ensures failed { FailsOnly D.Disk (λ c. AreListed c listed.now) disk.old disk.new result }
 {
-    let Some(number) = newest_of(listed, dir) else {
+    let Some(number) = newest_of(listed.as_slice(), dir) else {
         return Ok(None);
     };
     let name = FileName {
@@ -88,7 +89,7 @@ pub(crate) fn read_newest<D: Disk>(
 pub(crate) fn read_segment<D: Disk>(
     alloc: Global,
     disk: &mut D,
-    listed: &[FileName],
+    listed: &Names,
     name: FileName,
     digest: [u8; 32],
 ) -> Result<Vec<u8>, OpenFault>
@@ -98,7 +99,7 @@ pub(crate) fn read_segment<D: Disk>(
     ensures read { IsRead D.Disk disk.old disk.new result }
     ensures failed { FailsOnly D.Disk (λ c. AreListed c listed.now) disk.old disk.new result }
 {
-    if !listed.contains(&name) {
+    if !listed.has(name) {
         return Err(OpenFault::Missing { name });
     }
     let bytes = read_file(alloc, disk, name)?;

@@ -13,6 +13,7 @@ ghost use Rattle.store_opening.specs.Newest.{AreListed, IsNewestTaxonomy};
 ghost use Rattle.store_opening.specs.Quiet.{IsRead, FailsOnly, OfListed, OfFiles};
 
 use crate::fault::{OpenFault, of_file, of_labels};
+use crate::names::Names;
 use crate::reading::{CommitBytes, read_newest, read_segment};
 use commit_file::{LabelPart, TaxonomyCommit, read_taxonomy_commit};
 use facet_disk::{Dir, Disk, FileName, Kind};
@@ -33,7 +34,7 @@ pub(crate) struct TaxonomyRead {
 fn read_label_part<D: Disk>(
     alloc: Global,
     disk: &mut D,
-    listed: &[FileName],
+    listed: &Names,
     part: LabelPart,
     labels: &mut Taxonomy,
 ) -> Result<(), OpenFault>
@@ -64,7 +65,7 @@ fn read_label_part<D: Disk>(
 fn read_label_parts<D: Disk>(
     alloc: Global,
     disk: &mut D,
-    listed: &[FileName],
+    listed: &Names,
     total: u32,
     parts: &[LabelPart],
 ) -> Result<Taxonomy, OpenFault>
@@ -109,7 +110,7 @@ fn commit_of(alloc: Global, found: &CommitBytes) -> Result<TaxonomyCommit, OpenF
 pub(crate) fn read_taxonomy<D: Disk>(
     alloc: Global,
     disk: &mut D,
-    listed: &[FileName],
+    listed: &Names,
 ) -> Result<TaxonomyRead, OpenFault>
     ensures ok { IfOk result (λ r. OfListed D.Disk listed.now disk.old (λ c.
         taxonomy_in (newest_file Dir.Taxonomy c) (segments_in Dir.Taxonomy c) ≡ Ok r.labels)) }
