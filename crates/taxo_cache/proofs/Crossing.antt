@@ -12,11 +12,14 @@ use Rattle.std.proofs.MapsCrossing.{HashMap-send}
 use Rattle.std.specs.contracts.alloc.Global as heap
 use Rattle.std.specs.contracts.impls.GlobalAllocator.TheImpl.{ghosts}
 use Rattle.chronicle.proofs.Crossing.{crosses as tokens}
+use Rattle.facet_model.specs.contracts.counted.Resolved as resolved
 use Rattle.facet_names.specs.contracts.path.Path as path
 use Rattle.lru.proofs.Crosses.{KeyRef-send, Deed-send, List-send}
 use Rattle.lru.specs.contracts.cache.LruCache as cache
 use Rattle.lru.specs.contracts.entry.Slot as slot
 use Rattle.lru.specs.contracts.nodes.Nodes as nodes
+use Rattle.taxo_cache.specs.contracts.memo.Memo as memo
+use Rattle.taxo_cache.specs.contracts.memos.Memos as memos
 use Rattle.taxo_cache.specs.contracts.stripe.Stripe as stripe
 use Rattle.taxo_cache.specs.contracts.stripes.Stripes as stripes
 use Rattle.taxo_cache.specs.declared.name.Name.{Ghosts}
@@ -46,6 +49,9 @@ path_send = search (sendable, owned) depth 20
 pub path_sync : IsSync path.the_row
 path_sync = search (sendable, owned) depth 20
 
+resolved_send : IsSend resolved.the_row
+resolved_send = search (sendable, owned) depth 20
+
 module _ (N : RattleType) (n : Ghosts N.Denot) (send_n : IsSend N) where
   stripe_send : IsSend (stripe.the_row N n)
   stripe_send = search (sendable, owned, tokens, cache_send, path_send, path_sync) depth 30
@@ -56,5 +62,14 @@ module _ (N : RattleType) (n : Ghosts N.Denot) (send_n : IsSend N) where
   pub stripes_sync : IsSync (stripes.the_row N n)
   stripes_sync = search (sendable, owned, stripe_send) depth 30
 
+  memo_send : IsSend (memo.the_row N n)
+  memo_send = search (sendable, owned, tokens, cache_send, path_send, path_sync, resolved_send) depth 30
+
+  pub memos_send : IsSend (memos.the_row N n)
+  memos_send = search (sendable, owned, memo_send) depth 30
+
+  pub memos_sync : IsSync (memos.the_row N n)
+  memos_sync = search (sendable, owned, memo_send) depth 30
+
 -- for the answers of callers whose types hold paths or a cache
-pub ruleset crosses = (path_send, path_sync, stripes_send, stripes_sync)
+pub ruleset crosses = (path_send, path_sync, stripes_send, stripes_sync, memos_send, memos_sync)

@@ -1,3 +1,4 @@
 pub mod Seen
 mod Kept
+pub mod Remembered
 pub mod Crossing

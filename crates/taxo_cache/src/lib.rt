@@ -4,12 +4,16 @@
 
 mod laws;
 mod looked;
+mod memo;
+mod memos;
 mod name;
 mod stripe;
 mod stripes;
 
 pub use laws::ordinals_stay;
 pub use looked::Looked;
+pub use memo::Memo;
+pub use memos::Memos;
 pub use name::Name;
 pub use stripe::Stripe;
 pub use stripes::Stripes;

@@ -20,17 +20,19 @@ use facet_names::{NoMemory, Path};
 use std::alloc::Global;
 use std::marker::Model;
 use std::sync::{Arc, Wait};
-use taxo_cache::{Looked, Name, Stripes};
+use taxo_cache::{Looked, Memos, Name, Stripes};
 use taxo_list::{TaxoFault, TaxoView, Taxonomy};
 
 /// Gives ordinals to labels, for callers on any threads, each with a token of its own; as Lucene's `DirectoryTaxonomyWriter` with its cache of labels.
 /// Contracts see the identity of its labels chronicle, and how many labels there may be.
 ///
-/// A path whose prefixes are all in the cache is resolved without the turn of the labels. What a call says is the same with and without.
+/// A path whose prefixes are all in the cache is resolved without the turn of the labels, and one that the token used lately by one look-up in a memo of its
+/// own, whatever its length. What a call says is the same with and without.
 #[derive(Drop)]
 pub struct TaxoWriter<N: Name> {
     alloc: Global,
     labels: Chronicle<LabelList>,
+    memos: Memos<N>,
     cache: Stripes<N>,
     limit: u32,
 }
@@ -45,6 +47,9 @@ impl<N: Name> Model for TaxoWriter<N> {
 
     ghost invariant = { λ w. (w.labels ≡ N.labels) × (w.limit ≤ 1000000) };
 }
+
+// How many paths a memo has room for, where the cache has room for as many.
+const LATELY: u32 = 256;
 
 // The ordinals of each path's first prefixes that are in the cache, and whether all are.
 #[derive(Drop)]
@@ -61,8 +66,8 @@ fn is_whole(before: bool, known: usize, all: usize) -> bool
 }
 
 impl<N: Name> TaxoWriter<N> {
-    /// A writer over these labels, with a cache of so many stripes, each with room for `cache` paths. The limit counts the root too. Where there are more
-    /// labels than that, they stay, and there is room for none.
+    /// A writer over these labels, with a cache of so many stripes, each with room for `cache` paths, and as many memos, each with room for at most 256. The
+    /// limit counts the root too. Where there are more labels than that, they stay, and there is room for none.
     pub fn open(
         alloc: Global,
         labels: Chronicle<LabelList>,
@@ -79,10 +84,12 @@ impl<N: Name> TaxoWriter<N> {
         ensures first { first.new ≡ first.old }
         ensures writer { IfOk result (λ w. w ≡ record { labels = labels; limit = limit }) }
     {
+        let memos = Memos::new(alloc, &labels, first, stripes, cache.min(LATELY))?;
         let cache = Stripes::new(alloc, &labels, first, stripes, cache)?;
         Ok(TaxoWriter {
             alloc,
             labels,
+            memos,
             cache,
             limit,
         })
@@ -112,8 +119,8 @@ impl<N: Name> TaxoWriter<N> {
         Ok(self.cache.look(rt, &self.labels, token, &prefix))
     }
 
-    // The ordinals of the path's first prefixes, as far as the cache has them.
-    fn find_known<R: Wait>(
+    // The ordinals of the path's first prefixes, as far as the stripes have them.
+    fn find_shared<R: Wait>(
         &self,
         rt: &R,
         token: &mut Token<Path>,
@@ -134,6 +141,32 @@ impl<N: Name> TaxoWriter<N> {
                 Looked::Miss => return Ok(ords),
             }
         }
+        Ok(ords)
+    }
+
+    // The same, from the token's memo where that has the path.
+    fn find_known<R: Wait>(
+        &self,
+        rt: &R,
+        token: &mut Token<Path>,
+        path: &Path,
+    ) -> Result<Vec<u32>, NoMemory>
+        requires own { token.old.identity ≡ self.now.labels }
+        requires idle { MayTake token.old }
+        requires labels { SeesLabels token.old }
+        ensures token { SameToken token.old token.new × SeesOn token.old token.new × (token.new.holds_turn ≡ false) }
+        ensures labels { SeesLabels token.new }
+        ensures counted { IsCounted token.old → IsCounted token.new }
+        ensures known { IfOk result (λ v. HaveOrdinals (labels_of token.new.seen) (take (length v.items) (prefixes path.now)) v.items) }
+    {
+        if let Some(ords) = self.memos.look(rt, &self.labels, token, path)? {
+            return Ok(ords);
+        }
+        let ords = self.find_shared(rt, token, path)?;
+        if ords.len() != path.len() {
+            return Ok(ords);
+        }
+        self.memos.offer(rt, &self.labels, token, path, &ords);
         Ok(ords)
     }
 
@@ -214,8 +247,9 @@ impl<N: Name> TaxoWriter<N> {
     /// The ordinals of a path's prefixes, the dimension's first. Prefixes that are missing are added, the shortest first, and those that were added before a
     /// refusal stay.
     ///
-    /// It looks into the cache for one prefix after the other. Where that has them all it takes no turn, and else it waits for the labels' turn once. It takes
-    /// memory for a copy of each shorter prefix, and no lock of the cache is held while it waits for the turn.
+    /// It looks for the path in the token's memo, and then into the cache for one prefix after the other. Where these have them all it takes no turn, and else
+    /// it waits for the labels' turn once. For a path that is not in the memo it takes memory for a copy of each shorter prefix. No lock of the cache is held
+    /// while it waits for the turn.
     pub fn resolve<R: Wait>(
         &self,
         rt: &R,
@@ -253,8 +287,9 @@ impl<N: Name> TaxoWriter<N> {
     ) -> Result<Found, NoMemory>
         requires own { token.old.identity ≡ self.now.labels }
         requires idle { MayTake token.old }
+        requires labels { SeesLabels token.old }
         ensures token { SameToken token.old token.new × SeesOn token.old token.new × (token.new.holds_turn ≡ false) }
-        ensures labels { SeesLabels token.old → SeesLabels token.new }
+        ensures labels { SeesLabels token.new }
         ensures counted { IsCounted token.old → IsCounted token.new }
         ensures first { IfOk result (λ f. EachHaveFirst (labels_of token.new.seen) paths.now f.each.items) }
         ensures whole { IfOk result (λ f. f.whole ≡ true → EachHaveOrdinals (labels_of token.new.seen) paths.now f.each.items) }
@@ -329,8 +364,8 @@ impl<N: Name> TaxoWriter<N> {
     /// The ordinals of the prefixes of each path, path by path, as [`resolve`](TaxoWriter::resolve). Labels that were added before a refusal stay; so each
     /// label that was added has all prefixes of the paths before its own as labels before it.
     ///
-    /// It looks into the cache for the prefixes of all paths first. Where that has them all it takes no turn, and else it waits for the labels' turn once,
-    /// whatever is missing of how many paths.
+    /// It looks for all paths in the token's memo and in the cache first. Where these have them all it takes no turn, and else it waits for the labels' turn
+    /// once, whatever is missing of how many paths.
     pub fn resolve_each<R: Wait>(
         &self,
         rt: &R,

@@ -25,7 +25,7 @@ loop-path-preserved g c =
     let known : HaveOrdinals (labels_of new.seen) (take (length r) (prefixes p)) r = subst (λ (r : List ℕ). HaveOrdinals (labels_of new.seen) (take (length r) (prefixes p)) r) (sym c.new.ensures) c.in_ok-ords.ensures.known in
     record {
       token = sees_further c.args.token.now c.loop-path.token new before.token c.find_known.ensures.token;
-      labels = λ is. c.find_known.ensures.labels (before.labels is);
+      labels = c.find_known.ensures.labels;
       counted = λ is. c.find_known.ensures.counted (before.counted is);
       first = first_next paths i p lt at c.loop-path.token.seen new.seen more c.loop-path.each.items c.push.new.self.items r before.first known c.in_ok-push.ensures.items;
       whole = λ is.

@@ -1,0 +1,105 @@
+ghost use Rattle.std.specs.Prelude.{◌≡◌, ◌≤◌, ℕ, false, IfSome, IfOk};
+ghost use Rattle.chronicle.specs.Shown.{SameToken, SeesOn, IsCounted};
+ghost use Rattle.taxo_cache.specs.Seen.{labels_of, SeesLabels};
+ghost use Rattle.taxo_cache.specs.Memos.{HasOrdinals};
+
+use crate::memo::Memo;
+use crate::name::Name;
+use chronicle::{Chronicle, Standing, Token};
+use facet_names::{NoMemory, Path};
+use std::alloc::Global;
+use std::marker::Model;
+use std::sync::{Mutex, Wait};
+
+/// Memos of paths, each behind a lock of its own. A token's number tells its memo, so sessions seldom wait for one another, and what a session uses stays
+/// with its processor. A path's entry has the ordinals of all its prefixes. Contracts see how many memos there are.
+///
+/// A call locks one memo for as long as it takes to find or to keep one path, and takes no turn of the chronicle.
+#[derive(Drop)]
+pub struct Memos<N: Name> {
+    memos: Vec<Mutex<Memo<N>>>,
+}
+
+impl<N: Name> Model for Memos<N> {
+    ghost use Rattle.std.specs.Prelude.{◌<◌, ℕ};
+    ghost use Rattle.std.specs.Vec.{vec_len};
+
+    ghost Value = { ℕ };
+
+    ghost view = { λ m. vec_len m.memos };
+
+    ghost invariant = { λ m. 0 < vec_len m.memos };
+}
+
+impl<N: Name> Memos<N> {
+    /// So many memos, each with room for so many paths, and with none. They take memory for an entry as it is kept, and none for one that may come.
+    pub fn new<V: Standing<Entry = Path>>(
+        alloc: Global,
+        labels: &Chronicle<V>,
+        token: &mut Token<Path>,
+        memos: u32,
+        room: u32,
+    ) -> Result<Memos<N>, NoMemory>
+        requires own { (token.old.identity ≡ labels.now) × (labels.now ≡ N.labels) }
+        requires labels { SeesLabels token.old }
+        requires some { (1 ≤ memos) × (1 ≤ room) }
+        ensures token { token.new ≡ token.old }
+        ensures many { IfOk result (λ m. m ≡ memos) }
+    {
+        let mut all = Vec::new(alloc);
+        for _ in 0..memos {
+            let memo = Memo::new(alloc, labels, token, room)?;
+            all.push(Mutex::new(memo))?;
+        }
+        Ok(Memos { memos: all })
+    }
+
+    // The memo of a token's number.
+    fn memo_of(&self, number: u64) -> &Mutex<Memo<N>> {
+        let at = number as usize % self.memos.len();
+        &self.memos[at]
+    }
+
+    /// The ordinals of the path's prefixes, where the token's memo has them; the token has then seen all that the memo's note has. It waits for the memo's
+    /// lock, takes memory for the ordinals alone, and no turn.
+    pub fn look<V: Standing<Entry = Path>, R: Wait>(
+        &self,
+        rt: &R,
+        labels: &Chronicle<V>,
+        token: &mut Token<Path>,
+        path: &Path,
+    ) -> Result<Option<Vec<u32>>, NoMemory>
+        requires own { (token.old.identity ≡ labels.now) × (labels.now ≡ N.labels) }
+        requires idle { (token.old.holds_turn ≡ false) × (token.old.is_note ≡ false) }
+        ensures token { SameToken token.old token.new × SeesOn token.old token.new × (token.new.holds_turn ≡ false) }
+        ensures hit { IfOk result (λ o. IfSome o (λ v. HasOrdinals (labels_of token.new.seen) path.now v.items)) }
+        ensures labels { SeesLabels token.old → SeesLabels token.new }
+        ensures counted { IsCounted token.old → IsCounted token.new }
+    {
+        let number = token.number();
+        self.memo_of(number).lock(rt).look(labels, token, path)
+    }
+
+    /// Offers the ordinals of a path's prefixes to the token's memo, which keeps every eighth path that it is offered. It waits for the memo's lock, and
+    /// without memory the memo's entries stay.
+    pub fn offer<V: Standing<Entry = Path>, R: Wait>(
+        &self,
+        rt: &R,
+        labels: &Chronicle<V>,
+        token: &mut Token<Path>,
+        path: &Path,
+        ords: &[u32],
+    )
+        requires own { (token.old.identity ≡ labels.now) × (labels.now ≡ N.labels) }
+        requires idle { token.old.is_note ≡ false }
+        requires labels { SeesLabels token.old }
+        requires ordinals { HasOrdinals (labels_of token.old.seen) path.now ords.now }
+        ensures token { token.new ≡ token.old }
+    {
+        let number = token.number();
+        let _ = self
+            .memo_of(number)
+            .lock(rt)
+            .offer(labels, token, path, ords);
+    }
+}
