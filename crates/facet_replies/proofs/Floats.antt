@@ -19,6 +19,7 @@ use Rattle.facet_replies.specs.Replies.{broken, labels_full, docs_full, not_held
 use Rattle.facet_replies.specs.ReplyLines.{with_fields, whole_data, path_data, child_data, listed_data, value_data, dims_data, answer_data, hit_data, reply_data, fault_data}
 use Rattle.facet_replies.specs.LastLine.{label_data, last_data}
 use Rattle.facet_replies.specs.NamedFaults.{detail_field, named_fault_data}
+use Rattle.facet_replies.specs.Summaries.{Summary, summary_data}
 use Rattle.facet_replies.specs.declared.named_fault.Detail.{Detail}
 use Rattle.facet_replies.specs.declared.named_fault.Detail.TheVariants.{Text, Number, Digest}
 
@@ -91,6 +92,10 @@ reply_plain session line (refused (closed count)) = refl
 reply_plain session line (refused (numbers_spent number)) = refl
 reply_plain session line (refused no_memory) = refl
 reply_plain session line (stats s) = refl
+
+pub summary_plain : (s : Summary) → has_float (summary_data s) ≡ false
+unfolding summary_data
+summary_plain s = rw (answers_plain s.results) refl
 
 labels_plain : (labels paths : List (List (List ℕ))) → items_have_float (items_of (map (label_data labels) paths)) ≡ false
 labels_plain labels [] = refl

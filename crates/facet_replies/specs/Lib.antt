@@ -3,3 +3,5 @@ pub mod ReplyViews
 pub mod ReplyLines
 pub mod NamedFaults
 pub mod LastLine
+pub mod Summaries
+pub mod SummaryViews

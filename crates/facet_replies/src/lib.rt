@@ -7,6 +7,7 @@ mod last_line;
 mod named_fault;
 mod refusing;
 mod reply;
+mod summary;
 mod values;
 mod writing;
 
@@ -14,4 +15,5 @@ pub use fault::ScriptFault;
 pub use last_line::write_last_line;
 pub use named_fault::{Detail, write_named_fault};
 pub use reply::{HitLine, Refusal, Reply};
+pub use summary::{Summary, write_summary};
 pub use writing::{write_fault, write_reply};

@@ -1,0 +1,88 @@
+ghost use Rattle.std.specs.Prelude.{◌≡◌, ◌≤◌, ◌+◌, ◌∷◌, [], IfOk, None, codes, map};
+ghost use Rattle.facet_model.specs.AskViews.{ask_view};
+ghost use Rattle.facet_model.specs.QueryViews.{query_view};
+ghost use Rattle.facet_words.specs.Sessions.CommandViews.{command_view, order_view};
+ghost use Rattle.facet_words.specs.Sessions.Commands.{search};
+ghost use Rattle.generator.specs.Generated.{closing_orders, first_ten, generated_search};
+
+use crate::labels::path_of;
+use facet_model::{Ask, Drill, Query, Word};
+use facet_names::{NoMemory, Path};
+use facet_words::sessions::{Command, Order};
+use std::alloc::Global;
+
+fn query(alloc: Global) -> Result<Query, NoMemory>
+    ensures { IfOk result (λ q. query_view q ≡ generated_search.query) }
+{
+    match Word::new(alloc, "even")? {
+        Some(word) => Ok(Query::Term(word)),
+        None => unreachable!(),
+    }
+}
+
+fn drill(alloc: Global) -> Result<Drill, NoMemory>
+    ensures { IfOk result (λ d. d ≡ generated_search.drill) }
+{
+    let dim = String::from_str(alloc, "Date")?;
+    let year = String::from_str(alloc, "2000")?;
+    let path = path_of(alloc, &vec![in alloc; dim, year]?)?;
+    Ok(Drill::new(vec![in alloc; path]?))
+}
+
+fn ask(alloc: Global, dim: &str) -> Result<Ask, NoMemory>
+    ensures { IfOk result (λ a. ask_view a ≡ first_ten dim.now) }
+{
+    match Path::of_dim(alloc, dim) {
+        Ok(path) => Ok(Ask::Top { path, n: 10 }),
+        Err(_) => Err(NoMemory),
+    }
+}
+
+fn asks(alloc: Global) -> Result<Vec<Ask>, NoMemory>
+    ensures { IfOk result (λ v. map ask_view v.items ≡ generated_search.asks) }
+{
+    let shelves = ask(alloc, "Shelf")?;
+    let dates = ask(alloc, "Date")?;
+    let tags = ask(alloc, "Tag")?;
+    Ok(vec![in alloc; shelves, dates, tags]?)
+}
+
+fn search(alloc: Global) -> Result<Command, NoMemory>
+    ensures { IfOk result (λ c. command_view c ≡ search None generated_search) }
+{
+    let query = query(alloc)?;
+    let drill = drill(alloc)?;
+    let asks = asks(alloc)?;
+    Ok(Command::Search {
+        on: None,
+        query,
+        drill,
+        sideways: true,
+        asks,
+        hits: 10,
+    })
+}
+
+fn by_first(line: u64, command: Command) -> Order
+    ensures { order_view result ≡ record { session = 1; line = line; command = command_view command } }
+{
+    Order {
+        session: 1,
+        line,
+        command,
+    }
+}
+
+/// What the first session orders in the end, from this line on.
+#[tactic(auto, unfolding(crate::specs::Generated::closing_orders))]
+pub(crate) fn closing_orders(alloc: Global, line: u64) -> Result<Vec<Order>, NoMemory>
+    requires { line ≤ 4294967298 }
+    ensures { IfOk result (λ v. map order_view v.items ≡ closing_orders line) }
+{
+    let search = search(alloc)?;
+    let refresh = by_first(line, Command::Refresh);
+    let commit = by_first(line + 1, Command::Commit);
+    let stats = by_first(line + 2, Command::Stats { on: None });
+    let search = by_first(line + 3, search);
+    Ok(vec![in alloc; refresh, commit, stats, search]?)
+}

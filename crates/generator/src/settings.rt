@@ -1,0 +1,51 @@
+ghost use Rattle.std.specs.Prelude.{◌≡◌, ◌++◌, ◌∷◌, [], IfOk, OnOk};
+ghost use Rattle.facet_words.specs.CommandViews.{settings_view};
+ghost use Rattle.generator.specs.Generated.{generated_settings};
+
+use facet_config::FacetsConfig;
+use facet_model::DimFlags;
+use facet_names::NoMemory;
+use facet_words::Settings;
+use std::alloc::Global;
+
+fn declare(config: &mut FacetsConfig, dim: &str, flags: DimFlags) -> Result<(), NoMemory>
+    ensures { OnOk result (config.new ≡ config.old ++ (dim.now, flags) ∷ []) }
+{
+    match config.declare(dim, flags) {
+        Ok(()) => Ok(()),
+        Err(_) => Err(NoMemory),
+    }
+}
+
+fn config(alloc: Global) -> Result<FacetsConfig, NoMemory>
+    ensures { IfOk result (λ c. c ≡ generated_settings.config) }
+{
+    let date = DimFlags {
+        hierarchical: true,
+        multi_valued: false,
+        require_dim_count: false,
+    };
+    let tag = DimFlags {
+        hierarchical: false,
+        multi_valued: true,
+        require_dim_count: false,
+    };
+    let mut config = FacetsConfig::new(alloc);
+    declare(&mut config, "Date", date)?;
+    declare(&mut config, "Tag", tag)?;
+    Ok(config)
+}
+
+/// The settings of generated documents.
+pub(crate) fn settings(alloc: Global) -> Result<Settings, NoMemory>
+    ensures { IfOk result (λ s. settings_view s ≡ generated_settings) }
+{
+    let config = config(alloc)?;
+    Ok(Settings {
+        config,
+        max_docs: 1_000_000,
+        max_labels: 1_000_000,
+        stripes: 16,
+        cache: 4_096,
+    })
+}

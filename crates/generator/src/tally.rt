@@ -1,0 +1,146 @@
+ghost use Rattle.std.specs.Prelude.{◌≡◌, ◌++◌, ◌∷◌, [], List, OnOk, option_map};
+ghost use Rattle.facet_replies.specs.Replies.{Reply as Answer};
+ghost use Rattle.facet_replies.specs.ReplyViews.{refusal_view, reply_view};
+ghost use Rattle.facet_replies.specs.SummaryViews.{summary_view};
+ghost use Rattle.generator.specs.Summaries.{is_no_memory, leaves_uncommitted, summary_of};
+ghost use Rattle.generator.specs.Tallies.{IsTallyOf};
+
+use facet_model::FacetAnswer;
+use facet_names::NoMemory;
+use facet_replies::{Refusal, Reply, Summary};
+use std::alloc::Global;
+
+/// How many documents and labels a pair has.
+#[derive(Clone, Copy, Debug)]
+struct Sizes {
+    documents: u32,
+    labels: u32,
+}
+
+/// How many documents a search hit, and the answers to what it asked.
+#[derive(Debug, Drop)]
+struct Counts {
+    hit_count: u64,
+    results: Vec<FacetAnswer>,
+}
+
+/// What is kept of replies in place of their lines: what their summary needs. Of an add it keeps a count, and it takes no memory.
+#[derive(Debug, Drop)]
+pub struct Tally {
+    added: u64,
+    uncommitted: bool,
+    starved: bool,
+    sizes: Option<Sizes>,
+    counts: Option<Counts>,
+}
+
+// That of one reply.
+fn tally_of(reply: Reply) -> Tally
+    ensures { IsTallyOf (reply_view reply ∷ []) result }
+{
+    let mut tally = Tally::new();
+    match reply {
+        Reply::Placed { at: _ } => tally.added = 1,
+        Reply::Number { n: _ } => {}
+        Reply::Found {
+            n: _,
+            hit_count,
+            hits: _,
+            results,
+        } => tally.counts = Some(Counts { hit_count, results }),
+        Reply::Shown {
+            n: _,
+            at: _,
+            doc: _,
+            ordinals: _,
+        } => {}
+        Reply::Stats {
+            n: _,
+            labels,
+            documents,
+        } => tally.sizes = Some(Sizes { documents, labels }),
+        Reply::Refused(refusal) => {
+            tally.uncommitted = leaves_uncommitted(refusal);
+            tally.starved = is_no_memory(refusal);
+        }
+    }
+    tally
+}
+
+fn leaves_uncommitted(refusal: Refusal) -> bool
+    ensures { result ≡ leaves_uncommitted (refusal_view refusal) }
+{
+    matches!(
+        refusal,
+        Refusal::Disk { .. } | Refusal::Closed { .. } | Refusal::NumbersSpent { .. }
+    )
+}
+
+fn is_no_memory(refusal: Refusal) -> bool
+    ensures { result ≡ is_no_memory (refusal_view refusal) }
+{
+    matches!(refusal, Refusal::NoMemory)
+}
+
+impl Tally {
+    /// That of no reply.
+    pub fn new() -> Tally
+        ensures { IsTallyOf [] result }
+    {
+        Tally {
+            added: 0,
+            uncommitted: false,
+            starved: false,
+            sizes: None,
+            counts: None,
+        }
+    }
+
+    /// Adds the reply behind those that it has. NoMemory where the count of adds is at its type's end; then it may have kept a part of the reply.
+    pub fn add(&mut self, reply: Reply) -> Result<(), NoMemory>
+        ensures { OnOk result ((replies : List Answer) → IsTallyOf replies self.old → IsTallyOf (replies ++ reply_view reply ∷ []) self.new) }
+    {
+        self.join(tally_of(reply))
+    }
+
+    /// Adds the replies of another behind its own. NoMemory where the count of adds is at its type's end.
+    pub fn join(&mut self, later: Tally) -> Result<(), NoMemory>
+        ensures { OnOk result ((first second : List Answer) → IsTallyOf first self.old → IsTallyOf second later → IsTallyOf (first ++ second) self.new) }
+    {
+        let Some(added) = self.added.checked_add(later.added) else {
+            return Err(NoMemory);
+        };
+        self.added = added;
+        self.uncommitted = self.uncommitted | later.uncommitted;
+        self.starved = self.starved | later.starved;
+        self.sizes = self.sizes.or(later.sizes);
+        self.counts = self.counts.take().or(later.counts);
+        Ok(())
+    }
+
+    #[tactic(auto)]
+    /// The summary of the replies. None where memory was wanting for one of them.
+    pub fn summary(self, alloc: Global) -> Option<Summary>
+        ensures { (replies : List Answer) → IsTallyOf replies self → option_map summary_view result ≡ summary_of replies }
+    {
+        if self.starved {
+            return None;
+        }
+        let sizes = self.sizes.unwrap_or(Sizes {
+            documents: 0,
+            labels: 0,
+        });
+        let counts = self.counts.unwrap_or(Counts {
+            hit_count: 0,
+            results: Vec::new(alloc),
+        });
+        Some(Summary {
+            added: self.added,
+            committed: !self.uncommitted,
+            documents: sizes.documents,
+            hit_count: counts.hit_count,
+            labels: sizes.labels,
+            results: counts.results,
+        })
+    }
+}
