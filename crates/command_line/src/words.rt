@@ -1,4 +1,4 @@
-ghost use Rattle.std.specs.Prelude.{◌≡◌, ◌<◌, [], IfOk, IfSome, None, option_map, map, string_bytes, length};
+ghost use Rattle.std.specs.Prelude.{◌≡◌, ◌<◌, ◌≤◌, [], IfOk, IfSome, None, option_map, map, string_bytes, length};
 ghost use Rattle.clap.specs.Words.{app_of, first_of, found_of, fault_of, matches_of, rows_of};
 ghost use Rattle.command_line.specs.Words.{command as app, given_within, number_within, words_of, words_of_rows};
 ghost use Rattle.command_line.specs.Views.{words_view};
@@ -56,7 +56,8 @@ fn matches_in<'a>(alloc: Global, words: &'a [String]) -> Result<Option<ArgMatche
 }
 
 fn number_in(text: &str, low: u32, high: u32) -> Option<u32>
-    ensures { result ≡ number_within low high text.now }
+    ensures is { result ≡ number_within low high text.now }
+    ensures within { IfSome result (λ n. (low ≤ n) × (n ≤ high)) }
 {
     match text.parse::<u64>() {
         Ok(n) => if low as u64 <= n && n <= high as u64 {
@@ -77,7 +78,8 @@ fn text_under<'a>(matches: &ArgMatches<'a>, id: &str) -> Option<&'a str>
 
 // The number under a name, where it is from `low` to `high`; Some(None) where none is given.
 fn number_under(matches: &ArgMatches<'_>, id: &str, low: u32, high: u32) -> Option<Option<u32>>
-    ensures { result ≡ given_within low high (first_of id.now (rows_of (found_of matches.now))) }
+    ensures is { result ≡ given_within low high (first_of id.now (rows_of (found_of matches.now))) }
+    ensures within { IfSome result (λ given. IfSome given (λ n. (low ≤ n) × (n ≤ high))) }
 {
     match text_under(matches, id) {
         None => Some(None),
@@ -90,7 +92,9 @@ fn number_under(matches: &ArgMatches<'_>, id: &str, low: u32, high: u32) -> Opti
 
 // What was found, put together.
 fn line_of(alloc: Global, matches: &ArgMatches<'_>) -> Result<Option<CommandLine>, NoMemory>
-    ensures { IfOk result (λ line. option_map words_view line ≡ words_of_rows (rows_of (found_of matches.now))) }
+    ensures is { IfOk result (λ line. option_map words_view line ≡ words_of_rows (rows_of (found_of matches.now))) }
+    ensures generate { IfOk result (λ line. IfSome line (λ l. IfSome l.generate (λ n. (1 ≤ n) × (n ≤ 1000000)))) }
+    ensures sessions { IfOk result (λ line. IfSome line (λ l. (1 ≤ l.sessions) × (l.sessions ≤ 8))) }
 {
     let Some(dir) = text_under(matches, "DIR") else {
         return Ok(None);
@@ -113,7 +117,9 @@ fn line_of(alloc: Global, matches: &ArgMatches<'_>) -> Result<Option<CommandLine
 /// `--sessions`, each with a number in its range. None where it does not take them.
 #[tactic(auto, unfolding(crate::specs::Words::words_of))]
 pub fn read_words(alloc: Global, words: &[String]) -> Result<Option<CommandLine>, NoMemory>
-    ensures { IfOk result (λ line. option_map words_view line ≡ words_of (map string_bytes words.now)) }
+    ensures is { IfOk result (λ line. option_map words_view line ≡ words_of (map string_bytes words.now)) }
+    ensures generate { IfOk result (λ line. IfSome line (λ l. IfSome l.generate (λ n. (1 ≤ n) × (n ≤ 1000000)))) }
+    ensures sessions { IfOk result (λ line. IfSome line (λ l. (1 ≤ l.sessions) × (l.sessions ≤ 8))) }
 {
     match matches_in(alloc, words)? {
         Some(matches) => line_of(alloc, &matches),
