@@ -1,3 +1,4 @@
+mod Fitting
 mod InOrder
 mod Joined
 mod Ranges

@@ -51,7 +51,8 @@ first_numbers replies = slice_get (filter_map numbers_in replies) 0
 abbrev pub first_found : List Reply → Option Found
 first_found replies = slice_get (filter_map found_in replies) 0
 
--- How many adds were answered with a place, whether no commit was refused, and the numbers that were told and what was found first. None where memory was wanting.
+-- How many adds were answered with a place, whether no commit was refused, and the numbers and the finding that were told first. None where memory was
+-- wanting.
 abbrev pub summary_of : List Reply → Option Summary
 summary_of replies = if list_any wants_memory replies then None else Some (record {
   added = count_by is_placed replies;

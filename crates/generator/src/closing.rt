@@ -1,4 +1,5 @@
 ghost use Rattle.std.specs.Prelude.{◌≡◌, ◌≤◌, ◌+◌, ◌∷◌, [], IfOk, None, codes, map};
+ghost use Rattle.facet_names.specs.Faults.{path_fault};
 ghost use Rattle.facet_model.specs.AskViews.{ask_view};
 ghost use Rattle.facet_model.specs.QueryViews.{query_view};
 ghost use Rattle.facet_words.specs.Sessions.CommandViews.{command_view, order_view};
@@ -7,7 +8,7 @@ ghost use Rattle.generator.specs.Generated.{closing_orders, first_ten, generated
 
 use crate::labels::path_of;
 use facet_model::{Ask, Drill, Query, Word};
-use facet_names::{NoMemory, Path};
+use facet_names::{NoMemory, Path, PathFault};
 use facet_words::sessions::{Command, Order};
 use std::alloc::Global;
 
@@ -30,11 +31,13 @@ fn drill(alloc: Global) -> Result<Drill, NoMemory>
 }
 
 fn ask(alloc: Global, dim: &str) -> Result<Ask, NoMemory>
+    requires { path_fault (dim.now ∷ []) ≡ None }
     ensures { IfOk result (λ a. ask_view a ≡ first_ten dim.now) }
 {
     match Path::of_dim(alloc, dim) {
         Ok(path) => Ok(Ask::Top { path, n: 10 }),
-        Err(_) => Err(NoMemory),
+        Err(PathFault::NoMemory) => Err(NoMemory),
+        Err(_) => unreachable!(),
     }
 }
 

@@ -3,7 +3,7 @@ ghost use Rattle.std.specs.List.{range_with_len};
 ghost use Rattle.generator.specs.Generated.{generated_doc, generated_labels, generated_text};
 
 use crate::labels::PERIOD;
-use facet_model::Document;
+use facet_model::{DocShape, Document};
 use facet_names::{NoMemory, Path};
 use std::alloc::Global;
 
@@ -37,7 +37,7 @@ fn labels(alloc: Global, first: &[Vec<Path>], number: u32) -> Result<Vec<Path>, 
 }
 
 /// The document of this number. The labels of the first ones are at hand, so that no text but the id is made.
-#[tactic(auto, unfolding(crate::specs::Generated::generated_doc))]
+#[tactic(auto, using(crate::proofs::Fitting::doc_fits), unfolding(crate::specs::Generated::generated_doc))]
 pub(crate) fn document(
     alloc: Global,
     first: &[Vec<Path>],
@@ -50,6 +50,7 @@ pub(crate) fn document(
     let labels = labels(alloc, first, number)?;
     match Document::new(alloc, id.as_str(), text(number), labels) {
         Ok(doc) => Ok(doc),
-        Err(_) => Err(NoMemory),
+        Err(DocShape::NoMemory) => Err(NoMemory),
+        Err(_) => unreachable!(),
     }
 }

@@ -1,10 +1,11 @@
-ghost use Rattle.std.specs.Prelude.{◌≡◌, ◌++◌, ◌∷◌, [], IfOk, codes, map, string_bytes};
+ghost use Rattle.std.specs.Prelude.{◌≡◌, ◌++◌, ◌∷◌, [], IfOk, None, codes, map, string_bytes};
 ghost use Rattle.std.specs.Fmt.{decimal};
 ghost use Rattle.std.specs.List.{range_with_len};
+ghost use Rattle.facet_names.specs.Faults.{path_fault};
 ghost use Rattle.facet_names.specs.Paths.{texts};
 ghost use Rattle.generator.specs.Generated.{date_of, first_tag_of, generated_labels, second_tag_of, shelf_of};
 
-use facet_names::{NoMemory, Path};
+use facet_names::{NoMemory, Path, PathFault};
 use std::alloc::Global;
 
 /// After so many documents the labels are the same again.
@@ -12,14 +13,17 @@ pub(crate) const PERIOD: u32 = 60;
 
 /// The path of these components.
 pub(crate) fn path_of(alloc: Global, parts: &[String]) -> Result<Path, NoMemory>
+    requires { path_fault (texts parts.now) ≡ None }
     ensures { IfOk result (λ p. p ≡ texts parts.now) }
 {
     match Path::new(alloc, parts) {
         Ok(path) => Ok(path),
-        Err(_) => Err(NoMemory),
+        Err(PathFault::NoMemory) => Err(NoMemory),
+        Err(_) => unreachable!(),
     }
 }
 
+#[tactic(auto, using(crate::proofs::Fitting::shelf_fits))]
 fn shelf(alloc: Global, number: u32) -> Result<Path, NoMemory>
     ensures { IfOk result (λ p. p ≡ shelf_of number) }
 {
@@ -28,6 +32,7 @@ fn shelf(alloc: Global, number: u32) -> Result<Path, NoMemory>
     path_of(alloc, &vec![in alloc; dim, shelf]?)
 }
 
+#[tactic(auto, using(crate::proofs::Fitting::date_fits))]
 fn date(alloc: Global, number: u32) -> Result<Path, NoMemory>
     ensures { IfOk result (λ p. p ≡ date_of number) }
 {
@@ -37,6 +42,7 @@ fn date(alloc: Global, number: u32) -> Result<Path, NoMemory>
     path_of(alloc, &vec![in alloc; dim, year, month]?)
 }
 
+#[tactic(auto, using(crate::proofs::Fitting::first_tag_fits))]
 fn first_tag(alloc: Global, number: u32) -> Result<Path, NoMemory>
     ensures { IfOk result (λ p. p ≡ first_tag_of number) }
 {
@@ -45,6 +51,7 @@ fn first_tag(alloc: Global, number: u32) -> Result<Path, NoMemory>
     path_of(alloc, &vec![in alloc; dim, tag]?)
 }
 
+#[tactic(auto, using(crate::proofs::Fitting::second_tag_fits))]
 fn second_tag(alloc: Global, number: u32) -> Result<Path, NoMemory>
     ensures { IfOk result (λ p. p ≡ second_tag_of number) }
 {

@@ -1,19 +1,22 @@
-ghost use Rattle.std.specs.Prelude.{◌≡◌, ◌++◌, ◌∷◌, [], IfOk, OnOk};
+ghost use Rattle.std.specs.Prelude.{◌≡◌, ◌++◌, ◌∷◌, [], IfOk, None, OnOk};
+ghost use Rattle.facet_config.specs.Faults.{declare_fault};
 ghost use Rattle.facet_words.specs.CommandViews.{settings_view};
 ghost use Rattle.generator.specs.Generated.{generated_settings};
 
-use facet_config::FacetsConfig;
+use facet_config::{DeclareFault, FacetsConfig};
 use facet_model::DimFlags;
 use facet_names::NoMemory;
 use facet_words::Settings;
 use std::alloc::Global;
 
 fn declare(config: &mut FacetsConfig, dim: &str, flags: DimFlags) -> Result<(), NoMemory>
+    requires { declare_fault config.old dim.now ≡ None }
     ensures { OnOk result (config.new ≡ config.old ++ (dim.now, flags) ∷ []) }
 {
     match config.declare(dim, flags) {
         Ok(()) => Ok(()),
-        Err(_) => Err(NoMemory),
+        Err(DeclareFault::NoMemory) => Err(NoMemory),
+        Err(_) => unreachable!(),
     }
 }
 
