@@ -1,5 +1,7 @@
 mod WordBits
 mod Lists
 mod Marks
+mod Notes
+mod Misses
 mod Firsts
 mod Fills

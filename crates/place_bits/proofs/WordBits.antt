@@ -1,10 +1,10 @@
 -- Bits of words.
-use Rattle.std.proofs.Common.{◌≡◌, ℕ, zero, suc, ◌+◌, ◌*◌, ◌/◌, ◌%◌, ◌^◌, ◌<◌, ◌≤◌, min, Bool, true, false, eqb, ◌&&◌, ◌||◌, List, get_or, set, length, refl, sym, ap, ◌∙◌, inl, inr, arith, w64}
+use Rattle.std.proofs.Common.{◌≡◌, ℕ, zero, suc, ◌+◌, ◌*◌, ◌/◌, ◌%◌, ◌^◌, ◌<◌, ◌≤◌, ◌-◌, min, max, Bool, true, false, not, eqb, ◌&&◌, ◌||◌, List, get_or, set, length, refl, sym, ap, ◌∙◌, inl, inr, arith, w64}
 use Rattle.std.proofs.lemmas.Bool.{cases_eq, cases_lt, eq-eqb, ne_eqb}
 use Rattle.std.proofs.lemmas.List.{get_or_past, get_or-set_same, get_or-set_other}
-use Rattle.std.proofs.lemmas.Nat.Bits.{bit_at_and, bit_at-zero, bit_at-lt, bit_at_set_same, bit_at_set_other}
+use Rattle.std.proofs.lemmas.Nat.Bits.{bit_at_or, bit_at_and, bit_at_not, bit_at-zero, bit_at-lt, bit_at_set_same, bit_at_set_other}
 use Rattle.std.specs.Prelude.{bit_and, bit_or}
-use Rattle.std.specs.Int.{bit_at}
+use Rattle.std.specs.Int.{bit_at, bit_not}
 use Rattle.place_bits.specs.Words.{has}
 
 pub min_bits : (a b : ℕ) → a < 2 → b < 2 → eqb (min a b) 1 ≡ (eqb a 1 && eqb b 1)
@@ -16,8 +16,31 @@ min_bits (suc (suc a)) b p q = absurd (omega arith)
 min_bits zero (suc (suc b)) p q = absurd (omega arith)
 min_bits (suc zero) (suc (suc b)) p q = absurd (omega arith)
 
+max_bits : (a b : ℕ) → a < 2 → b < 2 → eqb (max a b) 1 ≡ (eqb a 1 || eqb b 1)
+max_bits zero zero p q = refl
+max_bits zero (suc zero) p q = refl
+max_bits (suc zero) zero p q = refl
+max_bits (suc zero) (suc zero) p q = refl
+max_bits (suc (suc a)) b p q = absurd (omega arith)
+max_bits zero (suc (suc b)) p q = absurd (omega arith)
+max_bits (suc zero) (suc (suc b)) p q = absurd (omega arith)
+
+not_bit : (b : ℕ) → b < 2 → eqb (1 - b) 1 ≡ not (eqb b 1)
+not_bit zero q = refl
+not_bit (suc zero) q = refl
+not_bit (suc (suc b)) q = absurd (omega arith)
+
 pub bit_and_is : (a b i : ℕ) → eqb (bit_at (bit_and a b) i) 1 ≡ (eqb (bit_at a i) 1 && eqb (bit_at b i) 1)
 bit_and_is a b i = ap (λ x. eqb x 1) (bit_at_and a b i) ∙ min_bits _ _ (bit_at-lt a i) (bit_at-lt b i)
+
+pub bit_or_is : (a b i : ℕ) → eqb (bit_at (bit_or a b) i) 1 ≡ (eqb (bit_at a i) 1 || eqb (bit_at b i) 1)
+bit_or_is a b i = ap (λ x. eqb x 1) (bit_at_or a b i) ∙ max_bits _ _ (bit_at-lt a i) (bit_at-lt b i)
+
+bit_not_is : (b i : ℕ) → b < 2 ^ 64 → i < 64 → eqb (bit_at (bit_not w64 b) i) 1 ≡ not (eqb (bit_at b i) 1)
+bit_not_is b i fits within = ap (λ x. eqb x 1) (bit_at_not w64 b i fits within) ∙ not_bit _ (bit_at-lt b i)
+
+pub bit_lacks : (a b i : ℕ) → b < 2 ^ 64 → i < 64 → eqb (bit_at (bit_and a (bit_not w64 b)) i) 1 ≡ (eqb (bit_at a i) 1 && not (eqb (bit_at b i) 1))
+bit_lacks a b i fits within = bit_and_is a _ i ∙ ap (λ x. eqb (bit_at a i) 1 && x) (bit_not_is b i fits within)
 
 -- a place by its word and its bit
 pub has_at : (words : List ℕ) (k i : ℕ) → i < 64 → has words (64 * k + i) ≡ eqb (bit_at (get_or words k 0) i) 1

@@ -1,7 +1,8 @@
-ghost use Rattle.std.specs.Prelude.{◌≡◌, ◌<◌, ◌≤◌, ◌+◌, ◌*◌, ◌/◌, ◌&&◌, ◌∷◌, [], ℕ, IfOk};
+ghost use Rattle.std.specs.Prelude.{◌≡◌, ◌<◌, ◌≤◌, ◌+◌, ◌*◌, ◌/◌, ◌&&◌, ◌||◌, ◌∷◌, not, [], ℕ, IfOk};
 ghost use Rattle.std.specs.List.{range_with_len};
 ghost use Rattle.seg_postings.specs.Rising.{IsRising, is_in};
 ghost use Rattle.seg_postings.specs.Sets.{either};
+ghost use Rattle.place_bits.specs.Misses.{IsMissed};
 ghost use Rattle.place_bits.specs.Words.{AreBelow, empty_set, with_places};
 
 use crate::cursor::BitPlaces;
@@ -55,6 +56,16 @@ impl Bits {
         words::keep(&mut self.words, &other.words);
     }
 
+    /// Leaves the places that the other lacks, a word at a time.
+    pub fn leave(&mut self, other: &Bits)
+        requires { self.old.words ≡ other.now.words }
+        ensures words { self.new.words ≡ self.old.words }
+        ensures left { (n : ℕ) → is_in n self.new.places ≡ (is_in n self.old.places && not (is_in n other.now.places)) }
+        ensures rising { IsRising self.new.places }
+    {
+        words::leave(&mut self.words, &other.words);
+    }
+
     /// Adds one place, in constant time.
     pub fn add(&mut self, place: u32)
         requires { place < 64 * self.old.words }
@@ -79,5 +90,25 @@ impl Bits {
         ensures rising { IsRising result }
     {
         BitPlaces::new(self.words)
+    }
+
+    // Turns a dimension's places into those of the base that it lacks, and notes those that one lacked and those that two lacked.
+    pub(crate) fn note(&self, dim: &mut Bits, ones: &mut Bits, twos: &mut Bits)
+        requires dim { dim.old.words ≡ self.now.words }
+        requires ones { ones.old.words ≡ self.now.words }
+        requires twos { twos.old.words ≡ self.now.words }
+        ensures missed { IsMissed self.now.places dim.old dim.new }
+        ensures ones_words { ones.new.words ≡ ones.old.words }
+        ensures ones { (n : ℕ) → is_in n ones.new.places ≡ (is_in n ones.old.places || (is_in n self.now.places && not (is_in n dim.old.places))) }
+        ensures twos_words { twos.new.words ≡ twos.old.words }
+        ensures twos { (n : ℕ) → is_in n twos.new.places
+            ≡ (is_in n twos.old.places || (is_in n ones.old.places && (is_in n self.now.places && not (is_in n dim.old.places)))) }
+    {
+        words::note(
+            &self.words,
+            &mut dim.words,
+            &mut ones.words,
+            &mut twos.words,
+        );
     }
 }

@@ -4,7 +4,9 @@
 
 mod bits;
 mod cursor;
+mod near;
 mod words;
 
 pub use bits::Bits;
 pub use cursor::BitPlaces;
+pub use near::near_misses;

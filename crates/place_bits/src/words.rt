@@ -1,5 +1,5 @@
 //! Operations on words, place by place.
-ghost use Rattle.std.specs.Prelude.{◌≡◌, ◌==◌, ◌<◌, ◌≤◌, ◌*◌, ◌&&◌, ◌||◌, [], ℕ, length, nat_lt};
+ghost use Rattle.std.specs.Prelude.{◌≡◌, ◌==◌, ◌<◌, ◌≤◌, ◌*◌, ◌&&◌, ◌||◌, not, [], ℕ, length, nat_lt};
 ghost use Rattle.std.specs.Int.{bit_at};
 ghost use Rattle.seg_postings.specs.Rising.{IsRising, is_in};
 ghost use Rattle.place_bits.specs.Words.{has, AreBelow};
@@ -14,6 +14,17 @@ pub(crate) fn keep(words: &mut [u64], other: &[u64])
 {
     for k in 0..words.len() {
         words[k] &= other[k];
+    }
+}
+
+/// Leaves the places that the other lacks.
+pub(crate) fn leave(words: &mut [u64], other: &[u64])
+    requires { length words.old ≡ length other.now }
+    ensures len { length words.new ≡ length words.old }
+    ensures left { (n : ℕ) → has words.new n ≡ (has words.old n && not (has other.now n)) }
+{
+    for k in 0..words.len() {
+        words[k] &= !other[k];
     }
 }
 
@@ -36,6 +47,27 @@ pub(crate) fn mark_all<P: Places>(words: &mut [u64], places: &mut P)
 {
     while let Some(place) = places.next() {
         mark(words, place);
+    }
+}
+
+/// Turns a dimension's places into those of the base that it lacks. `ones` has the places of the base that a dimension lacked, and `twos` those that
+/// two or more lacked.
+pub(crate) fn note(base: &[u64], dim: &mut [u64], ones: &mut [u64], twos: &mut [u64])
+    requires dim { length dim.old ≡ length base.now }
+    requires ones { length ones.old ≡ length base.now }
+    requires twos { length twos.old ≡ length base.now }
+    ensures dim_len { length dim.new ≡ length dim.old }
+    ensures ones_len { length ones.new ≡ length ones.old }
+    ensures twos_len { length twos.new ≡ length twos.old }
+    ensures missed { (n : ℕ) → has dim.new n ≡ (has base.now n && not (has dim.old n)) }
+    ensures ones { (n : ℕ) → has ones.new n ≡ (has ones.old n || (has base.now n && not (has dim.old n))) }
+    ensures twos { (n : ℕ) → has twos.new n ≡ (has twos.old n || (has ones.old n && (has base.now n && not (has dim.old n)))) }
+{
+    for k in 0..base.len() {
+        let miss = base[k] & !dim[k];
+        dim[k] = miss;
+        twos[k] |= ones[k] & miss;
+        ones[k] |= miss;
     }
 }
 
