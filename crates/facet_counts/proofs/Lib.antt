@@ -13,3 +13,4 @@ pub mod Below
 pub mod Results
 pub mod EachDim
 pub mod Ordered
+pub mod Together

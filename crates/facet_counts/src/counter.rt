@@ -1,4 +1,4 @@
-ghost use Rattle.std.specs.Prelude.{◌≡◌, ◌<◌, ◌+◌, ◌++◌, ◌∷◌, ◌^◌, [], List, ℕ, All, nat_eq, length, slice_index_or, if◌then◌else◌, IfOk};
+ghost use Rattle.std.specs.Prelude.{◌≡◌, ◌<◌, ◌≤◌, ◌+◌, ◌++◌, ◌∷◌, ◌^◌, [], List, ℕ, All, nat_eq, length, slice_index_or, if◌then◌else◌, IfOk};
 ghost use Rattle.std.specs.List.{list_any, AllPairs};
 ghost use Rattle.facet_names.specs.Labels.{IsLabelList};
 ghost use Rattle.facet_counts.specs.Lists.{IsCounted};
@@ -47,6 +47,18 @@ fn add_each(counts: &mut [u32], mut ords: Ords<'_>)
     }
 }
 
+// Adds the other numbers, each at its place.
+fn add_counts(counts: &mut [u32], others: &[u32])
+    requires same { length counts.old ≡ length others.now }
+    requires room { (ord : ℕ) → ord < length counts.old → slice_index_or counts.old ord 0 + slice_index_or others.now ord 0 < 2 ^ 32 }
+    ensures len { length counts.new ≡ length counts.old }
+    ensures sums { (ord : ℕ) → ord < length counts.old → slice_index_or counts.new ord 0 ≡ slice_index_or counts.old ord 0 + slice_index_or others.now ord 0 }
+{
+    for ord in 0..counts.len() {
+        counts[ord] += others[ord];
+    }
+}
+
 impl<'a> Counter<'a> {
     /// No document is counted yet. It takes time and memory in proportion to the view's labels.
     pub fn new(
@@ -83,6 +95,20 @@ impl<'a> Counter<'a> {
     {
         add_each(&mut self.counts, counted);
         self.added += 1;
+    }
+
+    /// Counts all documents that another counter over the same labels has counted, by one sum a label. Together they are at most a million.
+    pub fn add_counter(&mut self, other: &Counter<'_>)
+        requires labels { other.now.labels ≡ self.old.labels }
+        requires config { other.now.config ≡ self.old.config }
+        requires few { self.old.added + other.now.added ≤ 1000000 }
+        ensures added { (lists others : List (List ℕ)) → HasAdded self.old lists → HasAdded other.now others → HasAdded self.new (lists ++ others) }
+        ensures number { self.new.added ≡ self.old.added + other.now.added }
+        ensures labels { self.new.labels ≡ self.old.labels }
+        ensures config { self.new.config ≡ self.old.config }
+    {
+        add_counts(&mut self.counts, &other.counts);
+        self.added += other.added;
     }
 
     /// The counts, rolled up to the parents in dimensions that are hierarchical and not multi-valued. One walk over the labels, from the last to
