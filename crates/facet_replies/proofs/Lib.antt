@@ -1,2 +1,3 @@
 pub mod Floats
 mod Roots
+pub mod Placed

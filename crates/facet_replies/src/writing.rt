@@ -2,7 +2,7 @@ ghost use Rattle.std.specs.Prelude.{◌≡◌, ◌++◌, IfOk, OnOk, OnErr, fals
 ghost use Rattle.serde_json.specs.View.{view, members_view};
 ghost use Rattle.serde_json.specs.Written.{has_float};
 ghost use Rattle.facet_model.specs.ResultViews.{answer_view};
-ghost use Rattle.facet_replies.specs.Replies.{found, shown, stats};
+ghost use Rattle.facet_replies.specs.Replies.{placed, found, shown, stats};
 ghost use Rattle.facet_replies.specs.ReplyLines.{with_fields, fields, whole_data, list_data, hit_data, document_fields, reply_fields as fields_of_reply, reply_data, json_line, reply_line, at_line, fault_data, fault_line};
 ghost use Rattle.facet_replies.specs.ReplyViews.{hit_view, reply_view};
 
@@ -15,6 +15,7 @@ use facet_model::{Document, FacetAnswer};
 use facet_names::NoMemory;
 use serde_json::{Map, Value, json, put};
 use std::alloc::{AllocError, Global};
+use std::fmt::Write;
 
 #[tactic(auto, unfolding(crate::specs::ReplyLines::hit_data))]
 fn hit_value(alloc: Global, hit: &HitLine) -> Result<Value, NoMemory>
@@ -164,8 +165,28 @@ pub(crate) fn to_line(alloc: Global, value: &Value) -> Result<String, NoMemory>
     Ok(text)
 }
 
-/// Appends the line of a reply: compact JSON, its keys in byte order, and a line feed.
+// The line of a document's place. There is one for each document, so it is written as it is, without a value in between.
+#[tactic(auto, unfolding(crate::specs::ReplyLines::json_line, crate::specs::ReplyLines::reply_data))]
+fn placed_line(alloc: Global, session: u32, line: u64, at: u64) -> Result<String, NoMemory>
+    ensures { IfOk result (λ s. string_bytes s ≡ json_line (reply_data session line (placed at))) }
+{
+    let mut text = String::with_capacity(alloc, 64)?;
+    write!(text, "{{\"at\":{at},\"line\":{line},\"s\":{session}}}\n")?;
+    Ok(text)
+}
+
 #[tactic(auto, unfolding(crate::specs::ReplyLines::reply_line))]
+fn reply_text(alloc: Global, session: u32, line: u64, reply: &Reply) -> Result<String, NoMemory>
+    ensures { IfOk result (λ s. string_bytes s ≡ reply_line session line (reply_view reply.now)) }
+{
+    if let Reply::Placed { at } = reply {
+        return placed_line(alloc, session, line, *at);
+    }
+    let value = reply_value(alloc, session, line, reply)?;
+    to_line(alloc, &value)
+}
+
+/// Appends the line of a reply: compact JSON, its keys in byte order, and a line feed.
 pub fn write_reply(
     alloc: Global,
     out: &mut Vec<u8>,
@@ -176,8 +197,7 @@ pub fn write_reply(
     ensures ok { OnOk result (out.new.items ≡ out.old.items ++ reply_line session line (reply_view reply.now)) }
     ensures err { OnErr result (out.new.items ≡ out.old.items) }
 {
-    let value = reply_value(alloc, session, line, reply)?;
-    let text = to_line(alloc, &value)?;
+    let text = reply_text(alloc, session, line, reply)?;
     out.extend_from_slice(text.as_bytes())?;
     Ok(())
 }
