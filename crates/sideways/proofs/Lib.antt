@@ -7,3 +7,5 @@ pub mod Ready
 pub mod Gathered
 pub mod Answered
 pub mod Shared
+pub mod Misses
+pub mod Sets

@@ -15,6 +15,7 @@ use Rattle.facet_model.specs.Hits.{passes}
 use Rattle.facet_model.specs.Stored.{Records}
 use Rattle.plan_places.specs.Planned.{Planned, any_of, all_have}
 use Rattle.query_eval.proofs.Marks.{at, rising_places, is_in_places, are_places, all_from_place}
+use Rattle.seg_postings.proofs.Members.{is_in-either}
 use Rattle.seg_postings.specs.Rising.{IsRising, is_in}
 use Rattle.sideways.specs.Counted.{AreAllOf, AreWithin, is_lifted, passes_each, is_again, is_first}
 
@@ -167,3 +168,48 @@ one_left docs test p all = are_places test docs p.left (subst IsRising (sym all.
     by : (n : ℕ) (o : Option Doc) → slice_get docs n ≡ o → is_in n p.left ≡ at test docs n
     by n None e = ap (is_in n) all.each.0.1 ∙ is_in_places n all.each.0.0 docs ∙ ap (λ o. option_map_or all.each.0.0 o false) e ∙ sym (ap (λ o. option_map_or test o false) e)
     by n (Some doc) e = and_true (is_in n p.left) ∙ all.have n doc e ∙ sym (ap (λ o. option_map_or test o false) e)
+
+-- ---- all nodes but not one
+
+-- where there are nodes, all have a place exactly where its document passes
+pub have_at : (docs : List Doc) (test : Doc → Bool) (nodes : List Planned) → 0 < length nodes → AreAllOf docs test nodes → (n : ℕ) → all_have n nodes ≡ at test docs n
+have_at docs test nodes some all n = by (slice_get docs n) refl
+  where
+    by : (o : Option Doc) → slice_get docs n ≡ o → all_have n nodes ≡ at test docs n
+    by None e = rw (none_past docs n nodes some e all.each, e) refl
+    by (Some doc) e = rw e (all.have n doc e)
+
+-- where there are none, every document passes
+pub every_at : (docs : List Doc) (test : Doc → Bool) (whole : Planned) → whole.left ≡ range_with_len 0 (length docs) → AreAllOf docs test [] → (n : ℕ) → all_have n (whole ∷ []) ≡ at test docs n
+every_at docs test whole is all n = and_true (is_in n whole.left) ∙ ap (is_in n) (is ∙ all_pass docs test all) ∙ is_in_places n test docs
+  where
+    and_true : (b : Bool) → (b && true) ≡ b
+    and_true true = refl
+    and_true false = refl
+
+pub nodes_rise : (docs : List Doc) (test : Doc → Bool) (nodes : List Planned) → AreAllOf docs test nodes → All (λ p. IsRising p.left) nodes
+nodes_rise docs test nodes all = each_rises docs nodes all.each
+
+pub whole_rises : (docs : List Doc) (whole : Planned) → whole.left ≡ range_with_len 0 (length docs) → All (λ p. IsRising p.left) (whole ∷ [])
+whole_rises docs whole is = All-cons (λ (q : Planned). IsRising q.left) whole [] (subst IsRising (sym (is ∙ all_from_place 0 docs)) (rising_places (λ (doc : Doc). true) docs)) (All-nil (λ (p : Planned). IsRising p.left))
+
+pub left_without : (docs : List Doc) (test other : Doc → Bool) (nodes : List Planned) (own : Planned) (left : List ℕ) → ((n : ℕ) → all_have n nodes ≡ at test docs n) → own.left ≡ places other docs → IsRising left
+    → ((n : ℕ) → is_in n left ≡ (all_have n nodes && not (is_in n (any_of (own ∷ []))))) → left ≡ places (λ doc. test doc && not (other doc)) docs
+left_without docs test other nodes own left have is rising members = are_places (λ doc. test doc && not (other doc)) docs left rising (λ n. members n ∙ by n (slice_get docs n) refl)
+  where
+    or_false : (b : Bool) → (b || false) ≡ b
+    or_false true = refl
+    or_false false = refl
+
+    own_at : (n : ℕ) → is_in n (any_of (own ∷ [])) ≡ at other docs n
+    own_at n = is_in-either n own.left [] ∙ or_false (is_in n own.left) ∙ ap (is_in n) is ∙ is_in_places n other docs
+
+    by : (n : ℕ) (o : Option Doc) → slice_get docs n ≡ o → (all_have n nodes && not (is_in n (any_of (own ∷ [])))) ≡ at (λ doc. test doc && not (other doc)) docs n
+    by n None e = ap (λ b. b && not (is_in n (any_of (own ∷ [])))) (have n ∙ ap (λ o. option_map_or test o false) e) ∙ sym (ap (λ o. option_map_or (λ doc. test doc && not (other doc)) o false) e)
+    by n (Some doc) e =
+        (λ i. (have n ∙ ap (λ o. option_map_or test o false) e) i && not ((own_at n ∙ ap (λ o. option_map_or other o false) e) i))
+        ∙ sym (ap (λ o. option_map_or (λ d. test d && not (other d)) o false) e)
+
+pub no_nodes : (nodes : List Planned) → length nodes ≡ 0 → nodes ≡ []
+no_nodes [] e = refl
+no_nodes (p ∷ ps) e = absurd (omega (arith, e))

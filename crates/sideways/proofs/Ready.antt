@@ -1,10 +1,11 @@
 -- What the passes of a plan find.
-use Rattle.std.proofs.Common.{◌≡◌, ℕ, ◌≤◌, Bool, true, false, List, [], ◌∷◌, ◌++◌, length, Option, Some, refl, sym, ap, subst, ◌∙◌, arith}
+use Rattle.std.proofs.Common.{◌≡◌, ℕ, ◌≤◌, Bool, true, false, List, [], ◌∷◌, ◌++◌, length, Some, None, refl, sym, ap, subst, ◌∙◌, arith}
 use Rattle.std.specs.Prelude.{cond, count_by, filter, sum_by, ◌||◌, ◌&&◌}
 use Rattle.std.specs.List.{list_all, list_any, AllByRecursion, AllZip}
 use Rattle.std.specs.Str.{bytes_eq}
 use Rattle.std.proofs.lemmas.Bool.{or_parts}
-use Rattle.std.proofs.lemmas.List.Sums.{sum_by-cons}
+use Rattle.std.proofs.lemmas.List.{length-map}
+use Rattle.std.proofs.lemmas.List.Sums.{sum_by-append, sum_by-cons}
 use Rattle.facet_names.specs.Labels.{IsLabelList}
 use Rattle.facet_model.specs.CountedPaths.{places, counted_ordinals}
 use Rattle.facet_model.specs.Documents.{Doc, dim_of}
@@ -13,16 +14,18 @@ use Rattle.facet_model.specs.Queries.{matches}
 use Rattle.facet_model.specs.Stored.{Stored, Records, IsRecordOf, IsSegmentOf}
 use Rattle.facet_counts.specs.Laws.{MayBeCounted}
 use Rattle.facet_counts.specs.Lists.{IsListOf}
-use Rattle.facet_counts.specs.Tallies.{Totals, AreCounts}
+use Rattle.facet_counts.specs.Tallies.{Tally, Totals, AreCounts, HasAdded}
 use Rattle.query_eval.specs.Segments.{HasTermsOf}
 use Rattle.query_eval.proofs.Marks.{length_from_place}
-use Rattle.sideways.specs.Counted.{AreCountable, ArePartsOf, IsReady, PartLeft, lists_of, passes_all, placed}
-use Rattle.sideways.specs.Kept.{AreCountsOf, IsPassOf}
+use Rattle.facet_counts.specs.Lists.{counts_for}
+use Rattle.sideways.specs.Counted.{AreCountable, ArePartsOf, HasRoomFor, IsReady, PartLeft, is_near, lists_of, passes_all, placed}
+use Rattle.sideways.specs.Kept.{AreCountsOf, AreHitsIn, IsLiftedOf, IsPassOf}
 use Rattle.sideways.specs.Questions.{Question, HasDocs, counted_of, docs_of}
 use Rattle.sideways.specs.declared.pass.Pass.{Pass}
 use Rattle.sideways.specs.declared.pass.LiftedPass.{LiftedPass}
 use Rattle.sideways.proofs.Decoded.{all_lists, all_placed, all_records, countable_of, joined, list_is, terms_are}
-use Rattle.sideways.proofs.Placed.{left_in, records_in}
+use Rattle.sideways.proofs.Misses.{near_not_hit, near_or_hit, one_each, short_filter, sums_joined}
+use Rattle.sideways.proofs.Placed.{left_in, lists_length, records_in}
 
 -- each segment has documents
 pub each_has : (q : Question) (segments : List Records) (pieces : List (List Doc)) → AllZip (IsSegmentOf q.labels q.config) segments pieces → AllByRecursion (λ s. (docs : List Doc) × HasTermsOf s docs) segments
@@ -38,10 +41,7 @@ count_most test (d ∷ ds) = omega (arith, sum_by-cons (λ doc. cond (test doc) 
     one true = omega arith
     one false = omega arith
 
-module _ (q : Question) (lift : Option (List ℕ)) where
-  abbrev test : Doc → Bool
-  test = passes_all q.query q.drill lift
-
+module _ (q : Question) (test : Doc → Bool) where
   left_most : (segments : List Records) (parts : List PartLeft) (pieces : List (List Doc)) → ArePartsOf test segments parts → AllZip (IsSegmentOf q.labels q.config) segments pieces → sum_by left_in parts ≤ sum_by records_in parts
   left_most [] [] pieces parts are = omega arith
   left_most [] (p ∷ ps) pieces parts are = absurd parts
@@ -60,7 +60,7 @@ module _ (q : Question) (lift : Option (List ℕ)) where
   each_countable may list (s ∷ ss) (p ∷ ps) [] parts are = absurd are
   each_countable may list (s ∷ ss) (p ∷ ps) (d ∷ ds) parts are = (subst (AreCountable q.config q.labels) (sym parts.0.same) (countable_of may q.labels q.config list s d are.0), each_countable may list ss ps ds parts.1 are.1)
 
-  pub ready : MayBeCounted → IsLabelList q.labels → (docs : List Doc) × HasDocs q docs × (length docs ≤ 1000000) → (pass : Pass) → IsPassOf q lift pass → IsReady pass.parts.items pass.counter
+  pub ready : MayBeCounted → IsLabelList q.labels → (docs : List Doc) × HasDocs q docs × (length docs ≤ 1000000) → (pass : Pass) → IsPassOf q test q.segments pass → IsReady pass.parts.items pass.counter
   ready may list has pass is =
       let pieces = has.1.0 in
       let records : sum_by records_in pass.parts.items ≡ length (joined pieces) = all_records q.labels q.config test q.segments pass.parts.items pieces is.parts has.1.1 in
@@ -72,14 +72,64 @@ module _ (q : Question) (lift : Option (List ℕ)) where
         few = few;
       }
 
-  pub lists_found : (pass : Pass) → IsPassOf q lift pass → (docs : List Doc) → HasDocs q docs → lists_of pass.parts.items ≡ counted_of q (filter test docs)
+  pub lists_found : (pass : Pass) → IsPassOf q test q.segments pass → (docs : List Doc) → HasDocs q docs → lists_of pass.parts.items ≡ counted_of q (filter test docs)
   lists_found pass is docs has = all_lists q.labels q.config test q.segments pass.parts.items has.0 is.parts has.1 ∙ ap (λ ds. counted_of q (filter test ds)) (sym has.2)
 
-  pub places_found : (pass : Pass) → IsPassOf q lift pass → (docs : List Doc) → HasDocs q docs → placed 0 pass.parts.items ≡ places test docs
+  pub places_found : (pass : Pass) → IsPassOf q test q.segments pass → (docs : List Doc) → HasDocs q docs → placed 0 pass.parts.items ≡ places test docs
   places_found pass is docs has = all_placed q.labels q.config test 0 q.segments pass.parts.items has.0 is.parts has.1 ∙ ap (places test) (sym has.2)
 
-  pub counts_found : (pass : Pass) → IsPassOf q lift pass → (counts : Totals) → AreCounts counts (lists_of pass.parts.items) → counts.labels ≡ pass.counter.labels → counts.config ≡ pass.counter.config → AreCountsOf q lift counts
-  counts_found pass is counts are labels config = record { labels = labels ∙ is.labels; config = config ∙ is.config; each = λ docs has. subst (AreCounts counts) (lists_found pass is docs has) are }
+-- the counts of the hits
+pub hits_counted : (q : Question) (pass : Pass) → IsPassOf q (passes_all q.query q.drill None) q.segments pass → (tally : Tally) → HasAdded tally (lists_of pass.parts.items) → AreHitsIn q tally
+hits_counted q pass is tally added docs has = subst (HasAdded tally) (lists_found q (passes_all q.query q.drill None) pass is docs has) added
+
+pub counts_found : (q : Question) (tally : Tally) (counts : Totals) → AreHitsIn q tally → ((lists : List (List ℕ)) → HasAdded tally lists → AreCounts counts lists) → counts.labels ≡ q.labels → counts.config ≡ q.config → AreCountsOf q None counts
+counts_found q tally counts hits rolled labels config = record { labels = labels; config = config; each = λ docs has. rolled (counted_of q (filter (passes_all q.query q.drill None) docs)) (hits docs has) }
+
+-- the counts of a dimension, over its near misses and the hits
+pub near_counted : (q : Question) (one : LiftedPass) (tally : Tally) (counts : Totals) → IsLiftedOf q q.segments one → AreHitsIn q tally
+    → ((others : List (List ℕ)) → HasAdded tally others → AreCounts counts (lists_of one.pass.parts.items ++ others)) → counts.labels ≡ one.pass.counter.labels → counts.config ≡ one.pass.counter.config → AreCountsOf q (Some one.dim.now) counts
+near_counted q one tally counts is hits counted labels config = record {
+  labels = labels ∙ is.pass.labels;
+  config = config ∙ is.pass.config;
+  each = λ docs has ord some lt.
+      let dim : List ℕ = one.dim.now in
+      let near : Doc → Bool = is_near q.query q.drill dim in
+      let hit : Doc → Bool = passes_all q.query q.drill None in
+      let g : List ℕ → Bool = counts_for counts.config counts.labels ord in
+      let f : Doc → List ℕ = λ doc. counted_ordinals q.labels q.config doc.labels in
+      let lists : lists_of one.pass.parts.items ≡ counted_of q (filter near docs) = lists_found q near one.pass is.pass docs has in
+      counted (counted_of q (filter hit docs)) (hits docs has) ord some lt
+      ∙ ap (λ l. count_by g (l ++ counted_of q (filter hit docs))) lists
+      ∙ sum_by-append (λ list. cond (g list) 1 0) (counted_of q (filter near docs)) (counted_of q (filter hit docs))
+      ∙ sums_joined (λ list. cond (g list) 1 0) f near hit (passes_all q.query q.drill (Some dim)) docs (λ doc. near_or_hit q.query q.drill dim doc is.drilled) (λ doc. near_not_hit q.query q.drill dim doc is.drilled);
+}
+
+-- with the hits there are no more of them than documents
+pub near_room : (q : Question) (one : LiftedPass) (tally : Tally) → (docs : List Doc) × HasDocs q docs × (length docs ≤ 1000000) → IsLiftedOf q q.segments one → AreHitsIn q tally → tally.labels ≡ q.labels → tally.config ≡ q.config → HasRoomFor one.pass.parts.items one.pass.counter tally
+near_room q one tally has is hits labels config =
+    let docs : List Doc = has.0 in
+    let dim : List ℕ = one.dim.now in
+    let near : Doc → Bool = is_near q.query q.drill dim in
+    let hit : Doc → Bool = passes_all q.query q.drill None in
+    let lift : Doc → Bool = passes_all q.query q.drill (Some dim) in
+    let f : Doc → List ℕ = λ doc. counted_ordinals q.labels q.config doc.labels in
+    record {
+      labels = labels ∙ sym is.pass.labels;
+      config = config ∙ sym is.pass.config;
+      room = omega (
+        arith,
+        sym (lists_length one.pass.parts.items),
+        ap length (lists_found q near one.pass is.pass docs has.1),
+        (hits docs has.1).number,
+        one_each (counted_of q (filter near docs)),
+        one_each (counted_of q (filter hit docs)),
+        one_each (counted_of q (filter lift docs)),
+        sums_joined (λ list. 1) f near hit lift docs (λ doc. near_or_hit q.query q.drill dim doc is.drilled) (λ doc. near_not_hit q.query q.drill dim doc is.drilled),
+        length-map (filter lift docs) f,
+        short_filter lift docs,
+        has.2,
+      );
+    }
 
 -- ---- the documents of a dimension
 
@@ -127,9 +177,14 @@ docs_listed q list docs has dim = by q.sideways
     by true = some_listed q (passes_all q.query q.drill (Some dim)) docs listed
     by false = some_listed q (is_hit q.query q.drill) docs listed
 
-pub each_ready : (q : Question) → MayBeCounted → IsLabelList q.labels → (docs : List Doc) × HasDocs q docs × (length docs ≤ 1000000) → (all : List LiftedPass) → AllByRecursion (λ l. IsPassOf q (Some l.dim.now) l.pass) all → AllByRecursion (λ l. IsReady l.pass.parts.items l.pass.counter) all
+pub each_ready : (q : Question) → MayBeCounted → IsLabelList q.labels → (docs : List Doc) × HasDocs q docs × (length docs ≤ 1000000) → (all : List LiftedPass) → AllByRecursion (λ l. IsLiftedOf q q.segments l) all → AllByRecursion (λ l. IsReady l.pass.parts.items l.pass.counter) all
 each_ready q may list has [] all = tt
-each_ready q may list has (l ∷ ls) all = (ready q (Some l.dim.now) may list has l.pass all.0, each_ready q may list has ls all.1)
+each_ready q may list has (l ∷ ls) all = (ready q (is_near q.query q.drill l.dim.now) may list has l.pass all.0.pass, each_ready q may list has ls all.1)
+
+pub each_room : (q : Question) (tally : Tally) → (docs : List Doc) × HasDocs q docs × (length docs ≤ 1000000) → AreHitsIn q tally → tally.labels ≡ q.labels → tally.config ≡ q.config → (all : List LiftedPass) → AllByRecursion (λ l. IsLiftedOf q q.segments l) all
+    → AllByRecursion (λ l. HasRoomFor l.pass.parts.items l.pass.counter tally) all
+each_room q tally has hits labels config [] all = tt
+each_room q tally has hits labels config (l ∷ ls) all = (near_room q l tally has all.0 hits labels config, each_room q tally has hits labels config ls all.1)
 
 -- the same lists, by the labels and the config of the counts
 pub counted_zip : (q : Question) (k : Totals) → k.labels ≡ q.labels → k.config ≡ q.config → IsLabelList q.labels → (docs : List Doc) → HasDocs q docs → (dim : List ℕ) → AllZip (IsListOf k.config k.labels) (counted_of q (docs_of q docs dim)) (docs_of q docs dim)

@@ -1,5 +1,5 @@
 -- What nodes have in common, one node after the other.
-use Rattle.std.proofs.Common.{◌≡◌, ℕ, ◌+◌, ◌/◌, ◌<◌, Bool, true, false, ◌&&◌, ◌||◌, List, [], ◌∷◌, ◌++◌, length, Option, Some, None, refl, sym, ap, subst, ◌∙◌, arith}
+use Rattle.std.proofs.Common.{◌≡◌, ℕ, zero, suc, ◌+◌, ◌/◌, ◌<◌, Bool, true, false, ◌&&◌, ◌||◌, List, [], ◌∷◌, ◌++◌, length, get_or, Option, Some, None, refl, sym, ap, subst, ◌∙◌, arith}
 use Rattle.std.specs.Prelude.{slice_get}
 use Rattle.std.specs.List.{range_with_len, AllByRecursion}
 use Rattle.std.specs.Option.{option_map_or}
@@ -11,13 +11,9 @@ use Rattle.plan_places.specs.Marks.{AreMarkedToo, IsMarkable}
 use Rattle.plan_places.specs.Planned.{Planned, all_have}
 use Rattle.query_eval.proofs.Marks.{at, rising_places, is_in_places, are_places, all_from_place}
 use Rattle.seg_postings.specs.Rising.{IsRising, is_in}
-use Rattle.sideways.specs.Counted.{AreAllOf}
+use Rattle.sideways.specs.Counted.{AreAllOf, AreNodesFor, IsAmong, IsMarkedBy}
 use Rattle.sideways.proofs.Gathered.{all_front, all_last}
-use Rattle.sideways.proofs.Narrowed.{all_have_more, none_past}
-
--- the node has places of records alone
-abbrev pub IsAmong : ℕ → Planned → Type 0
-IsAmong docs p = (n : ℕ) → is_in n p.left ≡ true → n < docs
+use Rattle.sideways.proofs.Narrowed.{all_have_more}
 
 at_within : (test : Doc → Bool) (docs : List Doc) (n : ℕ) → at test docs n ≡ true → n < length docs
 at_within test docs n among = by (slice_get docs n) refl among
@@ -80,21 +76,43 @@ none : (ps : List Planned) → length ps ≡ 0 → ps ≡ []
 none [] e = refl
 none (p ∷ ps) e = absurd (omega (arith, e))
 
-pub all_common : (docs : ℕ) (all left : List Planned) (common : Marked) → AreCommonSoFar docs all left common → length left ≡ 0 → 0 < length all
+pub all_common : (docs : ℕ) (all left : List Planned) (common : Marked) → AreCommonSoFar docs all left common → length left ≡ 0
     → (among : List Doc) (test : Doc → Bool) → docs ≡ length among → AreAllOf among test all → common.places ≡ places test among
-all_common docs all left common so_far end some among test same are =
+all_common docs all left common so_far end among test same are =
     are_places test among common.places so_far.rising (λ n. sym (and_true (is_in n common.places)) ∙ ap (λ ps. is_in n common.places && all_have n ps) (sym (none left end)) ∙ so_far.same n ∙ by n (slice_get among n) refl)
   where
     and_true : (b : Bool) → (b && true) ≡ b
     and_true true = refl
     and_true false = refl
 
-    and_false : (b : Bool) → (b && false) ≡ false
-    and_false true = refl
-    and_false false = refl
+    among_at : (n : ℕ) → is_in n (range_with_len 0 docs) ≡ at (λ (d : Doc). true) among n
+    among_at n = ap (is_in n) (all_places among docs same) ∙ is_in_places n (λ (d : Doc). true) among
 
     by : (n : ℕ) (o : Option Doc) → slice_get among n ≡ o → (is_in n (range_with_len 0 docs) && all_have n all) ≡ at test among n
-    by n None e = ap (λ b. is_in n (range_with_len 0 docs) && b) (none_past among n all some e are.each) ∙ and_false (is_in n (range_with_len 0 docs)) ∙ sym (ap (λ o. option_map_or test o false) e)
+    by n None e = ap (λ b. b && all_have n all) (among_at n ∙ ap (λ (o : Option Doc). option_map_or (λ d. true) o false) e) ∙ sym (ap (λ o. option_map_or test o false) e)
     by n (Some doc) e =
-        let there : is_in n (range_with_len 0 docs) ≡ true = ap (is_in n) (all_places among docs same) ∙ is_in_places n (λ (d : Doc). true) among ∙ ap (λ (o : Option Doc). option_map_or (λ d. true) o false) e in
-        ap (λ b. b && all_have n all) there ∙ are.have n doc e ∙ sym (ap (λ o. option_map_or test o false) e)
+        ap (λ b. b && all_have n all) (among_at n ∙ ap (λ (o : Option Doc). option_map_or (λ d. true) o false) e) ∙ are.have n doc e ∙ sym (ap (λ o. option_map_or test o false) e)
+
+-- ---- each node for itself
+
+pub nodes_for_among : (among : List Doc) (docs : ℕ) (tests : List (Doc → Bool)) (ps : List Planned) → docs ≡ length among → AreNodesFor among tests ps → AllByRecursion (IsAmong docs) ps
+nodes_for_among among docs [] [] same are = tt
+nodes_for_among among docs [] (p ∷ ps) same are = absurd are
+nodes_for_among among docs (t ∷ ts) [] same are = absurd are
+nodes_for_among among docs (t ∷ ts) (p ∷ ps) same are =
+    ((λ n there. omega (arith, same, at_within t among n (sym (is_in_places n t among) ∙ ap (is_in n) (sym are.0) ∙ there))), nodes_for_among among docs ts ps same are.1)
+
+among_at_index : (docs : ℕ) (ps : List Planned) (i : ℕ) (d : Planned) → AllByRecursion (IsAmong docs) ps → i < length ps → IsAmong docs (get_or ps i d)
+among_at_index docs [] i d all lt = absurd (omega arith)
+among_at_index docs (p ∷ ps) zero d all lt = all.0
+among_at_index docs (p ∷ ps) (suc i) d all lt = among_at_index docs ps i d all.1 (omega arith)
+
+pub markable_here : (docs : ℕ) (ps : List Planned) (i : ℕ) (p : Planned) (empty : Marked) → AllByRecursion (IsAmong docs) ps → i < length ps → p ≡ get_or ps i p → empty ≡ empty_set ((docs + 63) / 64) → IsMarkable empty p.left
+markable_here docs ps i p empty all lt is none n there =
+    omega (arith, ap (λ (m : Marked). m.words) none, among_at_index docs ps i p all lt n (ap (λ (q : Planned). is_in n q.left) (sym is) ∙ there))
+
+pub marked_by : (docs : ℕ) (p : Planned) (empty marked : Marked) → empty ≡ empty_set ((docs + 63) / 64) → AreMarkedToo p.left marked empty → IsMarkedBy docs p marked
+marked_by docs p empty marked none too = record {
+  words = too.words ∙ ap (λ (m : Marked). m.words) none;
+  members = λ n. too.members n ∙ ap (λ (m : Marked). is_in n m.places || is_in n p.left) none;
+}

@@ -1,5 +1,5 @@
 -- What a pass finds and counts, segment by segment.
-use Rattle.std.specs.Prelude.{◌≡◌, ℕ, ◌+◌, ◌<◌, ◌≤◌, ◌++◌, ◌&&◌, ◌||◌, Bool, true, false, not, List, [], ◌∷◌, length, take, map, flat_map, Option, Some, None, option_map, slice_get, slice_index_or, sum_by}
+use Rattle.std.specs.Prelude.{◌≡◌, ℕ, ◌+◌, ◌<◌, ◌≤◌, ◌++◌, ◌/◌, ◌&&◌, ◌||◌, Bool, nat_le, filter, true, false, not, List, [], ◌∷◌, length, take, map, flat_map, Option, Some, None, option_map, slice_get, slice_index_or, sum_by}
 use Rattle.std.specs.Borrow.{Bor}
 use Rattle.std.specs.List.{list_any, list_all, AllZip, AllByRecursion}
 use Rattle.std.specs.Str.{bytes_eq}
@@ -11,6 +11,7 @@ use Rattle.facet_model.specs.Queries.{QueryTree, matches}
 use Rattle.facet_model.specs.Stored.{Records}
 use Rattle.facet_counts.specs.Lists.{IsCounted}
 use Rattle.facet_counts.specs.Tallies.{Tally, HasAdded}
+use Rattle.place_bits.specs.Words.{Marked}
 use Rattle.plan_places.specs.Planned.{Planned, all_have}
 use Rattle.query_eval.specs.Segments.{HasTermsOf}
 use Rattle.seg_grammar.specs.Lookups.{record_of}
@@ -35,6 +36,14 @@ passes_each drill lift paths doc = list_all (λ path. is_lifted lift (dim_of pat
 abbrev pub passes_all : QueryTree → List (List (List ℕ)) → Option (List ℕ) → Doc → Bool
 passes_all query drill lift doc = matches query doc && passes_each drill lift drill doc
 
+-- the dimension is one of the drill
+abbrev pub is_drilled : List (List (List ℕ)) → List ℕ → Bool
+is_drilled drill dim = list_any (λ path. bytes_eq (dim_of path) dim) drill
+
+-- it matches the query, and of the dimensions of the drill it fails this one alone
+abbrev pub is_near : QueryTree → List (List (List ℕ)) → List ℕ → Doc → Bool
+is_near query drill dim doc = passes_all query drill (Some dim) doc && not (passes doc drill dim)
+
 -- a path of the dimension is before the place
 abbrev pub is_again : List (List (List ℕ)) → ℕ → List ℕ → Bool
 is_again drill at dim = list_any (λ path. bytes_eq (dim_of path) dim) (take at drill)
@@ -47,6 +56,27 @@ is_first drill at lift = not (is_again drill at (dim_of (slice_index_or drill at
 pub record AreAllOf (docs : List Doc) (test : Doc → Bool) (nodes : List Planned) : Type 0 where
   pub each : AllByRecursion (λ p. (other : Doc → Bool) × (p.left ≡ places other docs)) nodes
   pub have : (n : ℕ) (doc : Doc) → slice_get docs n ≡ Some doc → all_have n nodes ≡ test doc
+
+-- Each node has the places of the documents that pass the test beside it.
+abbrev pub AreNodesFor : List Doc → List (Doc → Bool) → List Planned → Type 0
+AreNodesFor docs tests nodes = AllZip (λ test p. p.left ≡ places test docs) tests nodes
+
+-- the node has places below a bound alone
+abbrev pub IsAmong : ℕ → Planned → Type 0
+IsAmong docs p = (n : ℕ) → is_in n p.left ≡ true → n < docs
+
+-- The set has the places of the node, and room for those below the bound.
+pub record IsMarkedBy (docs : ℕ) (p : Planned) (set : Marked) : Type 0 where
+  pub words : set.words ≡ (docs + 63) / 64
+  pub members : (n : ℕ) → is_in n set.places ≡ is_in n p.left
+
+-- it passes all tests
+abbrev pub passes_tests : List (Doc → Bool) → Doc → Bool
+passes_tests tests doc = list_all (λ test. test doc) tests
+
+-- of the tests it fails this one, and no other
+abbrev pub fails_alone : List (Doc → Bool) → (Doc → Bool) → Doc → Bool
+fails_alone tests test doc = not (test doc) && nat_le (length (filter (λ t. not (t doc)) tests)) 1
 
 -- ---- the records of one segment
 
@@ -108,6 +138,12 @@ IsNoting part base limit hits more = (before : List ℕ) → hits ≡ take limit
 -- one part for each segment, with the documents that pass
 abbrev pub ArePartsOf : (Doc → Bool) → List Records → List PartLeft → Type 0
 ArePartsOf test segments parts = AllZip (IsPartOf test) segments parts
+
+-- There is room for what another counter has counted over the same labels too.
+pub record HasRoomFor (parts : List PartLeft) (tally others : Tally) : Type 0 where
+  pub labels : others.labels ≡ tally.labels
+  pub config : others.config ≡ tally.config
+  pub room : sum_by (λ p. length p.left) parts + others.added ≤ 1000000
 
 -- The counter is new, every record may be counted, and there are at most a million of them, as of places left.
 pub record IsReady (parts : List PartLeft) (tally : Tally) : Type 0 where

@@ -1,9 +1,9 @@
 //! The places that several nodes have in common.
-ghost use Rattle.std.specs.Prelude.{◌≡◌, ◌<◌, ℕ, Bool, List, IfOk, length, true};
-ghost use Rattle.std.specs.List.{AllByRecursion};
+ghost use Rattle.std.specs.Prelude.{◌≡◌, ◌<◌, ◌+◌, ◌/◌, ℕ, Bool, List, IfOk, length, true};
+ghost use Rattle.std.specs.List.{AllByRecursion, AllZip};
 ghost use Rattle.facet_model.specs.CountedPaths.{places};
 ghost use Rattle.facet_model.specs.Documents.{Doc};
-ghost use Rattle.sideways.specs.Counted.{AreAllOf};
+ghost use Rattle.sideways.specs.Counted.{AreAllOf, IsAmong, IsMarkedBy};
 
 use facet_names::NoMemory;
 use place_bits::Bits;
@@ -25,15 +25,53 @@ pub(crate) fn are_many(nodes: &[PlanNode<'_>], docs: u32) -> bool {
     marks && fewest >= docs as u64 / 64 && all / MORE_THAN_MARKED <= fewest
 }
 
-/// The places that all nodes have, as bits. It takes an eighth of a byte a document, and as much again while it looks.
+/// Whether bits are the quicker way to the near misses of some dimensions among what the base has. Without bits each dimension has a walk of its own,
+/// whose lead is the fewest of the base and of the other dimensions: that of the dimension with the fewest places is the longest.
+pub(crate) fn are_near_many(base: &[PlanNode<'_>], dims: &[PlanNode<'_>], docs: u32) -> bool {
+    let mut lead = docs as u64;
+    let mut all: u64 = 0;
+    for node in base {
+        lead = lead.min(node.at_most());
+        all = all.saturating_add(node.at_most());
+    }
+    let mut fewest = docs as u64;
+    let mut second = docs as u64;
+    for node in dims {
+        second = second.min(fewest.max(node.at_most()));
+        fewest = fewest.min(node.at_most());
+        all = all.saturating_add(node.at_most());
+    }
+    lead = lead.min(second);
+    lead >= docs as u64 / 64 && all / MORE_THAN_MARKED <= lead
+}
+
+/// The places that each node has, as bits.
+pub(crate) fn marked_each(
+    alloc: Global,
+    nodes: Vec<PlanNode<'_>>,
+    docs: u32,
+) -> Result<Vec<Bits>, NoMemory>
+    requires { AllByRecursion (IsAmong docs) nodes.items }
+    ensures { IfOk result (λ v. AllZip (IsMarkedBy docs) nodes.entry.items v.items) }
+{
+    let mut sets = Vec::with_capacity(alloc, nodes.len())?;
+    for node in nodes {
+        let mut marked = Bits::none(alloc, docs)?;
+        node.mark(&mut marked);
+        sets.push(marked)?;
+    }
+    Ok(sets)
+}
+
+/// The places that all nodes have, as bits; of no node, all places. It takes an eighth of a byte a document, and as much again while it looks.
 pub(crate) fn in_common(
     alloc: Global,
     nodes: Vec<PlanNode<'_>>,
     docs: u32,
 ) -> Result<Bits, NoMemory>
-    requires some { 0 < length nodes.items }
     requires within { (among : List Doc) × (test : Doc → Bool) × AreAllOf among test nodes.items × (docs ≡ length among) }
-    ensures { IfOk result (λ b. (among : List Doc) (test : Doc → Bool) → docs ≡ length among → AreAllOf among test nodes.entry.items
+    ensures words { IfOk result (λ b. b.words ≡ (docs + 63) / 64) }
+    ensures places { IfOk result (λ b. (among : List Doc) (test : Doc → Bool) → docs ≡ length among → AreAllOf among test nodes.entry.items
         → b.places ≡ places test among) }
 {
     let mut nodes = nodes;

@@ -1,11 +1,12 @@
-//! Drill-down and drill-sideways over the segments of a snapshot, as Lucene's `DrillSideways`: one filtered pass for the hits, and with sideways one
-//! more for each drilled dimension, each of which counts the ordinals of the documents that it finds.
+//! Drill-down and drill-sideways over the segments of a snapshot, as Lucene's `DrillSideways`: one pass for the hits, and with sideways one more for
+//! the near misses of each drilled dimension, the documents that it alone leaves out. A document's ordinals are counted once.
 #![tactic(auto)]
 
 mod answer;
 mod ask;
 mod common;
 mod count;
+mod near;
 mod node;
 mod part;
 mod pass;

@@ -1,5 +1,5 @@
 //! What the documents of a pass have to pass.
-ghost use Rattle.std.specs.Prelude.{◌≡◌, ◌<◌, Bool, List, IfOk, length};
+ghost use Rattle.std.specs.Prelude.{◌≡◌, ◌<◌, ◌&&◌, not, Bool, List, IfOk, length};
 ghost use Rattle.std.specs.List.{list_any};
 ghost use Rattle.std.specs.Str.{bytes_eq};
 ghost use Rattle.facet_model.specs.CountedPaths.{places};
@@ -41,8 +41,8 @@ pub(crate) fn is_first(drill: &[Path], at: usize, lifted: Option<&str>) -> bool
     !has_dimension(&drill[..at], dim) && !is_lifted(lifted, dim)
 }
 
-// The documents that match the query; no node where all do.
-fn base_nodes<'a>(
+/// The documents that match the query; no node where all do.
+pub(crate) fn base_nodes<'a>(
     alloc: Global,
     segment: &'a Segment,
     query: &Query,
@@ -90,4 +90,23 @@ pub(crate) fn joined<'a>(alloc: Global, nodes: Vec<PlanNode<'a>>) -> Result<Plan
         return Ok(nodes.remove(0));
     }
     PlanNode::all(alloc, nodes, Vec::new(alloc))
+}
+
+/// The documents that have all nodes but not this one.
+pub(crate) fn without_one<'a>(
+    alloc: Global,
+    docs: u32,
+    nodes: Vec<PlanNode<'a>>,
+    own: PlanNode<'a>,
+) -> Result<PlanNode<'a>, NoMemory>
+    ensures { IfOk result (λ r. (among : List Doc) (test other : Doc → Bool) → docs ≡ length among → AreAllOf among test nodes.entry.items
+        → own.entry.left ≡ places other among → r.left ≡ places (λ doc. test doc && not (other doc)) among) }
+{
+    let mut nodes = nodes;
+    if nodes.is_empty() {
+        nodes.push(PlanNode::below(docs))?;
+    }
+    let mut excluded = Vec::new(alloc);
+    excluded.push(own)?;
+    PlanNode::all(alloc, nodes, excluded)
 }

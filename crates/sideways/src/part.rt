@@ -1,20 +1,20 @@
-ghost use Rattle.std.specs.Prelude.{◌≡◌, ◌+◌, ◌-◌, ◌≤◌, ◌<◌, ◌∷◌, [], List, length, IfOk, IfSome};
+ghost use Rattle.std.specs.Prelude.{◌≡◌, ◌+◌, ◌-◌, ◌≤◌, ◌<◌, ◌∷◌, [], List, None, length, IfOk, IfSome};
 ghost use Rattle.std.specs.List.{range_with_len};
-ghost use Rattle.facet_model.specs.CountedPaths.{places};
 ghost use Rattle.facet_model.specs.Documents.{Doc};
 ghost use Rattle.facet_model.specs.QueryViews.{query_view};
 ghost use Rattle.query_eval.specs.Segments.{HasTermsOf};
 ghost use Rattle.seg_postings.specs.Rising.{IsNext};
-ghost use Rattle.sideways.specs.Counted.{AreCountable, IsGrown, lifted_of, lists_at, passes_all};
+ghost use Rattle.sideways.specs.Counted.{AreCountable, AreWithin, IsGrown, IsPartOf, is_near, lists_at, passes_all};
 
 use crate::common::{are_many, in_common};
 use crate::count::{count_from, count_places};
-use crate::node::{joined, nodes_of};
+use crate::node::{joined, nodes_of, without_one};
 use facet_counts::Counter;
 use facet_model::Query;
 use facet_names::{NoMemory, Path};
-use place_bits::BitPlaces;
+use place_bits::{BitPlaces, Bits};
 use plan_places::PlanPlaces;
+use query_eval::paths_node;
 use seg_file::Segment;
 use seg_postings::Places;
 use std::alloc::Global;
@@ -65,32 +65,56 @@ fn take_below(next: &mut u32, end: u32) -> Option<u32>
 }
 
 impl<'a> Part<'a> {
-    /// The records of the documents that match the query and pass all dimensions of the drill, but for the one that is lifted.
+    /// The records of the documents that match the query and pass all dimensions of the drill.
     pub(crate) fn new(
         alloc: Global,
         segment: &'a Segment,
         query: &Query,
         drill: &[Path],
-        lifted: Option<&str>,
     ) -> Result<Part<'a>, NoMemory>
         requires { (docs : List Doc) × HasTermsOf segment.now docs }
-        ensures segment { IfOk result (λ p. p.segment ≡ segment.now) }
-        ensures left { IfOk result (λ p. (docs : List Doc) → HasTermsOf segment.now docs
-            → p.left ≡ places (passes_all (query_view query.now) drill.now (lifted_of lifted.entry)) docs) }
+        ensures { IfOk result (λ p. IsPartOf (passes_all (query_view query.now) drill.now None) segment.now p) }
     {
-        let nodes = nodes_of(alloc, segment, query, drill, lifted)?;
+        let nodes = nodes_of(alloc, segment, query, drill, None)?;
         if nodes.is_empty() {
             let left = Left::From(0);
             return Ok(Part { segment, left });
         }
         if are_many(&nodes, segment.docs()) {
             let common = in_common(alloc, nodes, segment.docs())?;
-            let left = Left::Marked(common.into_places());
-            return Ok(Part { segment, left });
+            return Ok(Part::marked(segment, common));
         }
         let node = joined(alloc, nodes)?;
         let left = Left::At(PlanPlaces::new(node));
         Ok(Part { segment, left })
+    }
+
+    /// The records of the documents that a dimension alone leaves out, which are asked for one after the other.
+    pub(crate) fn near(
+        alloc: Global,
+        segment: &'a Segment,
+        query: &Query,
+        drill: &[Path],
+        dim: &str,
+    ) -> Result<Part<'a>, NoMemory>
+        requires { (docs : List Doc) × HasTermsOf segment.now docs }
+        ensures { IfOk result (λ p. IsPartOf (is_near (query_view query.now) drill.now dim.now) segment.now p) }
+    {
+        let nodes = nodes_of(alloc, segment, query, drill, Some(dim))?;
+        let own = paths_node(alloc, segment, drill, dim)?;
+        let node = without_one(alloc, segment.docs(), nodes, own)?;
+        let left = Left::At(PlanPlaces::new(node));
+        Ok(Part { segment, left })
+    }
+
+    /// The records at the places of a set.
+    pub(crate) fn marked(segment: &'a Segment, set: Bits) -> Part<'a>
+        requires { AreWithin segment.now set.places }
+        ensures segment { result.segment ≡ segment.now }
+        ensures left { result.left ≡ set.places }
+    {
+        let left = Left::Marked(set.into_places());
+        Part { segment, left }
     }
 
     /// The place of the next record left.

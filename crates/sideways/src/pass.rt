@@ -1,21 +1,13 @@
-ghost use Rattle.std.specs.Prelude.{◌≡◌, ◌+◌, ◌≤◌, ◌⊎◌, [], List, IfOk, OnOk, length, take};
-ghost use Rattle.std.specs.List.{AllByRecursion};
+ghost use Rattle.std.specs.Prelude.{◌≡◌, ◌+◌, ◌≤◌, ◌⊎◌, ◌++◌, [], ℕ, List, IfOk, OnOk, length, take};
 ghost use Rattle.facet_names.specs.Labels.{IsLabelList};
-ghost use Rattle.facet_model.specs.Documents.{Doc};
-ghost use Rattle.facet_model.specs.QueryViews.{query_view};
 ghost use Rattle.facet_counts.specs.Tallies.{AreCounts, HasAdded};
-ghost use Rattle.query_eval.specs.Segments.{HasTermsOf};
-ghost use Rattle.sideways.specs.Counted.{AreCountable, ArePartsOf, IsGrown, IsNoting, IsTaking, IsReady, lifted_of, lists_at, lists_of, passes_all, placed};
-ghost use Rattle.sideways.specs.Searches.{records_of};
+ghost use Rattle.sideways.specs.Counted.{AreCountable, HasRoomFor, IsGrown, IsNoting, IsTaking, IsReady, lists_at, lists_of, placed};
 
 use crate::part::Part;
 use facet_config::FacetsConfig;
 use facet_counts::{Counter, Counts};
-use facet_model::Query;
-use facet_names::{NoMemory, Path};
-use seg_file::Segment;
+use facet_names::NoMemory;
 use std::alloc::Global;
-use std::sync::Arc;
 use taxo_list::TaxoView;
 
 /// One pass over all segments, with a counter of its own.
@@ -25,7 +17,7 @@ pub(crate) struct Pass<'a> {
     pub(crate) counter: Counter<'a>,
 }
 
-/// A pass over the documents that a drilled dimension is counted over with sideways, whose own paths they need not have.
+/// A pass over the documents that a drilled dimension alone leaves out. With sideways it is counted over these and the hits.
 #[derive(Drop)]
 pub(crate) struct LiftedPass<'a> {
     pub(crate) dim: &'a str,
@@ -39,31 +31,20 @@ pub(crate) struct LiftedCounts<'a> {
     pub(crate) counts: Counts<'a>,
 }
 
+/// The hits, counted but not rolled up.
+#[derive(Drop)]
+pub(crate) struct Hits<'a> {
+    pub(crate) counter: Counter<'a>,
+    pub(crate) number: u64,
+    pub(crate) places: Vec<u32>,
+}
+
 /// What the pass for the hits found.
 #[derive(Drop)]
 pub(crate) struct Found<'a> {
     pub(crate) counts: Counts<'a>,
     pub(crate) number: u64,
     pub(crate) places: Vec<u32>,
-}
-
-// The part of each segment.
-fn parts_of<'a>(
-    alloc: Global,
-    segments: &'a [Arc<Segment>],
-    query: &Query,
-    drill: &[Path],
-    lifted: Option<&str>,
-) -> Result<Vec<Part<'a>>, NoMemory>
-    requires { AllByRecursion (λ s. (docs : List Doc) × HasTermsOf s docs) (records_of segments.now) }
-    ensures { IfOk result (λ v. ArePartsOf (passes_all (query_view query.now) drill.now (lifted_of lifted.entry)) (records_of segments.now) v.items) }
-{
-    let mut parts = Vec::with_capacity(alloc, segments.len())?;
-    for segment in segments {
-        let part = Part::new(alloc, segment, query, drill, lifted)?;
-        parts.push(part)?;
-    }
-    Ok(parts)
 }
 
 // Takes first places of a part until there are enough hits, counts their records, and says how many they are.
@@ -114,34 +95,29 @@ fn count_part(
 }
 
 impl<'a> Pass<'a> {
-    /// A pass over the documents that match the query and pass all dimensions of the drill, but for the one that is lifted. It takes the memory that
-    /// the counting needs.
+    /// A pass that has no part yet, with room for one of each segment. It takes the memory that the counting needs.
     pub(crate) fn new(
         alloc: Global,
         view: &'a TaxoView,
         config: &'a FacetsConfig,
-        segments: &'a [Arc<Segment>],
-        query: &Query,
-        drill: &[Path],
-        lifted: Option<&str>,
+        segments: usize,
     ) -> Result<Pass<'a>, NoMemory>
-        requires { AllByRecursion (λ s. (docs : List Doc) × HasTermsOf s docs) (records_of segments.now) }
-        ensures parts { IfOk result (λ p. ArePartsOf (passes_all (query_view query.now) drill.now (lifted_of lifted.entry))
-            (records_of segments.now) p.parts.items) }
+        ensures none { IfOk result (λ p. p.parts.items ≡ []) }
         ensures fresh { IfOk result (λ p. HasAdded p.counter []) }
         ensures labels { IfOk result (λ p. p.counter.labels ≡ view.now) }
         ensures config { IfOk result (λ p. p.counter.config ≡ config.now) }
         ensures list { IfOk result (λ p. IsLabelList p.counter.labels) }
     {
-        let parts = parts_of(alloc, segments, query, drill, lifted)?;
+        let parts = Vec::with_capacity(alloc, segments)?;
         let counter = Counter::new(alloc, view, config)?;
         Ok(Pass { parts, counter })
     }
 
-    /// Counts all documents that are found. It takes no memory.
-    pub(crate) fn count(self) -> Counts<'a>
-        requires { IsReady self.parts.items self.counter }
-        ensures counts { AreCounts result (lists_of self.entry.parts.items) }
+    /// Counts all documents that are found, and those that the hits' counter has counted. It takes no memory.
+    pub(crate) fn count(self, hits: &Counter<'_>) -> Counts<'a>
+        requires ready { IsReady self.parts.items self.counter }
+        requires room { HasRoomFor self.parts.items self.counter hits.now }
+        ensures counts { (others : List (List ℕ)) → HasAdded hits.now others → AreCounts result (lists_of self.entry.parts.items ++ others) }
         ensures labels { result.labels ≡ self.entry.counter.labels }
         ensures config { result.config ≡ self.entry.counter.config }
     {
@@ -152,18 +128,19 @@ impl<'a> Pass<'a> {
         for part in parts.iter_mut() {
             part.count(&mut counter);
         }
+        counter.add_counter(hits);
         counter.roll_up()
     }
 
     /// Counts all documents that are found, and says how many they are and where the first of them stand.
-    pub(crate) fn count_hits(self, limit: u32, places: Vec<u32>) -> Result<Found<'a>, NoMemory>
+    pub(crate) fn count_hits(self, limit: u32, places: Vec<u32>) -> Result<Hits<'a>, NoMemory>
         requires ready { IsReady self.parts.items self.counter }
         requires none { places.items ≡ [] }
-        ensures counts { IfOk result (λ f. AreCounts f.counts (lists_of self.entry.parts.items)) }
-        ensures labels { IfOk result (λ f. f.counts.labels ≡ self.entry.counter.labels) }
-        ensures config { IfOk result (λ f. f.counts.config ≡ self.entry.counter.config) }
-        ensures number { IfOk result (λ f. f.number ≡ length (lists_of self.entry.parts.items)) }
-        ensures places { IfOk result (λ f. f.places.items ≡ take limit (placed 0 self.entry.parts.items)) }
+        ensures counted { IfOk result (λ h. HasAdded h.counter (lists_of self.entry.parts.items)) }
+        ensures labels { IfOk result (λ h. h.counter.labels ≡ self.entry.counter.labels) }
+        ensures config { IfOk result (λ h. h.counter.config ≡ self.entry.counter.config) }
+        ensures number { IfOk result (λ h. h.number ≡ length (lists_of self.entry.parts.items)) }
+        ensures places { IfOk result (λ h. h.places.items ≡ take limit (placed 0 self.entry.parts.items)) }
     {
         let Pass {
             mut parts,
@@ -177,8 +154,8 @@ impl<'a> Pass<'a> {
             number += count_part(part, &mut counter, base, limit, &mut places)?;
             base += docs;
         }
-        Ok(Found {
-            counts: counter.roll_up(),
+        Ok(Hits {
+            counter,
             number,
             places,
         })

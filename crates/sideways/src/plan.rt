@@ -1,12 +1,13 @@
-ghost use Rattle.std.specs.Prelude.{◌≡◌, ◌≤◌, ◌&&◌, ℕ, [], List, Some, None, IfOk, IfErr, length, map};
-ghost use Rattle.std.specs.List.{AllByRecursion, list_any};
+ghost use Rattle.std.specs.Prelude.{◌≡◌, ◌≤◌, ◌&&◌, ℕ, [], List, Some, None, IfOk, IfErr, OnOk, length, map};
+ghost use Rattle.std.specs.List.{AllByRecursion, AllZip, list_any};
 ghost use Rattle.std.specs.Str.{bytes_eq};
 ghost use Rattle.facet_model.specs.AskViews.{ask_view};
 ghost use Rattle.facet_model.specs.Documents.{Doc, dim_of};
+ghost use Rattle.facet_model.specs.QueryViews.{query_view};
 ghost use Rattle.facet_model.specs.Stored.{Decodes};
 ghost use Rattle.query_eval.specs.Segments.{HasTermsOf};
-ghost use Rattle.sideways.specs.Counted.{IsReady};
-ghost use Rattle.sideways.specs.Kept.{AreCountsOf, IsPassOf};
+ghost use Rattle.sideways.specs.Counted.{HasRoomFor, IsReady, is_drilled, passes_all};
+ghost use Rattle.sideways.specs.Kept.{AreCountsOf, AreDistinct, AreHitsIn, HasNears, HasParts, IsLiftedOf, dim_in};
 ghost use Rattle.sideways.specs.Questions.{Question};
 ghost use Rattle.sideways.specs.Refusals.{first_refused};
 ghost use Rattle.sideways.specs.Searches.{question_of, records_of, search_of};
@@ -15,9 +16,11 @@ ghost use Rattle.sideways.specs.declared.ask.AskRefused.TheVariants.{NoMemory as
 
 use crate::answer::SidewaysAnswer;
 use crate::ask::{AskRefused, SearchAsk, first_refusal};
+use crate::near::add_segment;
 use crate::node::is_first;
-use crate::pass::{LiftedCounts, LiftedPass, Pass};
+use crate::pass::{Found, Hits, LiftedCounts, LiftedPass, Pass};
 use facet_config::FacetsConfig;
+use facet_counts::Counter;
 use facet_names::NoMemory;
 use seg_file::Segment;
 use std::alloc::Global;
@@ -26,8 +29,8 @@ use std::sync::Arc;
 use taxo_list::{Labelled, TaxoView};
 
 /// A search that is ready to run, with all memory that the counting needs: one pass for the hits, and with sideways one more for each drilled
-/// dimension. A pass has a counter of its own, 5 bytes for each label of the view, and for each segment a plan or, where all conditions have many
-/// documents, the places of what they have in common: an eighth of a byte a document, and once as much again while it is made.
+/// dimension. A pass has a counter of its own, 5 bytes for each label of the view, and for each segment a plan or, where the conditions have many
+/// documents, its places as a set: an eighth of a byte a document, and twice as much again while the sets of a segment are made.
 #[derive(Drop)]
 pub struct DrillPlan<'a> {
     view: &'a TaxoView,
@@ -58,7 +61,7 @@ impl<'a> Model for DrillPlan<'a> {
         × (p.counted.items ≡ []) };
 }
 
-// A pass for each dimension of the drill.
+// A pass without a part for each dimension of the drill.
 fn lifted_passes<'a>(
     alloc: Global,
     view: &'a TaxoView,
@@ -66,10 +69,10 @@ fn lifted_passes<'a>(
     segments: &'a [Arc<Segment>],
     ask: &'a SearchAsk,
 ) -> Result<Vec<LiftedPass<'a>>, NoMemory>
-    requires { AllByRecursion (λ s. (docs : List Doc) × HasTermsOf s docs) (records_of segments.now) }
-    ensures each { IfOk result (λ v. AllByRecursion (λ l. IsPassOf (question_of view.now config.now segments.now ask.now) (Some l.dim.now) l.pass) v.items) }
+    ensures each { IfOk result (λ v. AllByRecursion (λ l. IsLiftedOf (question_of view.now config.now segments.now ask.now) [] l) v.items) }
     ensures covers { IfOk result (λ v. (dim : List ℕ) → list_any (λ l. bytes_eq l.dim.now dim) v.items
         ≡ (ask.now.sideways && list_any (λ path. bytes_eq (dim_of path) dim) ask.now.drill)) }
+    ensures distinct { IfOk result (λ v. AreDistinct (map dim_in v.items)) }
 {
     let mut lifted = Vec::new(alloc);
     if !ask.sideways {
@@ -79,21 +82,44 @@ fn lifted_passes<'a>(
     for (at, path) in drill.iter().enumerate() {
         if is_first(drill, at, None) {
             let dim = path.dim();
-            let pass = Pass::new(alloc, view, config, segments, &ask.query, drill, Some(dim))?;
+            let pass = Pass::new(alloc, view, config, segments.len())?;
             lifted.push(LiftedPass { dim, pass })?;
         }
     }
     Ok(lifted)
 }
 
-// Runs the passes.
+// Adds the parts of each segment to the passes.
+fn add_segments<'a>(
+    alloc: Global,
+    segments: &'a [Arc<Segment>],
+    ask: &SearchAsk,
+    hits: &mut Pass<'a>,
+    lifted: &mut Vec<LiftedPass<'a>>,
+) -> Result<(), NoMemory>
+    requires has { AllByRecursion (λ s. (docs : List Doc) × HasTermsOf s docs) (records_of segments.now) }
+    requires covers { (dim : List ℕ) → list_any (λ l. bytes_eq l.dim.now dim) lifted.old.items ≡ (ask.now.sideways && is_drilled ask.now.drill dim) }
+    requires distinct { AreDistinct (map dim_in lifted.old.items) }
+    ensures hits { OnOk result (HasParts (passes_all (query_view ask.now.query) ask.now.drill None) (records_of segments.now) hits.old hits.new) }
+    ensures lifted { OnOk result (AllZip (HasNears (query_view ask.now.query) ask.now.drill (records_of segments.now)) lifted.old.items lifted.new.items) }
+{
+    let drill = ask.drill.paths();
+    for segment in segments {
+        add_segment(alloc, segment, &ask.query, drill, hits, lifted)?;
+    }
+    Ok(())
+}
+
+// Runs the passes of the dimensions, each of which is counted over the hits too.
 fn count_lifted<'a>(
     lifted: Vec<LiftedPass<'a>>,
     counted: Vec<LiftedCounts<'a>>,
+    hits: &Counter<'_>,
 ) -> Result<Vec<LiftedCounts<'a>>, NoMemory>
     requires none { counted.items ≡ [] }
     requires ready { AllByRecursion (λ l. IsReady l.pass.parts.items l.pass.counter) lifted.items }
-    ensures each { IfOk result (λ v. (q : Question) → AllByRecursion (λ l. IsPassOf q (Some l.dim.now) l.pass) lifted.entry.items
+    requires room { AllByRecursion (λ l. HasRoomFor l.pass.parts.items l.pass.counter hits.now) lifted.items }
+    ensures each { IfOk result (λ v. (q : Question) → AreHitsIn q hits.now → AllByRecursion (λ l. IsLiftedOf q q.segments l) lifted.entry.items
         → AllByRecursion (λ l. AreCountsOf q (Some l.dim.now) l.counts) v.items) }
     ensures covers { IfOk result (λ v. (dim : List ℕ) → list_any (λ l. bytes_eq l.dim.now dim) v.items
         ≡ list_any (λ l. bytes_eq l.dim.now dim) lifted.entry.items) }
@@ -102,7 +128,7 @@ fn count_lifted<'a>(
     let mut counted = counted;
     while let Some(one) = lifted.pop() {
         let LiftedPass { dim, pass } = one;
-        let counts = pass.count();
+        let counts = pass.count(hits);
         counted.push(LiftedCounts { dim, counts })?;
     }
     Ok(counted)
@@ -143,9 +169,9 @@ impl<'a> DrillPlan<'a> {
         requires fit { first_refused config.now (map ask_view ask.now.asks.items) ≡ None }
         ensures { IfOk result (λ p. p ≡ search_of view.now config.now segments.now ask.now) }
     {
-        let drill = ask.drill.paths();
-        let hits = Pass::new(alloc, view, config, segments, &ask.query, drill, None)?;
-        let lifted = lifted_passes(alloc, view, config, segments, ask)?;
+        let mut hits = Pass::new(alloc, view, config, segments.len())?;
+        let mut lifted = lifted_passes(alloc, view, config, segments, ask)?;
+        add_segments(alloc, segments, ask, &mut hits, &mut lifted)?;
         let counted = Vec::with_capacity(alloc, lifted.len())?;
         Ok(DrillPlan {
             view,
@@ -159,7 +185,8 @@ impl<'a> DrillPlan<'a> {
         })
     }
 
-    /// Runs the passes. Each walks over the places that it finds, from the first segment to the last, and counts the ordinals of the record at each.
+    /// Runs the passes. Each walks over the places that it finds, from the first segment to the last, and counts the ordinals of the record at each: a hit
+    /// once for all dimensions, and a document that one dimension alone leaves out once for that dimension.
     /// It takes memory for the places of the hits that are wanted.
     pub fn run(self) -> Result<SidewaysAnswer<'a>, NoMemory>
         ensures { IfOk result (λ a. a ≡ self.entry) }
@@ -174,8 +201,17 @@ impl<'a> DrillPlan<'a> {
             places,
             counted,
         } = self;
-        let found = hits.count_hits(ask.hits, places)?;
-        let lifted = count_lifted(lifted, counted)?;
+        let Hits {
+            counter,
+            number,
+            places,
+        } = hits.count_hits(ask.hits, places)?;
+        let lifted = count_lifted(lifted, counted, &counter)?;
+        let found = Found {
+            counts: counter.roll_up(),
+            number,
+            places,
+        };
         Ok(SidewaysAnswer {
             view,
             config,

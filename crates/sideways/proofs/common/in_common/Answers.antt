@@ -13,5 +13,5 @@ loop-node-preserved c =
     one_common c.args.docs c.args.nodes.items c.loop-node.nodes.items c.pop.new.self.items c.in-Some.node c.loop-node.common c.loop-node.invariant c.in-Some.ensures.items c.in_ok-marked.marked c.mark.new.bits c.keep.new.self c.in_ok-marked.ensures
     c.mark.ensures c.keep.ensures.words c.keep.ensures.rising c.keep.ensures.kept
 
-pub returns : goal.returns
-returns c = all_common c.args.docs c.args.nodes.items c.loop-node.nodes.items c.loop-node.common c.loop-node.invariant (omega (arith, c.in_default.ensures.cases.0, c.loop-node.nodes.ok.0)) c.requires.some
+pub returns-clause-places : goal.returns-clause-places
+returns-clause-places c = all_common c.args.docs c.args.nodes.items c.loop-node.nodes.items c.loop-node.common c.loop-node.invariant (omega (arith, c.in_default.ensures.cases.0, c.loop-node.nodes.ok.0))

@@ -1,5 +1,5 @@
 use Rattle.std.proofs.Common.{get_or, ◌∙◌, ◌<◌, ◌≤◌, ◌+◌, [], length, ap, refl, arith}
-use Rattle.sideways.specs.Counted.{PartLeft, lists_of}
+use Rattle.sideways.specs.Counted.{PartLeft}
 use Rattle.sideways.proofs.Placed.{all_grown, all_noted, all_numbered, base_more, base_room, counted_more, next_part, number_more, part_here, places_more, take_at_most}
 use Rattle.sideways.proofs.pass.Pass.count_hits.Goals as goal
 
@@ -46,17 +46,17 @@ overflow_add-base c =
     let few = base_room c.loop-part.part-index c.loop-part.part-items c.args.self.parts.items c.args.self.counter c.loop-part.counter p c.loop-part.base c.loop-part.invariant.counted c.requires.ready lt at c.loop-part.invariant.base in
     omega (arith, few, c.docs-docs.ensures)
 
-pub returns-clause-counts : goal.returns-clause-counts
-returns-clause-counts c =
+pub returns-clause-counted : goal.returns-clause-counted
+returns-clause-counted c =
     let le : length c.args.self.parts.items ≤ c.loop-part.part-index = omega (arith, c.loop-part.invariant.counted.long, c.loop-part-test.false) in
     let grown = all_grown c.loop-part.part-index c.loop-part.part-items c.args.self.parts.items c.args.self.counter c.loop-part.counter c.loop-part.invariant.counted le in
-    c.roll_up.ensures.counts (lists_of c.args.self.parts.items) (grown.added [] c.requires.ready.fresh)
+    grown.added [] c.requires.ready.fresh
 
 pub returns-clause-labels : goal.returns-clause-labels
-returns-clause-labels c = c.roll_up.ensures.labels ∙ c.loop-part.invariant.counted.grown.labels
+returns-clause-labels c = c.loop-part.invariant.counted.grown.labels
 
 pub returns-clause-config : goal.returns-clause-config
-returns-clause-config c = c.roll_up.ensures.config ∙ c.loop-part.invariant.counted.grown.config
+returns-clause-config c = c.loop-part.invariant.counted.grown.config
 
 pub returns-clause-number : goal.returns-clause-number
 returns-clause-number c = all_numbered c.loop-part.part-index c.loop-part.number c.args.self.parts.items c.loop-part.invariant.number (omega (arith, c.loop-part.invariant.counted.long, c.loop-part-test.false))

@@ -1,13 +1,32 @@
+use Rattle.std.proofs.Common.{◌∙◌, subst}
+use Rattle.facet_names.specs.Labels.{IsLabelList}
 use Rattle.sideways.specs.Searches.{question_of, records_of}
+use Rattle.sideways.proofs.Gathered.{hits_are_of, lifted_are_of, same_any}
 use Rattle.sideways.proofs.Ready.{each_has}
 use Rattle.sideways.proofs.plan.DrillPlan.fit.Goals as goal
 
-pub new-requires : goal.new-requires
-new-requires c =
+pub add_segments-requires : goal.add_segments-requires
+add_segments-requires c =
     let decoded = c.requires.docs.1 in
-    each_has (question_of c.args.view.now c.args.config.now c.args.segments.now c.args.ask.now) (records_of c.args.segments.now) decoded.0 decoded.1
+    record {
+      has = each_has (question_of c.args.view.now c.args.config.now c.args.segments.now c.args.ask.now) (records_of c.args.segments.now) decoded.0 decoded.1;
+      covers = c.in_ok-lifted.ensures.covers;
+      distinct = c.in_ok-lifted.ensures.distinct;
+    }
 
-pub lifted_passes-requires : goal.lifted_passes-requires
-lifted_passes-requires c =
-    let decoded = c.requires.docs.1 in
-    each_has (question_of c.args.view.now c.args.config.now c.args.segments.now c.args.ask.now) (records_of c.args.segments.now) decoded.0 decoded.1
+pub invariant_of-result : goal.invariant_of-result
+invariant_of-result c =
+    let q = question_of c.args.view.now c.args.config.now c.args.segments.now c.args.ask.now in
+    let added = c.in_ok-add_segments.ensures in
+    let hits = c.in_ok-hits.ensures in (
+      record {
+        docs = c.requires.docs;
+        list = subst IsLabelList hits.labels hits.list;
+        fit = c.requires.fit;
+        hits = hits_are_of q q.segments c.in_ok-hits.hits c.add_segments.new.hits hits.none hits.fresh hits.labels hits.config added.hits;
+        each = lifted_are_of q q.segments c.in_ok-lifted.lifted.items c.add_segments.new.lifted.items c.in_ok-lifted.ensures.each added.lifted;
+        covers = λ d. same_any q.query q.drill q.segments d c.in_ok-lifted.lifted.items c.add_segments.new.lifted.items added.lifted ∙ c.in_ok-lifted.ensures.covers d;
+      },
+      c.new-2.ensures.items,
+      c.in_ok-counted.ensures.items,
+    )

@@ -1,0 +1,94 @@
+use Rattle.std.proofs.Common.{◌≡◌, ◌∙◌, ◌&&◌, ◌∷◌, ◌++◌, ◌<◌, [], List, ℕ, map, length, refl, sym, ap, subst, arith}
+use Rattle.std.specs.List.{AllZip, list_any}
+use Rattle.std.specs.Str.{bytes_eq}
+use Rattle.std.proofs.lemmas.List.{length-map}
+use Rattle.std.proofs.lemmas.Slice.Zip.{AllZip-long}
+use Rattle.facet_model.specs.CountedPaths.{places}
+use Rattle.facet_model.specs.Documents.{Doc}
+use Rattle.facet_model.specs.Queries.{QueryTree, matches}
+use Rattle.facet_model.specs.QueryViews.{query_view}
+use Rattle.facet_model.specs.Stored.{Records}
+use Rattle.query_eval.proofs.Marks.{same_places}
+use Rattle.query_eval.proofs.Words.{some_left}
+use Rattle.sideways.specs.Counted.{fails_alone, is_drilled, passes_tests}
+use Rattle.sideways.specs.declared.pass.LiftedPass.{LiftedPass}
+use Rattle.sideways.proofs.Misses.{covers_all, hit_test, test_of}
+use Rattle.sideways.proofs.Narrowed.{within_docs}
+use Rattle.sideways.proofs.Sets.{each_in, each_within, given_all}
+use Rattle.sideways.proofs.near.add_segment.Goals as goal
+
+pub near_sets-requires : goal.near_sets-requires
+near_sets-requires c =
+    let docs : List Doc = c.requires.has.0 in
+    let query : QueryTree = query_view c.args.query.now in
+    let lent : c.deref.result.now ≡ c.args.lifted.now.items = c.deref.ensures.value in
+    (docs, matches query, map (test_of query c.args.drill.now) c.deref.result.now, c.in_ok-base.ensures docs c.requires.has.1, c.in_ok-dims.ensures docs c.requires.has.1, c.docs-then-are_near_many.ensures.number ∙ c.requires.has.1.records)
+
+pub marked-requires : goal.marked-requires
+marked-requires c =
+    let docs : List Doc = c.requires.has.0 in
+    let query : QueryTree = query_view c.args.query.now in
+    let tests = map (test_of query c.args.drill.now) c.deref.result.now in
+    let long : c.docs-then-are_near_many.result ≡ length docs = c.docs-then-are_near_many.ensures.number ∙ c.requires.has.1.records in
+    within_docs c.args.segment.now docs (λ doc. matches query doc && passes_tests tests doc) c.in_ok-sets.sets.hits.places c.requires.has.1.records
+    (c.in_ok-sets.ensures.hits docs (matches query) tests long (c.in_ok-base.ensures docs c.requires.has.1) (c.in_ok-dims.ensures docs c.requires.has.1))
+
+pub add_sets-requires-clause-within : goal.add_sets-requires-clause-within
+add_sets-requires-clause-within c =
+    let docs : List Doc = c.requires.has.0 in
+    let query : QueryTree = query_view c.args.query.now in
+    let tests = map (test_of query c.args.drill.now) c.deref.result.now in
+    let long : c.docs-then-are_near_many.result ≡ length docs = c.docs-then-are_near_many.ensures.number ∙ c.requires.has.1.records in
+    each_within c.args.segment.now docs (λ t doc. matches query doc && fails_alone tests t doc) tests c.in_ok-sets.sets.near.items c.requires.has.1.records
+    (c.in_ok-sets.ensures.near docs (matches query) tests long (c.in_ok-base.ensures docs c.requires.has.1) (c.in_ok-dims.ensures docs c.requires.has.1))
+
+pub add_sets-requires-clause-same : goal.add_sets-requires-clause-same
+add_sets-requires-clause-same c =
+    let docs : List Doc = c.requires.has.0 in
+    let query : QueryTree = query_view c.args.query.now in
+    let tests = map (test_of query c.args.drill.now) c.deref.result.now in
+    let long : c.docs-then-are_near_many.result ≡ length docs = c.docs-then-are_near_many.ensures.number ∙ c.requires.has.1.records in
+    AllZip-long _ tests c.in_ok-sets.sets.near.items (c.in_ok-sets.ensures.near docs (matches query) tests long (c.in_ok-base.ensures docs c.requires.has.1) (c.in_ok-dims.ensures docs c.requires.has.1))
+    ∙ length-map c.deref.result.now (test_of query c.args.drill.now) ∙ ap length c.deref.ensures.value
+
+pub returns-then-are_near_many-clause-hits : goal.returns-then-are_near_many-clause-hits
+returns-then-are_near_many-clause-hits c =
+    let query : QueryTree = query_view c.args.query.now in
+    let drill : List (List (List ℕ)) = c.args.drill.now in
+    let all : List LiftedPass = c.args.lifted.now.items in
+    let tests = map (test_of query drill) c.deref.result.now in
+    let some : 0 < length all = omega (arith, some_left c.args.lifted.now.len (sym (sym c.is_empty.ensures ∙ c.if-not-is_empty.true)), c.args.lifted.now.ok.0) in
+    let covers : (dim : List ℕ) → list_any (λ l. bytes_eq l.dim.now dim) all ≡ is_drilled drill dim = covers_all c.requires.covers.0 drill all some c.requires.covers.1 in
+    record {
+      part = record { segment = c.args.segment.now; left = c.in_ok-sets.sets.hits.places };
+      is = record {
+        same = refl;
+        left = λ docs are.
+            let long : c.docs-then-are_near_many.result ≡ length docs = c.docs-then-are_near_many.ensures.number ∙ are.records in
+            c.in_ok-sets.ensures.hits docs (matches query) tests long (c.in_ok-base.ensures docs are) (c.in_ok-dims.ensures docs are)
+            ∙ same_places _ _ docs (λ doc. ap (λ (ls : List LiftedPass). matches query doc && passes_tests (map (test_of query drill) ls) doc) c.deref.ensures.value ∙ hit_test query drill all covers doc);
+      };
+      parts = c.in_ok-push.ensures.items ∙ (λ i. c.args.hits.now.parts.items ++ record { segment = c.marked.ensures.segment i; left = c.marked.ensures.left i } ∷ []);
+      counter = refl;
+    }
+
+pub returns-then-are_near_many-clause-lifted : goal.returns-then-are_near_many-clause-lifted
+returns-then-are_near_many-clause-lifted c =
+    let query : QueryTree = query_view c.args.query.now in
+    let drill : List (List (List ℕ)) = c.args.drill.now in
+    let segment : Records = c.args.segment.now in
+    let all : List LiftedPass = c.args.lifted.now.items in
+    let some : 0 < length all = omega (arith, some_left c.args.lifted.now.len (sym (sym c.is_empty.ensures ∙ c.if-not-is_empty.true)), c.args.lifted.now.ok.0) in
+    let covers : (dim : List ℕ) → list_any (λ l. bytes_eq l.dim.now dim) all ≡ is_drilled drill dim = covers_all c.requires.covers.0 drill all some c.requires.covers.1 in
+    let given = c.in_ok-add_sets.ensures in
+    let tests = map (test_of query drill) c.deref.result.now in
+    let records : c.docs-then-are_near_many.result ≡ length c.requires.has.0 = c.docs-then-are_near_many.ensures.number ∙ c.requires.has.1.records in
+    let len : length c.in_ok-sets.sets.near.items ≡ length all =
+    AllZip-long _ tests c.in_ok-sets.sets.near.items (c.in_ok-sets.ensures.near c.requires.has.0 (matches query) tests records (c.in_ok-base.ensures c.requires.has.0 c.requires.has.1) (c.in_ok-dims.ensures c.requires.has.0 c.requires.has.1))
+    ∙ length-map c.deref.result.now (test_of query drill) ∙ ap length c.deref.ensures.value in
+    given_all query drill segment all covers c.requires.distinct all c.in_ok-sets.sets.near.items c.add_sets.new.lifted.items
+    (λ docs are.
+    let same : c.docs-then-are_near_many.result ≡ length docs = c.docs-then-are_near_many.ensures.number ∙ are.records in
+    subst (λ (ls : List LiftedPass). AllZip (λ t s. s.places ≡ places (λ doc. matches query doc && fails_alone (map (test_of query drill) ls) t doc) docs) (map (test_of query drill) ls) c.in_ok-sets.sets.near.items) c.deref.ensures.value
+    (c.in_ok-sets.ensures.near docs (matches query) (map (test_of query drill) c.deref.result.now) same (c.in_ok-base.ensures docs are) (c.in_ok-dims.ensures docs are)))
+    len given.len (λ j s l lt. given.done j s l (omega (arith, lt)) lt) (each_in all all (λ dim some. some))

@@ -1,0 +1,43 @@
+use Rattle.std.proofs.Common.{◌≡◌, ◌∙◌, ◌&&◌, Bool, length, ap, sym, subst, arith}
+use Rattle.std.specs.Vec.{with_items}
+use Rattle.std.proofs.lemmas.List.{with_items_is}
+use Rattle.std.proofs.lemmas.Slice.Zip.{AllZip-long}
+use Rattle.facet_model.specs.CountedPaths.{places}
+use Rattle.facet_model.specs.Documents.{Doc}
+use Rattle.std.specs.List.{AllZip}
+use Rattle.place_bits.specs.Misses.{HaveWords}
+use Rattle.place_bits.specs.Words.{Marked, empty_set}
+use Rattle.sideways.specs.Counted.{IsMarkedBy, fails_alone}
+use Rattle.sideways.proofs.Sets.{have_words, hits_are, nears_are, sets_of}
+use Rattle.sideways.proofs.Shared.{nodes_for_among}
+use Rattle.sideways.proofs.near.near_sets.Goals as goal
+
+pub in_common-requires : goal.in_common-requires
+in_common-requires c = record { within = (c.requires.0, c.requires.1, c.requires.3, c.requires.5) }
+
+pub marked_each-requires : goal.marked_each-requires
+marked_each-requires c = nodes_for_among c.requires.0 c.args.docs c.requires.2 c.args.dims.items c.requires.5 c.requires.4
+
+pub near_misses-requires : goal.near_misses-requires
+near_misses-requires c =
+    let marked : AllZip (IsMarkedBy c.args.docs) c.args.dims.items c.deref_mut.result.now = subst (AllZip (IsMarkedBy c.args.docs) c.args.dims.items) (sym c.deref_mut.ensures.value) c.in_ok-near.ensures in
+    record {
+      dims = subst (λ w. HaveWords w c.deref_mut.result.now) (sym c.in_ok-hits.ensures.words) (have_words c.args.docs c.args.dims.items c.deref_mut.result.now marked);
+      ones = c.in_ok-ones.ensures ∙ ap empty_set (sym c.in_ok-hits.ensures.words);
+      twos = c.in_ok-twos.ensures ∙ ap empty_set (sym c.in_ok-hits.ensures.words);
+    }
+
+pub returns-clause-hits : goal.returns-clause-hits
+returns-clause-hits c = λ among test tests long base dims.
+    let marked : AllZip (IsMarkedBy c.args.docs) c.args.dims.items c.deref_mut.result.now = subst (AllZip (IsMarkedBy c.args.docs) c.args.dims.items) (sym c.deref_mut.ensures.value) c.in_ok-near.ensures in
+    hits_are among test c.in_ok-hits.hits.places (c.in_ok-hits.ensures.places among test long base) tests c.deref_mut.result.now (sets_of among c.args.docs tests c.args.dims.items c.deref_mut.result.now dims marked)
+    c.near_misses.new.base.places c.near_misses.ensures.rising c.near_misses.ensures.hits
+
+pub returns-clause-near : goal.returns-clause-near
+returns-clause-near c = λ among test tests long base dims.
+    let marked : AllZip (IsMarkedBy c.args.docs) c.args.dims.items c.deref_mut.result.now = subst (AllZip (IsMarkedBy c.args.docs) c.args.dims.items) (sym c.deref_mut.ensures.value) c.in_ok-near.ensures in
+    let own = sets_of among c.args.docs tests c.args.dims.items c.deref_mut.result.now dims marked in
+    let size : length c.near_misses.new.dims ≡ length c.in_ok-near.near.items = AllZip-long _ c.deref_mut.result.now c.near_misses.new.dims c.near_misses.ensures.near ∙ ap length c.deref_mut.ensures.value in
+    let items : (with_items c.in_ok-near.near c.near_misses.new.dims).items ≡ c.near_misses.new.dims = with_items_is c.in_ok-near.near c.near_misses.new.dims (omega (arith, size, c.in_ok-near.near.ok.0)) in
+    subst (AllZip (λ (t : Doc → Bool) (s : Marked). s.places ≡ places (λ doc. test doc && fails_alone tests t doc) among) tests) (sym items)
+    (nears_are among test c.in_ok-hits.hits.places (c.in_ok-hits.ensures.places among test long base) tests c.deref_mut.result.now own tests c.deref_mut.result.now c.near_misses.new.dims own c.near_misses.ensures.near)

@@ -1,0 +1,138 @@
+//! The parts of one segment: the hits, and for each drilled dimension the documents that it alone leaves out.
+ghost use Rattle.std.specs.Prelude.{◌≡◌, ◌&&◌, ◌∷◌, ◌++◌, [], Bool, ℕ, List, None, IfOk, OnOk, length, map, slice_index_or};
+ghost use Rattle.std.specs.List.{AllByRecursion, AllZip, list_any};
+ghost use Rattle.std.specs.Str.{bytes_eq};
+ghost use Rattle.facet_model.specs.CountedPaths.{places};
+ghost use Rattle.facet_model.specs.Documents.{Doc};
+ghost use Rattle.facet_model.specs.Hits.{passes};
+ghost use Rattle.facet_model.specs.QueryViews.{query_view};
+ghost use Rattle.query_eval.specs.Segments.{HasTermsOf};
+ghost use Rattle.sideways.specs.Counted.{AreAllOf, AreNodesFor, AreWithin, fails_alone, is_drilled, passes_all, passes_tests};
+ghost use Rattle.sideways.specs.Kept.{AreDistinct, HasNear, HasPart, IsGivenSet, IsGivenSets, dim_in};
+
+use crate::common::{are_near_many, in_common, marked_each};
+use crate::node::base_nodes;
+use crate::part::Part;
+use crate::pass::{LiftedPass, Pass};
+use facet_model::Query;
+use facet_names::{NoMemory, Path};
+use place_bits::{Bits, near_misses};
+use plan_places::PlanNode;
+use query_eval::paths_node;
+use seg_file::Segment;
+use std::alloc::Global;
+
+/// The hits of a segment, and for each drilled dimension the places that it alone leaves out.
+#[derive(Drop)]
+pub(crate) struct NearSets {
+    pub(crate) hits: Bits,
+    pub(crate) near: Vec<Bits>,
+}
+
+// The documents that pass the dimension of each pass.
+fn dim_nodes<'a>(
+    alloc: Global,
+    segment: &'a Segment,
+    drill: &[Path],
+    lifted: &[LiftedPass<'_>],
+) -> Result<Vec<PlanNode<'a>>, NoMemory>
+    ensures { IfOk result (λ v. (docs : List Doc) → HasTermsOf segment.now docs
+        → AreNodesFor docs (map (λ l doc. passes doc drill.now l.dim.now) lifted.now) v.items) }
+{
+    let mut nodes = Vec::with_capacity(alloc, lifted.len())?;
+    for one in lifted {
+        let node = paths_node(alloc, segment, drill, one.dim)?;
+        nodes.push(node)?;
+    }
+    Ok(nodes)
+}
+
+// What all nodes have, and what each dimension alone leaves out, a word for 64 documents at a time.
+fn near_sets(
+    alloc: Global,
+    docs: u32,
+    base: Vec<PlanNode<'_>>,
+    dims: Vec<PlanNode<'_>>,
+) -> Result<NearSets, NoMemory>
+    requires { (among : List Doc) × (test : Doc → Bool) × (tests : List (Doc → Bool)) × AreAllOf among test base.items × AreNodesFor among tests dims.items
+        × (docs ≡ length among) }
+    ensures hits { IfOk result (λ s. (among : List Doc) (test : Doc → Bool) (tests : List (Doc → Bool)) → docs ≡ length among
+        → AreAllOf among test base.entry.items → AreNodesFor among tests dims.entry.items
+        → s.hits.places ≡ places (λ doc. test doc && passes_tests tests doc) among) }
+    ensures near { IfOk result (λ s. (among : List Doc) (test : Doc → Bool) (tests : List (Doc → Bool)) → docs ≡ length among
+        → AreAllOf among test base.entry.items → AreNodesFor among tests dims.entry.items
+        → AllZip (λ t set. set.places ≡ places (λ doc. test doc && fails_alone tests t doc) among) tests s.near.items) }
+{
+    let mut hits = in_common(alloc, base, docs)?;
+    let mut near = marked_each(alloc, dims, docs)?;
+    let mut ones = Bits::none(alloc, docs)?;
+    let mut twos = Bits::none(alloc, docs)?;
+    near_misses(&mut hits, &mut near, &mut ones, &mut twos);
+    Ok(NearSets { hits, near })
+}
+
+// Gives each pass the set of its dimension.
+fn add_sets<'a>(
+    segment: &'a Segment,
+    sets: Vec<Bits>,
+    lifted: &mut Vec<LiftedPass<'a>>,
+) -> Result<(), NoMemory>
+    requires within { AllByRecursion (λ set. AreWithin segment.now set.places) sets.items }
+    requires same { length sets.items ≡ length lifted.old.items }
+    ensures { OnOk result (IsGivenSets segment.now sets.items (length sets.items) lifted.old.items lifted.new.items) }
+{
+    let mut k = 0;
+    for set in sets {
+        lifted[k].pass.parts.push(Part::marked(segment, set))?;
+        k += 1;
+    }
+    Ok(())
+}
+
+// Adds the parts of a segment whose places are walked over.
+fn add_walks<'a>(
+    alloc: Global,
+    segment: &'a Segment,
+    query: &Query,
+    drill: &[Path],
+    lifted: &mut Vec<LiftedPass<'a>>,
+) -> Result<(), NoMemory>
+    requires { (docs : List Doc) × HasTermsOf segment.now docs }
+    ensures { OnOk result (AllZip (HasNear (query_view query.now) drill.now segment.now) lifted.old.items lifted.new.items) }
+{
+    for one in lifted.iter_mut() {
+        let part = Part::near(alloc, segment, query, drill, one.dim)?;
+        one.pass.parts.push(part)?;
+    }
+    Ok(())
+}
+
+/// Adds the part of a segment to each pass. Where bits are the quicker way the query and each dimension are marked once for all passes.
+pub(crate) fn add_segment<'a>(
+    alloc: Global,
+    segment: &'a Segment,
+    query: &Query,
+    drill: &[Path],
+    hits: &mut Pass<'a>,
+    lifted: &mut Vec<LiftedPass<'a>>,
+) -> Result<(), NoMemory>
+    requires has { (docs : List Doc) × HasTermsOf segment.now docs }
+    requires covers { (sideways : Bool) × ((dim : List ℕ) → list_any (λ l. bytes_eq l.dim.now dim) lifted.old.items ≡ (sideways && is_drilled drill.now dim)) }
+    requires distinct { AreDistinct (map dim_in lifted.old.items) }
+    ensures hits { OnOk result (HasPart (passes_all (query_view query.now) drill.now None) segment.now hits.old hits.new) }
+    ensures lifted { OnOk result (AllZip (HasNear (query_view query.now) drill.now segment.now) lifted.old.items lifted.new.items) }
+{
+    if !lifted.is_empty() {
+        let base = base_nodes(alloc, segment, query)?;
+        let dims = dim_nodes(alloc, segment, drill, lifted)?;
+        if are_near_many(&base, &dims, segment.docs()) {
+            let sets = near_sets(alloc, segment.docs(), base, dims)?;
+            hits.parts.push(Part::marked(segment, sets.hits))?;
+            add_sets(segment, sets.near, lifted)?;
+            return Ok(());
+        }
+    }
+    let part = Part::new(alloc, segment, query, drill)?;
+    hits.parts.push(part)?;
+    add_walks(alloc, segment, query, drill, lifted)
+}
