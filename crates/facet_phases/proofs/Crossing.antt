@@ -76,5 +76,5 @@ order_send = search (sendable, owned, command_held) depth 30 fits 20000
 held_send : IsSend held.the_row
 held_send = search (sendable, owned, lease_send) depth 30
 
-pub lane_send : IsSend lane.the_row
-lane_send = search (sendable, owned, tokens, held_send, order_send) depth 30 fits 20000
+pub lane_send : (C : RattleType) → IsSend C → IsSend (lane.the_row C)
+lane_send C send = search (sendable, owned, tokens, held_send, order_send) depth 30 fits 20000

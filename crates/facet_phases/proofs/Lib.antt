@@ -6,10 +6,10 @@ pub mod Belonging
 pub mod Told
 pub mod Going
 pub mod Dealt
-pub mod Pieces
 pub mod Did
 pub mod Phasing
 pub mod Carrying
+pub mod Flushed
 pub mod Closing
 pub mod Made
 pub mod Crossing

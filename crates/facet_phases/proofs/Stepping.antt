@@ -3,17 +3,16 @@ use Rattle.std.proofs.Common.{◌≡◌, ◌∙◌, ℕ, List, [], ◌∷◌, �
 use Rattle.std.specs.Prelude.{All, ◌≢◌}
 use Rattle.std.proofs.lemmas.List.{map-append}
 use Rattle.std.proofs.lemmas.List.Elements.{All-nil, All-cons, All-head, All-tail}
-use Rattle.std.proofs.lemmas.List.Concat.{flat_map-append}
 use Rattle.facet_words.specs.Commands.{Settings}
 use Rattle.facet_words.specs.Sessions.Commands.{Order}
 use Rattle.facet_output.specs.Held.{Held, held_after}
-use Rattle.facet_output.specs.OutputLines.{answered_line, reply_lines}
+use Rattle.facet_output.specs.Answered.{Answered}
 use Rattle.facet_output.specs.Seen.{Seen, IsTold}
 use Rattle.facet_output.specs.Sessions.{SessionRan, held_by, own_steps}
 use Rattle.facet_output.specs.Steps.{Step, IsStep}
 use Rattle.facet_output.proofs.Chain.{sees_self}
 use Rattle.facet_output.proofs.Gluing.{session_append}
-use Rattle.facet_phases.specs.Phases.{asked, in_phase, lines_of}
+use Rattle.facet_phases.specs.Phases.{answers_in, asked, in_phase}
 
 pub told_itself : (session : ℕ) (a : Seen) → IsTold session a a
 told_itself session a = record { sees = sees_self a; labels = refl; operations = refl; pairs = refl; commits = refl }
@@ -31,8 +30,8 @@ held_append held (x ∷ xs) ys = held_append (held_after held x.answered) xs ys
 pub asked_append : (xs ys : List Step) → asked (xs ++ ys) ≡ asked xs ++ asked ys
 asked_append xs ys = map-append (λ (x : Step). (x.answered.phase, x.answered.order)) xs ys
 
-pub lines_append : (xs ys : List Step) → lines_of (xs ++ ys) ≡ lines_of xs ++ lines_of ys
-lines_append xs ys = ap reply_lines (map-append (λ (x : Step). x.answered) xs ys) ∙ flat_map-append answered_line (map (λ (x : Step). x.answered) xs) (map (λ (x : Step). x.answered) ys)
+pub answers_append : (xs ys : List Step) → answers_in (xs ++ ys) ≡ answers_in xs ++ answers_in ys
+answers_append xs ys = map-append {B = Answered} (λ (x : Step). x.answered) xs ys
 
 pub in_phase_append : (phase : ℕ) (os ps : List Order) → in_phase phase (os ++ ps) ≡ in_phase phase os ++ in_phase phase ps
 in_phase_append phase os ps = map-append (λ (o : Order). (phase, o)) os ps

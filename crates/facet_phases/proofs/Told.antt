@@ -22,16 +22,17 @@ gathers_none a counted = record { same = same_pass a; told = told_itself 0 (seen
 pub gathers_then : (a b c : Pass) → Gathers a b → Gathers b c → Gathers a c
 gathers_then a b c p q = record { same = pass_then a b c p.same q.same; told = told_more 0 (seen_of a) (seen_of b) (seen_of c) p.told q.told; counted = q.counted; own = q.own ∙ p.own }
 
--- one session more is told
-pub lane_told : (next : Seen) (old lanes : List Lane) (at : ℕ) (new : Lane) → at < length lanes → ((d : Lane) → LaneTold next (get_or old at d) new) → ((i : ℕ) (d : Lane) → i < at → LaneTold next (get_or old i d) (get_or lanes i d))
-    → (i : ℕ) (d : Lane) → i < at + 1 → LaneTold next (get_or old i d) (get_or (set lanes at new) i d)
-lane_told next old lanes at new in' here before i d lt = dite (ℕ_discrete i at)
-    (λ is. rw (is, get_or-set_same lanes at new d in') (here d))
-    (λ other. rw (get_or-set_other lanes at i new d other) (before i d (omega arith)))
+module _ {C : Type 0} where
+  -- one session more is told
+  pub lane_told : (next : Seen) (old lanes : List (Lane C)) (at : ℕ) (new : Lane C) → at < length lanes → ((d : Lane C) → LaneTold next (get_or old at d) new) → ((i : ℕ) (d : Lane C) → i < at → LaneTold next (get_or old i d) (get_or lanes i d))
+      → (i : ℕ) (d : Lane C) → i < at + 1 → LaneTold next (get_or old i d) (get_or (set lanes at new) i d)
+  lane_told next old lanes at new in' here before i d lt = dite (ℕ_discrete i at)
+      (λ is. rw (is, get_or-set_same lanes at new d in') (here d))
+      (λ other. rw (get_or-set_other lanes at i new d other) (before i d (omega arith)))
 
--- each operation of one session more tells it
-pub lane_named : (notes : Notes) (lanes : List Lane) (at : ℕ) (new : Lane) → at < length lanes → NamesOwn new.session.number notes → ((i : ℕ) (d : Lane) → i < at → NamesOwn (get_or lanes i d).session.number notes)
-    → (i : ℕ) (d : Lane) → i < at + 1 → NamesOwn (get_or (set lanes at new) i d).session.number notes
-lane_named notes lanes at new in' here before i d lt = dite (ℕ_discrete i at)
-    (λ is. subst (λ (l : Lane). NamesOwn l.session.number notes) (sym (ap (λ (n : ℕ). get_or (set lanes at new) n d) is ∙ get_or-set_same lanes at new d in')) here)
-    (λ other. subst (λ (l : Lane). NamesOwn l.session.number notes) (sym (get_or-set_other lanes at i new d other)) (before i d (omega arith)))
+  -- each operation of one session more tells it
+  pub lane_named : (notes : Notes) (lanes : List (Lane C)) (at : ℕ) (new : Lane C) → at < length lanes → NamesOwn new.session.number notes → ((i : ℕ) (d : Lane C) → i < at → NamesOwn (get_or lanes i d).session.number notes)
+      → (i : ℕ) (d : Lane C) → i < at + 1 → NamesOwn (get_or (set lanes at new) i d).session.number notes
+  lane_named notes lanes at new in' here before i d lt = dite (ℕ_discrete i at)
+      (λ is. subst (λ (l : Lane C). NamesOwn l.session.number notes) (sym (ap (λ (n : ℕ). get_or (set lanes at new) n d) is ∙ get_or-set_same lanes at new d in')) here)
+      (λ other. subst (λ (l : Lane C). NamesOwn l.session.number notes) (sym (get_or-set_other lanes at i new d other)) (before i d (omega arith)))

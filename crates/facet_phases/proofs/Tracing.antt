@@ -60,24 +60,25 @@ sessions_are : (es : List (ℕ × Operation)) → map (λ (e : ℕ × Operation)
 sessions_are [] = refl
 sessions_are (e ∷ es) = ap (λ (l : List ℕ). e.0 ∷ l) (sessions_are es)
 
-lane_of : (P : Lane → Lane → Type 0) (T : Type 0) (old new : List Lane) (i : ℕ) → AllZip P old new → i < length old → ((d : Lane) → P (get_or old i d) (get_or new i d) → T) → T
-lane_of P T [] new i z lt then = absurd (omega arith)
-lane_of P T (x ∷ xs) new i z lt then = then x (AllZip-get_or P (x ∷ xs) new i x x z lt)
+module _ {C : Type 0} where
+  lane_of : (P : Lane C → Lane C → Type 0) (T : Type 0) (old new : List (Lane C)) (i : ℕ) → AllZip P old new → i < length old → ((d : Lane C) → P (get_or old i d) (get_or new i d) → T) → T
+  lane_of P T [] new i z lt then = absurd (omega arith)
+  lane_of P T (x ∷ xs) new i z lt then = then x (AllZip-get_or P (x ∷ xs) new i x x z lt)
 
--- under each number that was given
-names_each : (engine : Engine) (first : Pass) (old new : List Lane) (notes : Notes) → AreReady engine first old → AllZip (LaneTold (noted notes)) old new → All (λ (l : Lane). NamesOwn l.session.number notes) new → NamesOwn 0 notes
-    → (n : ℕ) → n ≤ length old → NamesOwn n notes
-names_each engine first old new notes ready z named zero n le = dite (dec_lt 0 n)
-    (λ above.
-    let lt : n - 1 < length old = omega arith in
-    let many = length_all_zip (LaneTold (noted notes)) old new z in
-    lane_of (LaneTold (noted notes)) (NamesOwn n notes) old new (n - 1) z lt
-    (λ d t. subst (λ (k : ℕ). NamesOwn k notes) (t.same.0 ∙ ready.numbered (n - 1) d lt ∙ (let e : 1 + (n - 1) ≡ n = omega arith in e)) (named (n - 1) d (omega arith))))
-    (λ none. let e : 0 ≡ n = omega arith in subst (λ (k : ℕ). NamesOwn k notes) e zero)
+  -- under each number that was given
+  names_each : (engine : Engine) (first : Pass) (old new : List (Lane C)) (notes : Notes) → AreReady engine first old → AllZip (LaneTold (noted notes)) old new → All (λ (l : Lane C). NamesOwn l.session.number notes) new → NamesOwn 0 notes
+      → (n : ℕ) → n ≤ length old → NamesOwn n notes
+  names_each engine first old new notes ready z named zero n le = dite (dec_lt 0 n)
+      (λ above.
+      let lt : n - 1 < length old = omega arith in
+      let many = length_all_zip (LaneTold (noted notes)) old new z in
+      lane_of (LaneTold (noted notes)) (NamesOwn n notes) old new (n - 1) z lt
+      (λ d t. subst (λ (k : ℕ). NamesOwn k notes) (t.same.0 ∙ ready.numbered (n - 1) d lt ∙ (let e : 1 + (n - 1) ≡ n = omega arith in e)) (named (n - 1) d (omega arith))))
+      (λ none. let e : 0 ≡ n = omega arith in subst (λ (k : ℕ). NamesOwn k notes) e zero)
 
--- the sessions that operations tell are those that entered them
-pub sessions_told : (engine : Engine) (first : Pass) (old new : List Lane) (notes : Notes) → AreReady engine first old → AllZip (LaneTold (noted notes)) old new → All (λ (l : Lane). NamesOwn l.session.number notes) new → NamesOwn 0 notes
-    → ((made : ℕ) → HaveMade made first → AreUpTo made (noted notes)) → map (λ (e : ℕ × Operation). e.1.session) notes.operations.seen ≡ sessions_in (history_of (noted notes))
-sessions_told engine first old new notes ready z named zero numbers =
-    named_all (length old) notes.operations.seen (names_each engine first old new notes ready z named zero) (up_raw (length old) notes.operations.seen (numbers (length old) ready.made.made).operations)
-    ∙ sessions_are notes.operations.seen
+  -- the sessions that operations tell are those that entered them
+  pub sessions_told : (engine : Engine) (first : Pass) (old new : List (Lane C)) (notes : Notes) → AreReady engine first old → AllZip (LaneTold (noted notes)) old new → All (λ (l : Lane C). NamesOwn l.session.number notes) new → NamesOwn 0 notes
+      → ((made : ℕ) → HaveMade made first → AreUpTo made (noted notes)) → map (λ (e : ℕ × Operation). e.1.session) notes.operations.seen ≡ sessions_in (history_of (noted notes))
+  sessions_told engine first old new notes ready z named zero numbers =
+      named_all (length old) notes.operations.seen (names_each engine first old new notes ready z named zero) (up_raw (length old) notes.operations.seen (numbers (length old) ready.made.made).operations)
+      ∙ sessions_are notes.operations.seen

@@ -1,3 +1,5 @@
+pub mod Moments
+pub mod Flushing
 pub mod Phases
 pub mod Orders
 pub mod Lanes

@@ -3,6 +3,7 @@ use Rattle.std.specs.Prelude.{◌≡◌, ◌≤◌, ◌++◌, ◌∷◌, ℕ, Li
 use Rattle.pair_manager.specs.declared.pass.Pass.{Pass}
 use Rattle.facet_words.specs.Commands.{Settings}
 use Rattle.facet_words.specs.Sessions.Commands.{Order}
+use Rattle.facet_output.specs.Answered.{Answered}
 use Rattle.facet_output.specs.Output.{Opened}
 use Rattle.facet_output.specs.Seen.{opened_seen}
 use Rattle.facet_output.specs.Sessions.{RanSoFar, held_by, own_steps, steps_of}
@@ -13,8 +14,8 @@ use Rattle.facet_engine.specs.Steps.{seen_of}
 use Rattle.facet_engine.specs.Systems.{Engine, BelongsTo, HasSettings}
 use Rattle.facet_engine.specs.Telling.{AreCounted, HaveMade}
 use Rattle.facet_phases.specs.declared.lane.Lane.{Lane}
-use Rattle.facet_phases.specs.Lanes.{AllOf, AreNumbered, all_lines}
-use Rattle.facet_phases.specs.Phases.{AreSpentWithin, PhaseRan, lines_of}
+use Rattle.facet_phases.specs.Lanes.{AllOf, AreNumbered, KeepAll}
+use Rattle.facet_phases.specs.Phases.{AreSpentWithin, PhaseRan, answers_in}
 
 -- The first pass, of which so many sessions were made. Each operation that it has entered tells that it is of session 0.
 pub record IsFirst (count : ℕ) (first : Pass) : Type 0 where
@@ -28,7 +29,7 @@ abbrev pub HaveSameFrames : Pass → Pass → Type 0
 HaveSameFrames a b = (b.operations.frame ≡ a.operations.frame) × (b.commits.frame ≡ a.commits.frame)
 
 -- The first pass and the sessions, of which there are at most 64, are of the system, and all have seen the same.
-pub record AreReady (engine : Engine) (first : Pass) (lanes : List Lane) : Type 0 where
+pub record AreReady {C : Type 0} (engine : Engine) (first : Pass) (lanes : List (Lane C)) : Type 0 where
   pub own : BelongsTo engine first
   pub made : IsFirst (length lanes) first
   pub many : length lanes ≤ 64
@@ -37,7 +38,8 @@ pub record AreReady (engine : Engine) (first : Pass) (lanes : List Lane) : Type 
   pub seen : All (λ l. seen_of l.session.pass ≡ seen_of first) lanes
 
 -- These phases were carried out over a system of these settings. What the first pass has seen is known, and each session holds what its steps leave it.
-pub record AreUnderway (engine : Engine) (settings : Settings) (phases : List (List Order)) (opened : Opened) (ran : List (List Step)) (first : Pass) (lanes : List Lane) : Type 0 where
+pub record AreUnderway {C : Type 0} (engine : Engine) (settings : Settings) (phases : List (List Order)) (opened : Opened) (ran : List (List Step)) (first : Pass)
+    (lanes : List (Lane C)) : Type 0 where
   pub so_far : RanSoFar settings phases opened ran (seen_of first)
   pub set : All (λ l. HasSettings engine l.session.pass settings) lanes
   pub held : All (λ l. numbers_held l.session.held ≡ held_by [] (own_steps l.session.number (steps_of ran))) lanes
@@ -45,17 +47,20 @@ pub record AreUnderway (engine : Engine) (settings : Settings) (phases : List (L
   pub spent : AreSpentWithin first.commits.frame (steps_of ran)
 
 -- Where the first pass had seen what was opened, over a system of whatever settings, no phase was carried out yet.
-abbrev pub BeginsUnderway : Engine → Pass → Pass → List Lane → Type 0
+abbrev pub BeginsUnderway : {C : Type 0} → Engine → Pass → Pass → List (Lane C) → Type 0
 BeginsUnderway engine old new lanes = (settings : Settings) (opened : Opened) → HasSettings engine old settings → seen_of old ≡ opened_seen opened
     → AreUnderway engine settings [] opened [] new lanes
 
--- A phase of these orders was carried out behind those: its steps. Ok is that none is left, and that the sessions have the lines of all.
-pub record CarriedOut {E : Type 0} (engine : Engine) (settings : Settings) (phases : List (List Order)) (opened : Opened) (ran : List (List Step)) (orders : List Order) (old new : Pass) (lanes : List Lane) (result : Result (Unit {0}) E) : Type 0 where
-  pub steps : List Step
-  pub phase : PhaseRan settings old.commits.frame ran (length phases) (seen_of old) (seen_of new) orders steps
-  pub whole : OnOk result (AreUnderway engine settings (phases ++ orders ∷ []) opened (ran ++ steps ∷ []) new lanes × (all_lines lanes ≡ lines_of steps))
+module _ {C : Type 0} (Holds : List Answered → C → Type 0) where
+  -- A phase of these orders was carried out behind those: its steps. Ok is that none is left, and that the sessions keep the replies to all.
+  pub record CarriedOut {E : Type 0} (engine : Engine) (settings : Settings) (phases : List (List Order)) (opened : Opened) (ran : List (List Step))
+      (orders : List Order) (old new : Pass) (lanes : List (Lane C)) (result : Result (Unit {0}) E) : Type 0 where
+    pub steps : List Step
+    pub phase : PhaseRan settings old.commits.frame ran (length phases) (seen_of old) (seen_of new) orders steps
+    pub whole : OnOk result (AreUnderway engine settings (phases ++ orders ∷ []) opened (ran ++ steps ∷ []) new lanes
+        × KeepAll Holds lanes (answers_in steps))
 
--- So it is behind whatever phases, in a system of whatever settings.
-abbrev pub CarriesOut : {E : Type 0} → Engine → List Order → Pass → Pass → List Lane → List Lane → Result (Unit {0}) E → Type 0
-CarriesOut engine orders old new before lanes result = (settings : Settings) (phases : List (List Order)) (opened : Opened) (ran : List (List Step))
-    → AreUnderway engine settings phases opened ran old before → CarriedOut engine settings phases opened ran orders old new lanes result
+  -- So it is behind whatever phases, in a system of whatever settings.
+  abbrev pub CarriesOut : {E : Type 0} → Engine → List Order → Pass → Pass → List (Lane C) → List (Lane C) → Result (Unit {0}) E → Type 0
+  CarriesOut engine orders old new before lanes result = (settings : Settings) (phases : List (List Order)) (opened : Opened) (ran : List (List Step))
+      → AreUnderway engine settings phases opened ran old before → CarriedOut engine settings phases opened ran orders old new lanes result

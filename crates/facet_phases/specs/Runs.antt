@@ -1,19 +1,18 @@
--- A run from what was opened to its end: what was carried out, and what was written.
+-- A run from what was opened to its end: what was carried out, and what was handed to the output.
 use Rattle.std.specs.Prelude.{◌≡◌, ◌+◌, ◌++◌, ◌∷◌, ℕ, List, [], take, Result, Ok, Err}
 use Rattle.pair_manager.specs.declared.pass.Pass.{Pass}
 use Rattle.facet_words.specs.Commands.{Settings}
 use Rattle.facet_words.specs.Sessions.Commands.{Order}
-use Rattle.facet_output.specs.Answered.{in_writing_order}
+use Rattle.facet_output.specs.Answered.{Answered, in_writing_order}
 use Rattle.facet_output.specs.Output.{Opened}
 use Rattle.facet_output.specs.Seen.{Seen, opened_seen}
-use Rattle.facet_output.specs.Sessions.{AllRan, RanSoFar, steps_of}
+use Rattle.facet_output.specs.Sessions.{AllRan, RanSoFar, answers_of, steps_of}
 use Rattle.facet_output.specs.Steps.{Step}
 use Rattle.facet_engine.specs.Steps.{seen_of}
 use Rattle.facet_engine.specs.Systems.{Engine, HasSettings}
 use Rattle.facet_phases.specs.declared.fault.PhaseFault.{PhaseFault}
 use Rattle.facet_phases.specs.declared.fault.PhaseFault.TheVariants.{Write, NoMemory}
-use Rattle.facet_phases.specs.Ending.{Moment, Writes, WritesSome}
-use Rattle.facet_phases.specs.Phases.{AreSpentWithin, asked, lines_of, orders_by}
+use Rattle.facet_phases.specs.Phases.{AreSpentWithin, asked, orders_by}
 
 -- ---- a phase that was cut off
 
@@ -40,12 +39,12 @@ module _ (Ran : List (List Order) → List (List Step) → Type 0) where
     -- the former are those of the whole phases
     pub whole : asked (steps_of ran) ≡ in_writing_order (take many all)
 
-  -- All phases were carried out, and the lines of all are written. Or the first of them were, and at a fault a beginning of the lines of these is written. Or there
-  -- was no memory for the phase behind these, or for the sessions: the lines of these are written.
-  abbrev pub EndedSo : List (List Order) → Moment → Moment → Result (Unit {0}) PhaseFault → Type 0
-  EndedSo all before now (Ok u) = (ran : List (List Step)) × Ran all ran × Writes before now (lines_of (steps_of ran))
-  EndedSo all before now (Err Write) = (many : ℕ) × (ran : List (List Step)) × Ran (take many all) ran × WritesSome before now (lines_of (steps_of ran))
-  EndedSo all before now (Err NoMemory) = (many : ℕ) × (ran : List (List Step)) × StoppedBehind all many ran × Writes before now (lines_of (steps_of ran))
+  -- All phases were carried out, and the replies of all were handed over. Or the first of them were, and handing their replies over failed. Or there was no
+  -- memory for the phase behind these, or for the sessions: the replies of these were handed over.
+  abbrev pub EndedSo : (List Answered → Type 0) → (List Answered → Type 0) → List (List Order) → Result (Unit {0}) PhaseFault → Type 0
+  EndedSo Flushes Breaks all (Ok u) = (ran : List (List Step)) × Ran all ran × Flushes (answers_of ran)
+  EndedSo Flushes Breaks all (Err Write) = (many : ℕ) × (ran : List (List Step)) × Ran (take many all) ran × Breaks (answers_of ran)
+  EndedSo Flushes Breaks all (Err NoMemory) = (many : ℕ) × (ran : List (List Step)) × StoppedBehind all many ran × Flushes (answers_of ran)
 
 -- These phases were carried out by these steps, from what was opened to what the first pass has seen.
 pub record HasRunSoFar (settings : Settings) (opened : Opened) (first : Pass) (phases : List (List Order)) (ran : List (List Step)) : Type 0 where
@@ -53,9 +52,9 @@ pub record HasRunSoFar (settings : Settings) (opened : Opened) (first : Pass) (p
   pub spent : AreSpentWithin first.commits.frame (steps_of ran)
 
 -- Sessions of a system of whatever settings ended so, from whatever was opened, which the first pass had seen.
-abbrev pub RunsSoFar : Engine → List (List Order) → Pass → Pass → Moment → Moment → Result (Unit {0}) PhaseFault → Type 0
-RunsSoFar engine all old new before now result = (settings : Settings) (opened : Opened) → HasSettings engine old settings → seen_of old ≡ opened_seen opened
-    → EndedSo (HasRunSoFar settings opened new) all before now result
+abbrev pub RunsSoFar : (List Answered → Type 0) → (List Answered → Type 0) → Engine → List (List Order) → Pass → Pass → Result (Unit {0}) PhaseFault → Type 0
+RunsSoFar Flushes Breaks engine all old new result = (settings : Settings) (opened : Opened) → HasSettings engine old settings
+    → seen_of old ≡ opened_seen opened → EndedSo (HasRunSoFar settings opened new) Flushes Breaks all result
 
 -- These phases were carried out by these steps, from what was opened, which the first pass had seen, to what there is at the end.
 pub record HasRun (settings : Settings) (opened : Opened) (first : Pass) (last : Seen) (phases : List (List Order)) (ran : List (List Step)) : Type 0 where
@@ -63,6 +62,6 @@ pub record HasRun (settings : Settings) (opened : Opened) (first : Pass) (last :
   pub spent : AreSpentWithin first.commits.frame (steps_of ran)
 
 -- In a system of whatever settings and from whatever was opened, which begins with the root and which the first pass had seen, the run ended so.
-abbrev pub RunsToEnd : Engine → List (List Order) → Pass → Seen → Moment → Moment → Result (Unit {0}) PhaseFault → Type 0
-RunsToEnd engine all first last before now result = (settings : Settings) (opened : Opened) → HasSettings engine first settings → seen_of first ≡ opened_seen opened → take 1 opened.labels ≡ [] ∷ []
-    → EndedSo (HasRun settings opened first last) all before now result
+abbrev pub RunsToEnd : (List Answered → Type 0) → (List Answered → Type 0) → Engine → List (List Order) → Pass → Seen → Result (Unit {0}) PhaseFault → Type 0
+RunsToEnd Flushes Breaks engine all first last result = (settings : Settings) (opened : Opened) → HasSettings engine first settings
+    → seen_of first ≡ opened_seen opened → take 1 opened.labels ≡ [] ∷ [] → EndedSo (HasRun settings opened first last) Flushes Breaks all result

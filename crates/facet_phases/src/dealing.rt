@@ -6,7 +6,7 @@ use facet_names::NoMemory;
 use facet_words::sessions::Order;
 
 // Gives the order to its session.
-fn deal_one(lanes: &mut [Lane], order: Order) -> Result<(), NoMemory>
+fn deal_one<C>(lanes: &mut [Lane<C>], order: Order) -> Result<(), NoMemory>
     requires session { (1 ≤ order.session) × (order.session ≤ length lanes.old) }
     requires numbered { AreNumbered 1 lanes.old }
     ensures sessions { Each (λ old new. new.session ≡ old.session) lanes.old lanes.new }
@@ -18,7 +18,7 @@ fn deal_one(lanes: &mut [Lane], order: Order) -> Result<(), NoMemory>
 }
 
 /// Gives each session its orders, in their order. Where memory is wanting, some were not given.
-pub(crate) fn deal(lanes: &mut [Lane], orders: Vec<Order>) -> Result<(), NoMemory>
+pub(crate) fn deal<C>(lanes: &mut [Lane<C>], orders: Vec<Order>) -> Result<(), NoMemory>
     requires sessions { All (λ o. (1 ≤ o.session) × (o.session ≤ length lanes.old)) orders.items }
     requires numbered { AreNumbered 1 lanes.old }
     ensures sessions { Each (λ old new. new.session ≡ old.session) lanes.old lanes.new }

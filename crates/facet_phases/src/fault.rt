@@ -1,8 +1,8 @@
 /// Why a phase is the last that runs.
 #[derive(Clone, Copy, Debug, PartialEq, Eq)]
 pub enum PhaseFault {
-    /// A write failed: only a beginning of the lines was written.
+    /// What was kept of a phase could not be handed over: of lines, only a beginning was written.
     Write,
-    /// There was no memory for the orders of a phase, or for the lines of their replies. No line of that phase was written.
+    /// There was no memory for the orders of a phase, or to keep their replies. Nothing of that phase was handed over.
     NoMemory,
 }

@@ -3,6 +3,7 @@ ghost use Rattle.std.specs.List.{AllZip};
 ghost use Rattle.facet_phases.specs.Lanes.{LaneRan, MayRun};
 
 use crate::answering::answer_all;
+use crate::collector::Collector;
 use crate::gate::Gate;
 use commit_turns::Start;
 use facet_disk::Disk;
@@ -15,26 +16,26 @@ use std::thread::Threads;
 use std::{mem, thread};
 use taxo_cache::Name;
 
-/// A session with its orders of a phase, and the lines of its replies once it has run.
+/// A session with its orders of a phase, and what it keeps of its replies once it has run.
 #[derive(Drop)]
-pub struct Lane {
+pub struct Lane<C> {
     pub session: Session,
     pub orders: Vec<Order>,
-    pub lines: Result<Vec<u8>, NoMemory>,
+    pub replies: Result<C, NoMemory>,
 }
 
-fn run_lane<D: Disk, N: Name + Start, R: Wait, G: Gate>(
+fn run_lane<D: Disk, N: Name + Start, R: Wait, G: Gate, C: Collector>(
     rt: &R,
     alloc: Global,
     system: &System<D, N>,
     gate: &G,
-    lane: &mut Lane,
+    lane: &mut Lane<C>,
 )
     requires run { MayRun system.now lane.old }
-    ensures ran { LaneRan system.now lane.old lane.new }
+    ensures ran { LaneRan C.holds system.now lane.old lane.new }
 {
     let orders = mem::replace(&mut lane.orders, Vec::new(alloc));
-    lane.lines = answer_all(rt, alloc, system, gate, &mut lane.session, orders);
+    lane.replies = answer_all(rt, alloc, system, gate, &mut lane.session, orders);
 }
 
 /// Carries out the orders of all lanes at once, each lane on a thread of its own, and waits for all of them.
@@ -43,9 +44,10 @@ pub(crate) fn run_at_once<
     N: Name + Start + Send + Sync,
     R: Threads + Wait + Sync,
     G: Gate + Sync,
->(rt: &R, alloc: Global, system: &System<D, N>, gate: &G, lanes: &mut [Lane])
+    C: Collector,
+>(rt: &R, alloc: Global, system: &System<D, N>, gate: &G, lanes: &mut [Lane<C>])
     requires run { All (MayRun system.now) lanes.old }
-    ensures ran { AllZip (LaneRan system.now) lanes.old lanes.new }
+    ensures ran { AllZip (LaneRan C.holds system.now) lanes.old lanes.new }
 {
     let threads = lanes.len().max(1);
     thread::for_each_mut(
@@ -54,7 +56,7 @@ pub(crate) fn run_at_once<
         threads,
         &|_, lane| -> ()
             requires { MayRun system.now lane.now }
-            ensures { LaneRan system.entry.now lane.entry.now lane.exit.now }
+            ensures { LaneRan C.holds system.entry.now lane.entry.now lane.exit.now }
         {
             run_lane(rt, alloc, system, gate, lane);
         },

@@ -5,20 +5,24 @@
 #![tactic(auto)]
 
 mod answering;
+mod collector;
 mod dealing;
 mod fault;
+mod flushing;
 mod gate;
 mod lane;
+mod lines;
 mod making;
 mod outcome;
 mod phase;
 mod running;
 mod telling;
-mod writing;
 
+pub use collector::{Collector, Output};
 pub use fault::PhaseFault;
 pub use gate::{Gate, OpenGate};
 pub use lane::Lane;
+pub use lines::Lines;
 pub use making::make_lanes;
 pub use outcome::RanToEnd;
 pub use phase::{carry_out_phase, run_phase, run_phases};

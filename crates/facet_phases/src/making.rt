@@ -4,6 +4,7 @@ ghost use Rattle.facet_engine.specs.Systems.{BelongsTo};
 ghost use Rattle.facet_phases.specs.Lanes.{AreIdle};
 ghost use Rattle.facet_phases.specs.Running.{AreReady, BeginsUnderway, HaveSameFrames, IsFirst};
 
+use crate::collector::Collector;
 use crate::lane::Lane;
 use commit_turns::Start;
 use facet_disk::Disk;
@@ -14,12 +15,12 @@ use std::alloc::Global;
 use taxo_cache::Name;
 
 /// The sessions 1 to `sessions`, which have seen what the first pass has, hold nothing and have no orders. Without memory for all of them none is made.
-pub fn make_lanes<D: Disk, N: Name + Start>(
+pub fn make_lanes<D: Disk, N: Name + Start, C: Collector>(
     alloc: Global,
     system: &System<D, N>,
     first: &mut Pass,
     sessions: u32,
-) -> Result<Vec<Lane>, NoMemory>
+) -> Result<Vec<Lane<C>>, NoMemory>
     requires own { BelongsTo system.now first.old }
     requires first { IsFirst 0 first.old }
     requires many { sessions ≤ 64 }
@@ -38,7 +39,7 @@ pub fn make_lanes<D: Disk, N: Name + Start>(
         lanes.push_reserved(Lane {
             session,
             orders: Vec::new(alloc),
-            lines: Ok(Vec::new(alloc)),
+            replies: Ok(C::new(alloc)),
         });
     }
     Ok(lanes)

@@ -1,21 +1,21 @@
 ghost use Rattle.std.specs.Prelude.{◌≡◌, ◌≤◌, length, map, All, IsTrue, OnOk};
 ghost use Rattle.facet_words.specs.Sessions.Laws.{lines_rise};
 ghost use Rattle.pair_manager.specs.Passes.{SamePass};
-ghost use Rattle.facet_phases.specs.Ending.{EndsPhase, EndsPhases, moment};
+ghost use Rattle.facet_phases.specs.Ending.{EndsPhase, EndsPhases};
 ghost use Rattle.facet_phases.specs.Lanes.{AreIdle};
 ghost use Rattle.facet_words.specs.Sessions.CommandViews.{order_view};
 ghost use Rattle.facet_phases.specs.Running.{AreReady, CarriesOut};
 
+use crate::collector::{Collector, Output};
 use crate::dealing::deal;
 use crate::fault::PhaseFault;
+use crate::flushing::{are_whole, flush_all};
 use crate::gate::Gate;
 use crate::lane::{Lane, run_at_once};
 use crate::telling::tell_all;
-use crate::writing::{are_whole, write_lines};
 use commit_turns::Start;
 use facet_disk::Disk;
 use facet_engine::System;
-use facet_io::Sink;
 use facet_names::NoMemory;
 use facet_words::sessions::Order;
 use pair_manager::Pass;
@@ -26,20 +26,21 @@ use taxo_cache::Name;
 
 /// Carries out the orders of a phase, all sessions at once, and tells each session what all others have seen.
 ///
-/// It waits until all sessions have ended. A session without memory for the line of a reply stops; the others end their orders, and all are told. Where there
-/// was no memory to give the sessions their orders, none is carried out.
+/// It waits until all sessions have ended. A session without memory to keep a reply stops; the others end their orders, and all are told. Where there was no
+/// memory to give the sessions their orders, none is carried out.
 pub fn carry_out_phase<
     D: Disk,
     N: Name + Start + Send + Sync,
     R: Threads + Wait + Sync,
     G: Gate + Sync,
+    C: Collector,
 >(
     rt: &R,
     alloc: Global,
     system: &System<D, N>,
     gate: &G,
     first: &mut Pass,
-    lanes: &mut [Lane],
+    lanes: &mut [Lane<C>],
     orders: Vec<Order>,
 ) -> Result<(), NoMemory>
     requires ready { AreReady system.now first.old lanes.old }
@@ -50,7 +51,7 @@ pub fn carry_out_phase<
     ensures same { SamePass first.old first.new }
     ensures many { length lanes.new ≡ length lanes.old }
     ensures idle { OnOk result (AreIdle lanes.new) }
-    ensures ran { CarriesOut system.now (map order_view orders.items) first.old first.new lanes.old lanes.new result }
+    ensures ran { CarriesOut C.holds system.now (map order_view orders.items) first.old first.new lanes.old lanes.new result }
 {
     deal(lanes, orders)?;
     run_at_once(rt, alloc, system, gate, lanes);
@@ -62,22 +63,23 @@ pub fn carry_out_phase<
     }
 }
 
-/// Carries out the orders of a phase, as `carry_out_phase` does, and writes the lines of their replies: sessions rising, each session's in line order.
+/// Carries out the orders of a phase, as `carry_out_phase` does, and hands over what is kept of their replies: sessions rising, each session's in line order.
 pub fn run_phase<
     D: Disk,
     N: Name + Start + Send + Sync,
     R: Threads + Wait + Sync,
     G: Gate + Sync,
-    K: Sink,
+    O: Output<C>,
+    C: Collector,
 >(
     rt: &R,
     alloc: Global,
     system: &System<D, N>,
     gate: &G,
     first: &mut Pass,
-    lanes: &mut [Lane],
+    lanes: &mut [Lane<C>],
     orders: Vec<Order>,
-    sink: &mut K,
+    out: &mut O,
 ) -> Result<(), PhaseFault>
     requires ready { AreReady system.now first.old lanes.old }
     requires idle { AreIdle lanes.old }
@@ -87,11 +89,11 @@ pub fn run_phase<
     ensures same { SamePass first.old first.new }
     ensures many { length lanes.new ≡ length lanes.old }
     ensures idle { OnOk result (AreIdle lanes.new) }
-    ensures ended { EndsPhase system.now (map order_view orders.items) first.old first.new lanes.old lanes.new
-        (moment (K.faults sink.old) (K.written sink.old)) (moment (K.faults sink.new) (K.written sink.new)) result }
+    ensures ended { EndsPhase (O.flushes out.old out.new) (O.breaks out.old out.new) system.now (map order_view orders.items) first.old first.new
+        lanes.old lanes.new result }
 {
     match carry_out_phase(rt, alloc, system, gate, first, lanes, orders) {
-        Ok(()) => match write_lines(sink, lanes) {
+        Ok(()) => match flush_all(out, lanes) {
             Ok(()) => Ok(()),
             Err(_) => Err(PhaseFault::Write),
         },
@@ -99,25 +101,26 @@ pub fn run_phase<
     }
 }
 
-/// Carries out phases, one after the other, and writes the lines of each before the next begins. The first whose lines could not all be made or written is the
-/// last.
+/// Carries out phases, one after the other, and hands over what is kept of each before the next begins. The first whose replies could not all be kept or handed
+/// over is the last.
 ///
-/// It keeps the lines of one phase in memory, and lets the orders of each phase go when they were answered.
+/// It keeps what is wanted of one phase in memory, and lets the orders of each phase go when they were answered.
 pub fn run_phases<
     D: Disk,
     N: Name + Start + Send + Sync,
     R: Threads + Wait + Sync,
     G: Gate + Sync,
-    K: Sink,
+    O: Output<C>,
+    C: Collector,
 >(
     rt: &R,
     alloc: Global,
     system: &System<D, N>,
     gate: &G,
     first: &mut Pass,
-    lanes: &mut [Lane],
+    lanes: &mut [Lane<C>],
     phases: Vec<Vec<Order>>,
-    sink: &mut K,
+    out: &mut O,
 ) -> Result<(), PhaseFault>
     requires ready { AreReady system.now first.old lanes.old }
     requires idle { AreIdle lanes.old }
@@ -126,11 +129,11 @@ pub fn run_phases<
     ensures ready { AreReady system.now first.new lanes.new }
     ensures same { SamePass first.old first.new }
     ensures many { length lanes.new ≡ length lanes.old }
-    ensures ended { EndsPhases system.now (map (λ phase. map order_view phase.items) phases.items) first.old first.new lanes.old lanes.new
-        (moment (K.faults sink.old) (K.written sink.old)) (moment (K.faults sink.new) (K.written sink.new)) result }
+    ensures ended { EndsPhases (O.flushes out.old out.new) (O.breaks out.old out.new) system.now (map (λ phase. map order_view phase.items) phases.items)
+        first.old first.new lanes.old lanes.new result }
 {
     for orders in phases {
-        if let Err(fault) = run_phase(rt, alloc, system, gate, first, lanes, orders, sink) {
+        if let Err(fault) = run_phase(rt, alloc, system, gate, first, lanes, orders, out) {
             return Err(fault);
         }
     }

@@ -15,10 +15,10 @@ ghost use Rattle.commit_turns.specs.Points.{count_after, last_of};
 ghost use Rattle.commit_turns.specs.Seen.{docs_of};
 ghost use Rattle.facet_engine.specs.Notes.{noted};
 ghost use Rattle.facet_engine.specs.Systems.{BelongsTo};
-ghost use Rattle.facet_phases.specs.Ending.{moment};
 ghost use Rattle.facet_phases.specs.Running.{AreReady, HaveSameFrames, IsFirst};
 ghost use Rattle.facet_phases.specs.Runs.{RunsSoFar, RunsToEnd};
 
+use crate::collector::{Collector, Output};
 use crate::fault::PhaseFault;
 use crate::gate::Gate;
 use crate::lane::Lane;
@@ -29,7 +29,6 @@ use crate::telling::spread_all;
 use commit_turns::Start;
 use facet_disk::Disk;
 use facet_engine::System;
-use facet_io::Sink;
 use facet_names::NoMemory;
 use facet_words::sessions::Order;
 use pair_manager::Pass;
@@ -44,17 +43,18 @@ fn run_sessions<
     N: Name + Start + Send + Sync,
     R: Threads + Wait + Sync,
     G: Gate + Sync,
-    K: Sink,
+    O: Output<C>,
+    C: Collector,
 >(
     rt: &R,
     alloc: Global,
     system: &System<D, N>,
     gate: &G,
     first: &mut Pass,
-    lanes: &mut Vec<Lane>,
+    lanes: &mut Vec<Lane<C>>,
     sessions: u32,
     phases: Vec<Vec<Order>>,
-    sink: &mut K,
+    out: &mut O,
 ) -> Result<(), PhaseFault>
     requires own { BelongsTo system.now first.old }
     requires first { IsFirst 0 first.old }
@@ -64,29 +64,30 @@ fn run_sessions<
     requires rise { All (λ phase. IsTrue (lines_rise (map order_view phase.items))) phases.items }
     ensures ready { AreReady system.now first.new lanes.new.items }
     ensures frames { HaveSameFrames first.old first.new }
-    ensures ran { RunsSoFar system.now (map (λ phase. map order_view phase.items) phases.items) first.old first.new
-        (moment (K.faults sink.old) (K.written sink.old)) (moment (K.faults sink.new) (K.written sink.new)) result }
+    ensures ran { RunsSoFar (O.flushes out.old out.new) (O.breaks out.old out.new) system.now (map (λ phase. map order_view phase.items) phases.items)
+        first.old first.new result }
 {
     match make_lanes(alloc, system, first, sessions) {
         Ok(made) => {
             *lanes = made;
-            run_phases(rt, alloc, system, gate, first, lanes, phases, sink)
+            run_phases(rt, alloc, system, gate, first, lanes, phases, out)
         }
         Err(NoMemory) => Err(PhaseFault::NoMemory),
     }
 }
 
-/// Carries out phases by the sessions 1 to `sessions`, each on a thread of its own, and writes the lines of each phase before the next begins. The first phase
-/// whose lines could not all be made or written is the last. Then it ends the system, in each case, and tells each session what there is at the end.
+/// Carries out phases by the sessions 1 to `sessions`, each on a thread of its own, and hands over what is kept of each phase before the next begins. The first
+/// phase whose replies could not all be kept or handed over is the last. Then it ends the system, in each case, and tells each session what there is at the end.
 ///
-/// It waits until all sessions have ended, and for the turns that the end takes. It keeps the lines of one phase in memory, and lets the orders of each phase go
-/// when they were answered.
+/// It waits until all sessions have ended, and for the turns that the end takes. It keeps what is wanted of one phase in memory, and lets the orders of each
+/// phase go when they were answered.
 pub fn run_to_end<
     D: Disk,
     N: Name + Start + Send + Sync,
     R: Threads + Wait + Sync,
     G: Gate + Sync,
-    K: Sink,
+    O: Output<C>,
+    C: Collector,
 >(
     rt: &R,
     alloc: Global,
@@ -95,7 +96,7 @@ pub fn run_to_end<
     first: Pass,
     sessions: u32,
     phases: Vec<Vec<Order>>,
-    sink: &mut K,
+    out: &mut O,
 ) -> RanToEnd<D>
     requires own { BelongsTo system.now first }
     requires first { IsFirst 0 first }
@@ -103,9 +104,9 @@ pub fn run_to_end<
     requires sessions { All (λ phase. All (λ o. (1 ≤ o.session) × (o.session ≤ sessions)) phase.items) phases.items }
     requires rise { All (λ phase. IsTrue (lines_rise (map order_view phase.items))) phases.items }
 
-    // What was carried out is known at the end, and its lines were written.
-    ensures ran { RunsToEnd system.now (map (λ phase. map order_view phase.items) phases.items) first (noted result.ended.notes)
-        (moment (K.faults sink.old) (K.written sink.old)) (moment (K.faults sink.new) (K.written sink.new)) result.result }
+    // What was carried out is known at the end, and what was kept of it was handed over.
+    ensures ran { RunsToEnd (O.flushes out.old out.new) (O.breaks out.old out.new) system.now (map (λ phase. map order_view phase.items) phases.items)
+        first (noted result.ended.notes) result.result }
 
     // The trace tells all labels and operations that the notes show.
     ensures labels { result.ended.trace.labels ≡ labels_of (noted result.ended.notes) }
@@ -133,9 +134,9 @@ pub fn run_to_end<
         (entries result.ended.notes.commits.seen) result.ended.disk }
 {
     let mut first = first;
-    let mut lanes = Vec::new(alloc);
+    let mut lanes: Vec<Lane<C>> = Vec::new(alloc);
     let result = run_sessions(
-        rt, alloc, system, gate, &mut first, &mut lanes, sessions, phases, sink,
+        rt, alloc, system, gate, &mut first, &mut lanes, sessions, phases, out,
     );
     let mut ended = system.end(rt, first);
     spread_all(system, &mut lanes, &mut ended.notes);

@@ -17,7 +17,11 @@ use pair_manager::Pass;
 use taxo_cache::Name;
 
 // Tells the first pass what a session has seen.
-fn gather_lane<D: Disk, N: Name + Start>(system: &System<D, N>, first: &mut Pass, lane: &mut Lane)
+fn gather_lane<D: Disk, N: Name + Start, C>(
+    system: &System<D, N>,
+    first: &mut Pass,
+    lane: &mut Lane<C>,
+)
     requires own { BelongsTo system.now first.old × BelongsTo system.now lane.old.session.pass }
     requires first { HaveOneNumber 0 first.old }
     ensures lane { lane.new ≡ lane.old }
@@ -28,7 +32,11 @@ fn gather_lane<D: Disk, N: Name + Start>(system: &System<D, N>, first: &mut Pass
 }
 
 // Tells the first pass what all sessions have seen.
-fn gather_all<D: Disk, N: Name + Start>(system: &System<D, N>, first: &mut Pass, lanes: &mut [Lane])
+fn gather_all<D: Disk, N: Name + Start, C>(
+    system: &System<D, N>,
+    first: &mut Pass,
+    lanes: &mut [Lane<C>],
+)
     requires own { BelongsTo system.now first.old × AllOf system.now lanes.old }
     requires first { HaveOneNumber 0 first.old × AreCounted first.old }
     ensures lanes { lanes.new ≡ lanes.old }
@@ -41,7 +49,11 @@ fn gather_all<D: Disk, N: Name + Start>(system: &System<D, N>, first: &mut Pass,
 }
 
 // Tells a session what the notes show, which is all that it has seen, or more.
-fn tell_lane<D: Disk, N: Name + Start>(system: &System<D, N>, lane: &mut Lane, notes: &mut Notes)
+fn tell_lane<D: Disk, N: Name + Start, C>(
+    system: &System<D, N>,
+    lane: &mut Lane<C>,
+    notes: &mut Notes,
+)
     requires own { BelongsTo system.now lane.old.session.pass × AreOf system.now notes.old }
     requires knows { Sees (seen_of lane.old.session.pass) (noted notes.old) }
     ensures notes { notes.new ≡ notes.old }
@@ -52,9 +64,9 @@ fn tell_lane<D: Disk, N: Name + Start>(system: &System<D, N>, lane: &mut Lane, n
 }
 
 /// Tells all sessions what the notes show. It takes no memory, and waits for nothing.
-pub(crate) fn spread_all<D: Disk, N: Name + Start>(
+pub(crate) fn spread_all<D: Disk, N: Name + Start, C>(
     system: &System<D, N>,
-    lanes: &mut [Lane],
+    lanes: &mut [Lane<C>],
     notes: &mut Notes,
 )
     requires own { AllOf system.now lanes.old × AreOf system.now notes.old }
@@ -69,10 +81,10 @@ pub(crate) fn spread_all<D: Disk, N: Name + Start>(
 }
 
 /// Tells the first pass what all sessions have seen, and then each session what the first pass has. It takes no memory, and waits for nothing.
-pub(crate) fn tell_all<D: Disk, N: Name + Start>(
+pub(crate) fn tell_all<D: Disk, N: Name + Start, C>(
     system: &System<D, N>,
     first: &mut Pass,
-    lanes: &mut [Lane],
+    lanes: &mut [Lane<C>],
 )
     requires own { BelongsTo system.now first.old × AllOf system.now lanes.old }
     requires first { HaveOneNumber 0 first.old × AreCounted first.old }

@@ -11,22 +11,23 @@ use Rattle.facet_engine.specs.declared.ending.Trace.{Trace}
 use Rattle.facet_io.specs.Faults.{Rose}
 use Rattle.facet_io.specs.declared.sink.Sink.{Ghosts as SinkGhosts}
 use Rattle.facet_model.specs.Histories.{Operation}
-use Rattle.facet_output.specs.Answered.{in_writing_order}
+use Rattle.facet_output.specs.Answered.{Answered, in_writing_order}
 use Rattle.facet_output.specs.Output.{Opened}
-use Rattle.facet_output.specs.OutputLines.{last_line}
+use Rattle.facet_output.specs.OutputLines.{last_line, reply_lines}
 use Rattle.facet_output.specs.Seen.{Seen, history_of, labels_of}
 use Rattle.facet_output.specs.Sessions.{answers_of, steps_of}
 use Rattle.facet_output.specs.Steps.{Step}
-use Rattle.facet_phases.proofs.Pieces.{appends_some, appends_then}
-use Rattle.facet_phases.specs.Ending.{Moment, Writes, moment}
-use Rattle.facet_phases.specs.Phases.{asked, lines_of}
+use Rattle.facet_phases.specs.Flushing.{appends_some, appends_then}
+use Rattle.facet_phases.specs.Moments.{Moment, Writes, WritesSome, moment}
+use Rattle.facet_phases.specs.Phases.{asked}
 use Rattle.facet_phases.specs.Runs.{EndedSo, HasRun, IsCutOff}
 use Rattle.facet_phases.specs.declared.fault.PhaseFault.{PhaseFault}
 use Rattle.facet_phases.specs.declared.fault.PhaseFault.TheVariants as phases
 use Rattle.facet_replies.specs.LastLine.{last_line as line_of}
 use Rattle.facet_words.specs.Commands.{Settings}
 use Rattle.facet_words.specs.Sessions.Commands.{Order, Script}
-use Rattle.facet_shell.proofs.Opened.{HasOpened, has_opened}
+use Rattle.facet_phases.specs.declared.outcome.RanToEnd.{RanToEnd}
+use Rattle.facet_shell.proofs.Opened.{HasOpened, HasRoom, has_opened, has_room}
 use Rattle.pair_manager.specs.declared.pass.Pass.{Pass}
 use Rattle.store_opening.specs.Files.{greatest_number}
 use Rattle.store_opening.specs.Newest.{next_after}
@@ -34,16 +35,26 @@ use Rattle.facet_shell.proofs.Sessions.{ran_so, spends}
 use Rattle.facet_shell.proofs.Whole.{lines_whole}
 use Rattle.facet_shell.specs.Closing.{Closes, IsWithoutMemory}
 use Rattle.facet_shell.specs.Runs.{IsTraceOf, Keeps, Opens, Ran, SpendsFrom, WritesBehind, WritesLine, bytes_of, lines_before}
-use Rattle.facet_shell.specs.Serving.{EndsAs, Serves}
+use Rattle.facet_shell.specs.Serving.{EndsAs, IsCarried, Serves}
 use Rattle.facet_shell.specs.Statuses.{status_line}
 use Rattle.facet_shell.specs.declared.status.Status.{Status}
 use Rattle.facet_shell.specs.declared.status.Status.TheVariants.{NoMemory}
 
 -- in each case some phases ran
-pub some_ran : (settings : Settings) (opened : Opened) (first : Pass) (last : Seen) (all : List (List Order)) (before now : Moment) (result : Result (Unit {0}) PhaseFault) → EndedSo (HasRun settings opened first last) all before now result → HasOpened opened last
-some_ran settings opened first last all before now (Ok u) e = has_opened settings all opened e.0 last e.1.all
-some_ran settings opened first last all before now (Err phases.Write) e = has_opened settings (take e.0 all) opened e.1 last e.2.all
-some_ran settings opened first last all before now (Err phases.NoMemory) e = has_opened settings (take e.0 all ++ e.2.short) opened (e.1 ++ e.2.steps) last e.2.carried.all
+pub some_ran : (settings : Settings) (opened : Opened) (first : Pass) (last : Seen) (Flushes Breaks : List Answered → Type 0) (all : List (List Order)) (result : Result (Unit {0}) PhaseFault)
+    → EndedSo (HasRun settings opened first last) Flushes Breaks all result → HasOpened opened last
+some_ran settings opened first last Flushes Breaks all (Ok u) e = has_opened settings all opened e.0 last e.1.all
+some_ran settings opened first last Flushes Breaks all (Err phases.Write) e = has_opened settings (take e.0 all) opened e.1 last e.2.all
+some_ran settings opened first last Flushes Breaks all (Err phases.NoMemory) e = has_opened settings (take e.0 all ++ e.2.short) opened (e.1 ++ e.2.steps) last e.2.carried.all
+
+-- the last line may begin behind what was opened
+pub carried_room : {D : Type 0} (ghosts : Ghosts D) (s : Script) (start : D) (Flushes Breaks : List Answered → Type 0) (pair : ℕ × ℕ) (ran : RanToEnd D) → IsCarried ghosts s start Flushes Breaks pair ran → HasRoom pair ran.ended.trace
+carried_room ghosts s start Flushes Breaks pair ran c =
+    has_room c.opened c.last ran.ended.trace pair c.pair_is c.traced c.rooted (some_ran s.settings c.opened c.first c.last Flushes Breaks s.phases ran.result c.ended)
+
+-- the lines of the replies
+abbrev lines_of : List Step → List ℕ
+lines_of steps = reply_lines (map (λ (x : Step). x.answered) steps)
 
 -- the last line as the trace has it
 pub line_is : (opened : Opened) (trace : Trace) (last : Seen) → IsTraceOf trace last → line_of (length opened.docs) (length opened.labels) trace.labels (drop (length opened.docs) trace.sessions.items) ≡ last_line opened (labels_of last) (history_of last)
@@ -115,7 +126,7 @@ module _ {D K : Type 0} (ghosts : Ghosts D) (s : Script) (opened : Opened) (trac
       (has.all.asked ∙ ap in_writing_order (sym whole)) w none
 
   -- however the phases ended
-  ended : (line : List ℕ) (result : Result (Unit {0}) PhaseFault) (status : Status) → line ≡ last_line opened (labels_of last) (history_of last) → EndedSo (HasRun s.settings opened first last) s.phases start between result
+  ended : (line : List ℕ) (result : Result (Unit {0}) PhaseFault) (status : Status) → line ≡ last_line opened (labels_of last) (history_of last) → EndedSo (HasRun s.settings opened first last) (λ answered. Writes start between (reply_lines answered)) (λ answered. WritesSome start between (reply_lines answered)) s.phases result
       → Closes line result sink middle now status → EndsAs ghosts s old new sink before now trace status
   ended line (Ok u) status is e closes = done e.0 line status e.1 is e.2 closes
   ended line (Err phases.Write) status is e closes =
@@ -126,10 +137,21 @@ module _ {D K : Type 0} (ghosts : Ghosts D) (s : Script) (opened : Opened) (trac
       )
   ended line (Err phases.NoMemory) status is e closes = without e.0 e.2.short e.1 e.2.steps status e.2.cut e.2.carried e.2.whole e.3 closes
 
-  pub serves : (result : Result (Unit {0}) PhaseFault) (left : Option Trace) (status : Status) → left ≡ Some trace → EndedSo (HasRun s.settings opened first last) s.phases start between result
+  pub serves : (result : Result (Unit {0}) PhaseFault) (left : Option Trace) (status : Status) → left ≡ Some trace → EndedSo (HasRun s.settings opened first last) (λ answered. Writes start between (reply_lines answered)) (λ answered. WritesSome start between (reply_lines answered)) s.phases result
       → Closes (line_of (length opened.docs) (length opened.labels) trace.labels (drop (length opened.docs) trace.sessions.items)) result sink middle now status → Serves ghosts s old new sink before now left status
   serves result left status is e closes = record {
     trace = trace;
     trace_is = is;
     ended = ended (line_of (length opened.docs) (length opened.labels) trace.labels (drop (length opened.docs) trace.sessions.items)) result status (line_is opened trace last traced) e closes;
   }
+
+-- the sessions of a script ended, and what was written behind them
+pub serves_carried : {D K : Type 0} (ghosts : Ghosts D) (s : Script) (start new : D) (sink : SinkGhosts K) (before middle now : K) (pair : ℕ × ℕ) (ran : RanToEnd D) (left : Option Trace) (status : Status)
+    → IsCarried ghosts s start (λ answered. Writes (moment (sink.faults before) (sink.written before)) (moment (sink.faults middle) (sink.written middle)) (reply_lines answered))
+    (λ answered. WritesSome (moment (sink.faults before) (sink.written before)) (moment (sink.faults middle) (sink.written middle)) (reply_lines answered)) pair ran
+    → left ≡ Some ran.ended.trace → new ≡ ran.ended.disk → Closes (line_of pair.0 pair.1 ran.ended.trace.labels (drop pair.0 ran.ended.trace.sessions.items)) ran.result sink middle now status
+    → Serves ghosts s start new sink before now left status
+serves_carried ghosts s start new sink before middle now pair ran left status c trace disk closes =
+    let closed = subst (λ (p : ℕ × ℕ). Closes (line_of p.0 p.1 ran.ended.trace.labels (drop p.0 ran.ended.trace.sessions.items)) ran.result sink middle now status) c.pair_is closes in
+    subst (λ d. Serves ghosts s start d sink before now left status) (sym disk)
+    (serves ghosts s c.opened ran.ended.trace c.last start ran.ended.disk sink before middle now c.opens c.traced c.keeps c.first c.next c.at c.faults c.failures c.numbers c.next_is ran.result left status trace c.ended closed)

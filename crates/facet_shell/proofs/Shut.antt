@@ -24,6 +24,10 @@ module _ {D K : Type 0} (ghosts : Ghosts D) (s : Script) (start : D) (sink : Sin
   pub shut_without : (disk new : D) → new ≡ disk → IsQuiet ghosts start disk → left ≡ None → status ≡ NoMemory → WritesLine sink before now (status_line NoMemory) → StaysShut ghosts s start new sink before now left status
   shut_without disk new back quiet none ends line = record { no_trace = none; quiet = subst (λ (d : D). IsQuiet ghosts start d) (sym back) quiet; cause = inr (ends, line) }
 
+  -- it was, and nothing was written before
+  pub shut_after : (middle : K) → middle ≡ before → (disk new : D) → new ≡ disk → IsQuiet ghosts start disk → left ≡ None → status ≡ NoMemory → WritesLine sink middle now (status_line NoMemory) → StaysShut ghosts s start new sink before now left status
+  shut_after middle same disk new back quiet none ends line = shut_without disk new back quiet none ends (subst (λ (k : K). WritesLine sink k now (status_line NoMemory)) same line)
+
   -- the opening met a fault
   pub shuts : (config : Config) → config ≡ s.settings.config → (disk new : D) (fault : OpenFault) → new ≡ disk → IsQuiet ghosts start disk → left ≡ None
       → (fault ≢ NoRoom → fault ≢ OfDisk → (t : Told) → ghosts.told start ≡ Some t → files config t.files ≡ Err fault) → (fault ≡ OfDisk → disk_calls.Rose (ghosts.faults start) (ghosts.faults disk))

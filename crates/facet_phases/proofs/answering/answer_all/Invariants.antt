@@ -7,5 +7,5 @@ abbrev pub invariant-loop-order : goal.invariant-loop-order
 invariant-loop-order g l = record {
   own : BelongsTo l.system l.session.pass;
   same : SameSession l.fn.session l.session;
-  going : IsGoing l.system l.fn.session l.session l.yielded l.lines.items;
+  going : IsGoing l.system l.fn.session l.session l.yielded (λ answered. g.C.Collector.holds answered l.replies);
 }

@@ -8,12 +8,12 @@ use Rattle.facet_phases.proofs.Zips.{zip_from_each, carried}
 use Rattle.facet_phases.proofs.lane.run_at_once.Goals as goal
 
 pub for_each_mut-requires-send-T : goal.for_each_mut-requires-send-T
-for_each_mut-requires-send-T g c κs within = search (sendable, lane_send) depth 20
+for_each_mut-requires-send-T g c κs within = let send_c = c.type_bounds.send-C in search (sendable, lane_send) depth 20
 
 pub returns : goal.returns
 returns g c = record {
-  ran = zip_from_each (LaneRan c.args.system.now) c.args.lanes.now c.for_each_mut.new.s (search rules)
-      (λ i d l. let at = (c.for_each_mut.ensures i d l).1 in carried (LaneRan c.args.system.now) at.argument.now _ at.after_call.now _ at.argument_is at.left at.call);
+  ran = zip_from_each (LaneRan g.C.Collector.holds c.args.system.now) c.args.lanes.now c.for_each_mut.new.s (search rules)
+      (λ i d l. let at = (c.for_each_mut.ensures i d l).1 in carried (LaneRan g.C.Collector.holds c.args.system.now) at.argument.now _ at.after_call.now _ at.argument_is at.left at.call);
 }
 
 pub for_each_mut-requires-sync-F : goal.for_each_mut-requires-sync-F

@@ -8,7 +8,7 @@ use Rattle.facet_phases.proofs.Did.{all_did}
 use Rattle.facet_phases.proofs.phase.carry_out_phase.Goals as goal
 
 pub returns-in_err-deal-clause-ran : goal.returns-in_err-deal-clause-ran
-returns-in_err-deal-clause-ran g c = none_ran c.args.system.now _ c.args.first.now c.args.lanes.now c.deal.new.lanes c.from_residual.result (search rules)
+returns-in_err-deal-clause-ran g c = none_ran g.C.Collector.holds c.args.system.now _ c.args.first.now c.args.lanes.now c.deal.new.lanes c.from_residual.result (search rules)
 
 pub returns-in_err-deal-clause-same : goal.returns-in_err-deal-clause-same
 returns-in_err-deal-clause-same g c = same_pass c.args.first.now
@@ -25,33 +25,33 @@ run_at_once-requires-clause-run g c κs within = may_run c.args.system.now c.arg
 pub tell_all-requires-clause-own : goal.tell_all-requires-clause-own
 tell_all-requires-clause-own g c κs within = (
   c.requires.ready.own,
-  all_ran c.args.system.now c.deal.new.lanes c.run_at_once.new.lanes c.run_at_once.ensures.ran (dealt_ready c.args.system.now c.args.first.now c.args.lanes.now c.deal.new.lanes c.requires.ready (search rules) c.in_ok-deal.ensures.sessions).all,
+  all_ran g.C.Collector.holds c.args.system.now c.deal.new.lanes c.run_at_once.new.lanes c.run_at_once.ensures.ran (dealt_ready c.args.system.now c.args.first.now c.args.lanes.now c.deal.new.lanes c.requires.ready (search rules) c.in_ok-deal.ensures.sessions).all,
 )
 
 pub returns-then-are_whole-clause-ready : goal.returns-then-are_whole-clause-ready
-returns-then-are_whole-clause-ready g c = still_ready c.args.system.now c.args.orders.items c.args.first.now c.tell_all.new.first c.args.lanes.now c.tell_all.new.lanes c.requires.ready
-    (all_did c.args.system.now c.args.orders.items (seen_of c.tell_all.new.first) c.args.lanes.now c.deal.new.lanes c.run_at_once.new.lanes c.tell_all.new.lanes (search rules) c.requires.idle c.in_ok-deal.ensures.dealt c.run_at_once.ensures.ran c.tell_all.ensures.told)
+returns-then-are_whole-clause-ready g c = still_ready g.C.Collector.holds c.args.system.now c.args.orders.items c.args.first.now c.tell_all.new.first c.args.lanes.now c.tell_all.new.lanes c.requires.ready
+    (all_did g.C.Collector.holds c.args.system.now c.args.orders.items (seen_of c.tell_all.new.first) c.args.lanes.now c.deal.new.lanes c.run_at_once.new.lanes c.tell_all.new.lanes (search rules) c.requires.idle c.in_ok-deal.ensures.dealt c.run_at_once.ensures.ran c.tell_all.ensures.told)
     c.tell_all.ensures.gathered
 
 pub returns-then-are_whole-clause-idle : goal.returns-then-are_whole-clause-idle
-returns-then-are_whole-clause-idle g c = still_idle c.args.system.now c.args.orders.items c.args.first.now c.tell_all.new.first c.args.lanes.now c.tell_all.new.lanes c.requires.ready
-    (all_did c.args.system.now c.args.orders.items (seen_of c.tell_all.new.first) c.args.lanes.now c.deal.new.lanes c.run_at_once.new.lanes c.tell_all.new.lanes (search rules) c.requires.idle c.in_ok-deal.ensures.dealt c.run_at_once.ensures.ran c.tell_all.ensures.told)
+returns-then-are_whole-clause-idle g c = still_idle g.C.Collector.holds c.args.system.now c.args.orders.items c.args.first.now c.tell_all.new.first c.args.lanes.now c.tell_all.new.lanes c.requires.ready
+    (all_did g.C.Collector.holds c.args.system.now c.args.orders.items (seen_of c.tell_all.new.first) c.args.lanes.now c.deal.new.lanes c.run_at_once.new.lanes c.tell_all.new.lanes (search rules) c.requires.idle c.in_ok-deal.ensures.dealt c.run_at_once.ensures.ran c.tell_all.ensures.told)
     c.tell_all.ensures.gathered
 
 pub returns-then-are_whole-clause-ran : goal.returns-then-are_whole-clause-ran
 returns-then-are_whole-clause-ran g c =
-    let ok : All (λ (l : Lane). IsOk l.lines) c.tell_all.new.lanes = search rules in
-    carries_out c.args.system.now c.args.orders.items c.args.first.now c.tell_all.new.first c.args.lanes.now c.tell_all.new.lanes c.requires.ready
-    (all_did c.args.system.now c.args.orders.items (seen_of c.tell_all.new.first) c.args.lanes.now c.deal.new.lanes c.run_at_once.new.lanes c.tell_all.new.lanes (search rules) c.requires.idle c.in_ok-deal.ensures.dealt c.run_at_once.ensures.ran c.tell_all.ensures.told)
+    let ok : All (λ (l : Lane g.row.C.Denot). IsOk l.replies) c.tell_all.new.lanes = search rules in
+    carries_out g.C.Collector.holds c.args.system.now c.args.orders.items c.args.first.now c.tell_all.new.first c.args.lanes.now c.tell_all.new.lanes c.requires.ready
+    (all_did g.C.Collector.holds c.args.system.now c.args.orders.items (seen_of c.tell_all.new.first) c.args.lanes.now c.deal.new.lanes c.run_at_once.new.lanes c.tell_all.new.lanes (search rules) c.requires.idle c.in_ok-deal.ensures.dealt c.run_at_once.ensures.ran c.tell_all.ensures.told)
     c.tell_all.ensures.gathered _ c.requires.sessions c.requires.rise ok
 
 pub returns-else-are_whole-clause-ready : goal.returns-else-are_whole-clause-ready
-returns-else-are_whole-clause-ready g c = still_ready c.args.system.now c.args.orders.items c.args.first.now c.tell_all.new.first c.args.lanes.now c.tell_all.new.lanes c.requires.ready
-    (all_did c.args.system.now c.args.orders.items (seen_of c.tell_all.new.first) c.args.lanes.now c.deal.new.lanes c.run_at_once.new.lanes c.tell_all.new.lanes (search rules) c.requires.idle c.in_ok-deal.ensures.dealt c.run_at_once.ensures.ran c.tell_all.ensures.told)
+returns-else-are_whole-clause-ready g c = still_ready g.C.Collector.holds c.args.system.now c.args.orders.items c.args.first.now c.tell_all.new.first c.args.lanes.now c.tell_all.new.lanes c.requires.ready
+    (all_did g.C.Collector.holds c.args.system.now c.args.orders.items (seen_of c.tell_all.new.first) c.args.lanes.now c.deal.new.lanes c.run_at_once.new.lanes c.tell_all.new.lanes (search rules) c.requires.idle c.in_ok-deal.ensures.dealt c.run_at_once.ensures.ran c.tell_all.ensures.told)
     c.tell_all.ensures.gathered
 
 pub returns-else-are_whole-clause-ran : goal.returns-else-are_whole-clause-ran
 returns-else-are_whole-clause-ran g c =
-    carries_out c.args.system.now c.args.orders.items c.args.first.now c.tell_all.new.first c.args.lanes.now c.tell_all.new.lanes c.requires.ready
-    (all_did c.args.system.now c.args.orders.items (seen_of c.tell_all.new.first) c.args.lanes.now c.deal.new.lanes c.run_at_once.new.lanes c.tell_all.new.lanes (search rules) c.requires.idle c.in_ok-deal.ensures.dealt c.run_at_once.ensures.ran c.tell_all.ensures.told)
+    carries_out g.C.Collector.holds c.args.system.now c.args.orders.items c.args.first.now c.tell_all.new.first c.args.lanes.now c.tell_all.new.lanes c.requires.ready
+    (all_did g.C.Collector.holds c.args.system.now c.args.orders.items (seen_of c.tell_all.new.first) c.args.lanes.now c.deal.new.lanes c.run_at_once.new.lanes c.tell_all.new.lanes (search rules) c.requires.idle c.in_ok-deal.ensures.dealt c.run_at_once.ensures.ran c.tell_all.ensures.told)
     c.tell_all.ensures.gathered _ c.requires.sessions c.requires.rise tt

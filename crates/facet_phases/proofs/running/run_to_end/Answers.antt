@@ -18,14 +18,13 @@ use Rattle.pair_manager.specs.declared.point.CommitPoint.{CommitPoint}
 use Rattle.facet_engine.specs.declared.notes.Notes.{Notes}
 use Rattle.facet_engine.specs.Notes.{noted}
 use Rattle.facet_phases.specs.declared.lane.Lane.{Lane}
-use Rattle.facet_phases.specs.Ending.{moment}
 use Rattle.facet_phases.specs.Running.{AreReady}
 use Rattle.facet_phases.proofs.Finishing.{runs_to_end_at, all_see}
 use Rattle.facet_phases.proofs.running.run_to_end.Goals as goal
 
 pub spread_all-requires-clause-knows : goal.spread_all-requires-clause-knows
 spread_all-requires-clause-knows g c κs within = all_see c.args.system.now c.run_sessions-result.new.first c.deref_mut.result.now (noted c.end-ended.result.notes)
-    (subst (λ (l : List Lane). AreReady c.args.system.now c.run_sessions-result.new.first l) (sym c.deref_mut.ensures.value) c.run_sessions-result.ensures.ready) c.end-ended.ensures.told.sees
+    (subst (λ (l : List (Lane g.row.C.Denot)). AreReady c.args.system.now c.run_sessions-result.new.first l) (sym c.deref_mut.ensures.value) c.run_sessions-result.ensures.ready) c.end-ended.ensures.told.sees
 
 pub returns-clause-labels : goal.returns-clause-labels
 returns-clause-labels g c = c.end-ended.ensures.labels ∙ ap (λ (n : Notes). labels_of (noted n)) (sym c.spread_all.ensures.notes)
@@ -33,7 +32,7 @@ returns-clause-labels g c = c.end-ended.ensures.labels ∙ ap (λ (n : Notes). l
 pub returns-clause-sessions : goal.returns-clause-sessions
 returns-clause-sessions g c =
     let first = c.run_sessions-result.new.first in
-    let ready : AreReady c.args.system.now first c.deref_mut.result.now = subst (λ (l : List Lane). AreReady c.args.system.now first l) (sym c.deref_mut.ensures.value) c.run_sessions-result.ensures.ready in
+    let ready : AreReady c.args.system.now first c.deref_mut.result.now = subst (λ (l : List (Lane g.row.C.Denot)). AreReady c.args.system.now first l) (sym c.deref_mut.ensures.value) c.run_sessions-result.ensures.ready in
     c.end-ended.ensures.sessions
     ∙ sessions_told c.args.system.now first c.deref_mut.result.now c.spread_all.new.lanes c.end-ended.result.notes ready c.spread_all.ensures.told c.spread_all.ensures.named (c.end-ended.ensures.named ready.made.named) c.end-ended.ensures.numbers
     ∙ ap (λ (n : Notes). sessions_in (history_of (noted n))) (sym c.spread_all.ensures.notes)
@@ -75,7 +74,7 @@ pub returns-clause-ran : goal.returns-clause-ran
 returns-clause-ran g c =
     let first = c.run_sessions-result.new.first in
     let notes = c.end-ended.result.notes in
-    runs_to_end_at c.args.system.now (map (λ (phase : Vec Order). map order_view phase.items) c.args.phases.items) c.args.first first c.deref_mut.result.now c.spread_all.new.lanes notes c.spread_all.new.notes
-    (moment (g.K.Sink.faults c.args.sink.now) (g.K.Sink.written c.args.sink.now)) (moment (g.K.Sink.faults c.run_sessions-result.new.sink) (g.K.Sink.written c.run_sessions-result.new.sink)) c.run_sessions-result.result
+    runs_to_end_at (g.O.Output.flushes c.args.out.now c.run_sessions-result.new.out) (g.O.Output.breaks c.args.out.now c.run_sessions-result.new.out) c.args.system.now (map (λ (phase : Vec Order). map order_view phase.items) c.args.phases.items) c.args.first first c.deref_mut.result.now c.spread_all.new.lanes notes c.spread_all.new.notes
+    c.run_sessions-result.result
     c.run_sessions-result.ensures.ran c.run_sessions-result.ensures.frames.1
-    (subst (λ (l : List Lane). AreReady c.args.system.now first l) (sym c.deref_mut.ensures.value) c.run_sessions-result.ensures.ready) c.spread_all.ensures.told c.spread_all.ensures.notes c.end-ended.ensures.told c.end-ended.ensures.numbers c.end-ended.ensures.list c.end-ended.ensures.published
+    (subst (λ (l : List (Lane g.row.C.Denot)). AreReady c.args.system.now first l) (sym c.deref_mut.ensures.value) c.run_sessions-result.ensures.ready) c.spread_all.ensures.told c.spread_all.ensures.notes c.end-ended.ensures.told c.end-ended.ensures.numbers c.end-ended.ensures.list c.end-ended.ensures.published

@@ -13,5 +13,5 @@ invariant-loop-lane g l = record {
   own : BelongsTo l.system l.first;
   numbers : HaveOneNumber 0 l.first;
   gathered : Gathers l.fn.first l.first;
-  knows : (i : ℕ) (d : Lane) → i < l.lane-index → Sees (seen_of (get_or l.fn.lanes i d).session.pass) (seen_of l.first);
+  knows : (i : ℕ) (d : Lane g.row.C.Denot) → i < l.lane-index → Sees (seen_of (get_or l.fn.lanes i d).session.pass) (seen_of l.first);
 }

@@ -20,15 +20,15 @@ returns-clause-told g c = zip_from_each (LaneTold (noted c.args.notes.now)) c.ar
 pub loop-lane-preserved : goal.loop-lane-preserved
 loop-lane-preserved g c =
     let at = c.loop-lane.lane-index in
-    let item : Lane = c.lane-item.result in
-    let new : Lane = c.tell_lane.new.lane in
+    let item : Lane g.row.C.Denot = c.lane-item.result in
+    let new : Lane g.row.C.Denot = c.tell_lane.new.lane in
     let is : item ≡ get_or c.args.lanes.now at item = c.lane-item.is ∙ c.loop-lane.invariant.rest at item (omega arith) in
-    let told : LaneTold (noted c.args.notes.now) item new = subst (λ (l : Lane). LaneTold (noted c.args.notes.now) l new) (sym c.lane-item.is)
+    let told : LaneTold (noted c.args.notes.now) item new = subst (λ (l : Lane g.row.C.Denot). LaneTold (noted c.args.notes.now) l new) (sym c.lane-item.is)
     (subst (λ (n : Notes). LaneTold (noted n) (get_or c.loop-lane.lanes at item) new) c.loop-lane.invariant.notes c.tell_lane.ensures.told) in
     record {
       notes = c.tell_lane.ensures.notes ∙ c.loop-lane.invariant.notes;
       told = lane_told (noted c.args.notes.now) c.args.lanes.now c.loop-lane.lanes at new (let l = c.loop-lane.auto.lanes in let t = c.loop-lane-test.true in omega arith)
-          (at_read c.args.lanes.now (λ (l : Lane). LaneTold (noted c.args.notes.now) l new) at item c.loop-lane-test.true is told) c.loop-lane.invariant.told;
+          (at_read c.args.lanes.now (λ (l : Lane g.row.C.Denot). LaneTold (noted c.args.notes.now) l new) at item c.loop-lane-test.true is told) c.loop-lane.invariant.told;
       named = lane_named c.args.notes.now c.loop-lane.lanes at new (let l = c.loop-lane.auto.lanes in let t = c.loop-lane-test.true in omega arith)
           (subst (λ (n : Notes). NamesOwn new.session.number n) c.loop-lane.invariant.notes c.tell_lane.ensures.named) c.loop-lane.invariant.named;
       rest = λ i d le. get_or-set_other c.loop-lane.lanes at i new d (λ e. absurd (omega arith)) ∙ c.loop-lane.invariant.rest i d (omega arith);

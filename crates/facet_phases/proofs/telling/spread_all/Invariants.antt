@@ -8,7 +8,7 @@ use Rattle.facet_phases.proofs.telling.spread_all.Given as goal
 abbrev pub invariant-loop-lane : goal.invariant-loop-lane
 invariant-loop-lane g l = record {
   notes : l.notes ≡ l.fn.notes;
-  told : (i : ℕ) (d : Lane) → i < l.lane-index → LaneTold (noted l.fn.notes) (get_or l.fn.lanes i d) (get_or l.lanes i d);
-  named : (i : ℕ) (d : Lane) → i < l.lane-index → NamesOwn (get_or l.lanes i d).session.number l.fn.notes;
-  rest : (i : ℕ) (d : Lane) → l.lane-index ≤ i → get_or l.lanes i d ≡ get_or l.fn.lanes i d;
+  told : (i : ℕ) (d : Lane g.row.C.Denot) → i < l.lane-index → LaneTold (noted l.fn.notes) (get_or l.fn.lanes i d) (get_or l.lanes i d);
+  named : (i : ℕ) (d : Lane g.row.C.Denot) → i < l.lane-index → NamesOwn (get_or l.lanes i d).session.number l.fn.notes;
+  rest : (i : ℕ) (d : Lane g.row.C.Denot) → l.lane-index ≤ i → get_or l.lanes i d ≡ get_or l.fn.lanes i d;
 }

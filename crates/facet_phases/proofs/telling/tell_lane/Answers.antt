@@ -18,7 +18,7 @@ returns-clause-told g c =
       seen = is;
       told = subst (λ (s : Seen). IsTold old.number (seen_of old.pass) s) is c.spread.ensures.told.told;
       orders = refl;
-      lines = refl;
+      replies = refl;
     }
 
 pub returns-clause-named : goal.returns-clause-named
