@@ -156,9 +156,7 @@ pub fn search_pair(
         Ok(plan) => plan,
         Err(refused) => return Err(fault_of(refused)),
     };
-    let Ok(answer) = plan.run() else {
-        return Err(SearchFault::NoMemory);
-    };
+    let answer = plan.run();
     match found(alloc, segments, pair.operations(), ask.asks.len(), &answer) {
         Ok(found) => Ok(found),
         Err(NoMemory) => Err(SearchFault::NoMemory),

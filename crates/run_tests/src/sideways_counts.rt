@@ -61,7 +61,7 @@ fn counted(
     let Ok(plan) = DrillPlan::new(alloc, view, config, segments, &ask) else {
         return Err("a plan".into());
     };
-    let answer = plan.run()?;
+    let answer = plan.run();
     if view.size() != 4 {
         return Err("the root, a dimension and two authors".into());
     }

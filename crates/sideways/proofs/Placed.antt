@@ -1,7 +1,8 @@
 -- The parts of a pass, one after the other.
-use Rattle.std.proofs.Common.{◌≡◌, ℕ, zero, suc, ◌+◌, ◌<◌, ◌≤◌, ◌⊎◌, inl, inr, List, [], ◌∷◌, ◌++◌, length, take, map, get_or, set, refl, sym, ap, subst, ◌∙◌, arith, append_assoc}
+use Rattle.std.proofs.Common.{◌≡◌, ℕ, zero, suc, ◌+◌, ◌<◌, ◌≤◌, ◌⊎◌, inl, inr, List, [], ◌∷◌, ◌++◌, length, take, map, min, get_or, set, refl, sym, ap, subst, ◌∙◌, arith, append_assoc}
 use Rattle.std.specs.Prelude.{sum_by}
 use Rattle.std.specs.List.{AllByRecursion}
+use Rattle.std.proofs.lemmas.Bool.{cases_lt}
 use Rattle.std.proofs.lemmas.Grind.{flat_map-append}
 use Rattle.std.proofs.lemmas.List.{append-nil, get_or_default, get_or-set_other, length-append, length-map, length-set, map-append, map_push, take_all, take_more}
 use Rattle.seg_grammar.specs.Lookups.{record_of}
@@ -192,3 +193,15 @@ short_front (suc n) (z ∷ zs) = omega (arith, short_front n zs)
 
 pub take_at_most : {A : Type 0} (limit : ℕ) (xs ys : List A) → ys ≡ take limit xs → length ys ≤ limit
 take_at_most limit xs ys is = omega (arith, ap length is, short_front limit xs)
+
+pub placed_length : (base : ℕ) (parts : List PartLeft) → length (placed base parts) ≡ sum_by left_in parts
+placed_length base [] = refl
+placed_length base (p ∷ ps) = omega (arith, length-append (map (λ n. base + n) p.left) (placed (base + length p.segment.records) ps), length-map p.left (λ n. base + n), placed_length (base + length p.segment.records) ps, sum_by-cons left_in p ps)
+
+-- where there are no more than the bound, it leaves the first as they are
+pub take_few : {A : Type 0} (n bound : ℕ) (xs : List A) → length xs ≤ bound → take (min n bound) xs ≡ take n xs
+take_few n bound xs few = by (cases_lt bound n)
+  where
+    by : (bound < n) ⊎ (n ≤ bound) → take (min n bound) xs ≡ take n xs
+    by (inl more) = let least : min n bound ≡ bound = omega arith in ap (λ m. take m xs) least ∙ take_all bound xs few ∙ sym (take_all n xs (omega arith))
+    by (inr le) = let least : min n bound ≡ n = omega arith in ap (λ m. take m xs) least

@@ -1,7 +1,10 @@
 -- What a plan and an answer keep true of their fields.
-use Rattle.std.specs.Prelude.{◌≡◌, ℕ, ◌<◌, ◌≤◌, ◌&&◌, ◌++◌, ◌∷◌, Bool, true, List, [], filter, length, slice_index_or, take, Option, Some, None}
+use Rattle.std.specs.Prelude.{◌≡◌, ℕ, min, ◌<◌, ◌≤◌, ◌&&◌, ◌++◌, ◌∷◌, Bool, true, List, [], filter, length, slice_index_or, take, Option, Some, None}
 use Rattle.std.specs.List.{list_any, AllByRecursion}
 use Rattle.std.specs.Str.{bytes_eq}
+use Rattle.std.specs.Vec.{vec_capacity}
+use Rattle.std.specs.declared.alloc.Global.{Global}
+use Rattle.std.specs.declared.vec.Vec.{Vec}
 use Rattle.facet_names.specs.Labels.{IsLabelList}
 use Rattle.facet_model.specs.CountedPaths.{places}
 use Rattle.facet_model.specs.Documents.{Doc, dim_of}
@@ -81,6 +84,13 @@ pub record IsGivenSets (segment : Records) (sets : List Marked) (k : ℕ) (old n
   pub len : length new ≡ length old
   pub done : (j : ℕ) (set : Marked) (l : LiftedPass) → j < k → j < length old → IsGivenSet segment (slice_index_or sets j set) (slice_index_or old j l) (slice_index_or new j l)
   pub rest : (j : ℕ) (l : LiftedPass) → k ≤ j → slice_index_or new j l ≡ slice_index_or old j l
+
+-- There is room for the places of the hits that are wanted, of a million documents at most, and for the counts of each pass.
+pub record HasRoom (wanted : ℕ) (lifted : List LiftedPass) (places : Vec ℕ Global) (counted : Vec LiftedCounts Global) : Type 0 where
+  pub no_places : places.items ≡ []
+  pub for_places : min wanted 1000000 ≤ vec_capacity places
+  pub no_counts : counted.items ≡ []
+  pub for_counts : length lifted ≤ vec_capacity counted
 
 -- These are the counts of the documents that pass.
 pub record AreCountsOf (q : Question) (lift : Option (List ℕ)) (counts : Totals) : Type 0 where

@@ -1,4 +1,5 @@
-ghost use Rattle.std.specs.Prelude.{◌≡◌, ◌+◌, ◌≤◌, ◌⊎◌, ◌++◌, [], ℕ, List, IfOk, OnOk, length, take};
+ghost use Rattle.std.specs.Prelude.{◌≡◌, ◌+◌, ◌≤◌, ◌<◌, ◌⊎◌, ◌++◌, ◌∷◌, [], ℕ, List, IfOk, length, take};
+ghost use Rattle.std.specs.Vec.{vec_capacity, vec_len};
 ghost use Rattle.facet_names.specs.Labels.{IsLabelList};
 ghost use Rattle.facet_counts.specs.Tallies.{AreCounts, HasAdded};
 ghost use Rattle.sideways.specs.Counted.{AreCountable, HasRoomFor, IsGrown, IsNoting, IsTaking, IsReady, lists_at, lists_of, placed};
@@ -47,6 +48,15 @@ pub(crate) struct Found<'a> {
     pub(crate) places: Vec<u32>,
 }
 
+/// Adds a value to a vector that has room for it. It takes no memory.
+pub(crate) fn push_within<T: Drop>(values: &mut Vec<T>, value: T)
+    requires { vec_len values.old < vec_capacity values.old }
+    ensures items { values.new.items ≡ values.old.items ++ value ∷ [] }
+    ensures capacity { vec_capacity values.old ≤ vec_capacity values.new }
+{
+    let _pushed = values.push(value);
+}
+
 // Takes first places of a part until there are enough hits, counts their records, and says how many they are.
 fn take_hits(
     part: &mut Part<'_>,
@@ -54,24 +64,26 @@ fn take_hits(
     base: u32,
     limit: u32,
     hits: &mut Vec<u32>,
-) -> Result<u64, NoMemory>
+) -> u64
     requires countable { AreCountable counter.old.config counter.old.labels part.old.segment }
     requires room { counter.old.added + length part.old.left ≤ 1000000 }
     requires few { base + length part.old.segment.records ≤ 1000000 }
     requires limit { length hits.old.items ≤ limit }
-    ensures taking { IfOk result (λ number. IsTaking part.old part.new counter.old counter.new base limit hits.old.items hits.new.items number) }
-    ensures enough { OnOk result ((limit ≤ length hits.new.items) ⊎ (part.new.left ≡ [])) }
+    requires capacity { limit ≤ vec_capacity hits.old }
+    ensures taking { IsTaking part.old part.new counter.old counter.new base limit hits.old.items hits.new.items result }
+    ensures enough { (limit ≤ length hits.new.items) ⊎ (part.new.left ≡ []) }
+    ensures capacity { vec_capacity hits.old ≤ vec_capacity hits.new }
 {
     let mut number = 0;
     while hits.len() < limit as usize {
         let Some(place) = part.take() else {
-            return Ok(number);
+            return number;
         };
         part.count_one(place, counter);
-        hits.push(base + place)?;
+        push_within(hits, base + place);
         number += 1;
     }
-    Ok(number)
+    number
 }
 
 // Counts all records of a part, and notes places of its first ones until there are enough. Says how many they are.
@@ -81,17 +93,19 @@ fn count_part(
     base: u32,
     limit: u32,
     hits: &mut Vec<u32>,
-) -> Result<u64, NoMemory>
+) -> u64
     requires countable { AreCountable counter.old.config counter.old.labels part.old.segment }
     requires room { counter.old.added + length part.old.left ≤ 1000000 }
     requires few { base + length part.old.segment.records ≤ 1000000 }
     requires limit { length hits.old.items ≤ limit }
-    ensures grown { OnOk result (IsGrown counter.old counter.new (lists_at part.old.segment part.old.left)) }
-    ensures number { IfOk result (λ number. number ≡ length part.old.left) }
-    ensures noted { OnOk result (IsNoting part.old base limit hits.old.items hits.new.items) }
+    requires capacity { limit ≤ vec_capacity hits.old }
+    ensures grown { IsGrown counter.old counter.new (lists_at part.old.segment part.old.left) }
+    ensures number { result ≡ length part.old.left }
+    ensures noted { IsNoting part.old base limit hits.old.items hits.new.items }
+    ensures capacity { vec_capacity hits.old ≤ vec_capacity hits.new }
 {
-    let first = take_hits(part, counter, base, limit, hits)?;
-    Ok(first + part.count(counter))
+    let first = take_hits(part, counter, base, limit, hits);
+    first + part.count(counter)
 }
 
 impl<'a> Pass<'a> {
@@ -132,15 +146,16 @@ impl<'a> Pass<'a> {
         counter.roll_up()
     }
 
-    /// Counts all documents that are found, and says how many they are and where the first of them stand.
-    pub(crate) fn count_hits(self, limit: u32, places: Vec<u32>) -> Result<Hits<'a>, NoMemory>
+    /// Counts all documents that are found, and says how many they are and where the first of them stand. It takes no memory.
+    pub(crate) fn count_hits(self, limit: u32, places: Vec<u32>) -> Hits<'a>
         requires ready { IsReady self.parts.items self.counter }
         requires none { places.items ≡ [] }
-        ensures counted { IfOk result (λ h. HasAdded h.counter (lists_of self.entry.parts.items)) }
-        ensures labels { IfOk result (λ h. h.counter.labels ≡ self.entry.counter.labels) }
-        ensures config { IfOk result (λ h. h.counter.config ≡ self.entry.counter.config) }
-        ensures number { IfOk result (λ h. h.number ≡ length (lists_of self.entry.parts.items)) }
-        ensures places { IfOk result (λ h. h.places.items ≡ take limit (placed 0 self.entry.parts.items)) }
+        requires capacity { limit ≤ vec_capacity places }
+        ensures counted { HasAdded result.counter (lists_of self.entry.parts.items) }
+        ensures labels { result.counter.labels ≡ self.entry.counter.labels }
+        ensures config { result.counter.config ≡ self.entry.counter.config }
+        ensures number { result.number ≡ length (lists_of self.entry.parts.items) }
+        ensures places { result.places.items ≡ take limit (placed 0 self.entry.parts.items) }
     {
         let Pass {
             mut parts,
@@ -151,13 +166,13 @@ impl<'a> Pass<'a> {
         let mut base = 0;
         for part in parts.iter_mut() {
             let docs = part.docs();
-            number += count_part(part, &mut counter, base, limit, &mut places)?;
+            number += count_part(part, &mut counter, base, limit, &mut places);
             base += docs;
         }
-        Ok(Hits {
+        Hits {
             counter,
             number,
             places,
-        })
+        }
     }
 }

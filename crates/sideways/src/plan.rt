@@ -1,4 +1,5 @@
-ghost use Rattle.std.specs.Prelude.{◌≡◌, ◌≤◌, ◌&&◌, ℕ, [], List, Some, None, IfOk, IfErr, OnOk, length, map};
+ghost use Rattle.std.specs.Prelude.{◌≡◌, ◌≤◌, ◌&&◌, ℕ, [], List, Some, None, IfOk, IfErr, OnOk, length, map, min};
+ghost use Rattle.std.specs.Vec.{vec_capacity};
 ghost use Rattle.std.specs.List.{AllByRecursion, AllZip, list_any};
 ghost use Rattle.std.specs.Str.{bytes_eq};
 ghost use Rattle.facet_model.specs.AskViews.{ask_view};
@@ -18,7 +19,7 @@ use crate::answer::SidewaysAnswer;
 use crate::ask::{AskRefused, SearchAsk, first_refusal};
 use crate::near::add_segment;
 use crate::node::is_first;
-use crate::pass::{Found, Hits, LiftedCounts, LiftedPass, Pass};
+use crate::pass::{Found, Hits, LiftedCounts, LiftedPass, Pass, push_within};
 use facet_config::FacetsConfig;
 use facet_counts::Counter;
 use facet_names::NoMemory;
@@ -30,7 +31,8 @@ use taxo_list::{Labelled, TaxoView};
 
 /// A search that is ready to run, with all memory that the counting needs: one pass for the hits, and with sideways one more for each drilled
 /// dimension. A pass has a counter of its own, 5 bytes for each label of the view, and for each segment a plan or, where the conditions have many
-/// documents, its places as a set: an eighth of a byte a document, and twice as much again while the sets of a segment are made.
+/// documents, its places as a set: an eighth of a byte a document, and twice as much again while the sets of a segment are made. A hit that is wanted takes
+/// 4 bytes.
 #[derive(Drop)]
 pub struct DrillPlan<'a> {
     view: &'a TaxoView,
@@ -45,8 +47,7 @@ pub struct DrillPlan<'a> {
 }
 
 impl<'a> Model for DrillPlan<'a> {
-    ghost use Rattle.std.specs.Prelude.{◌≡◌, []};
-    ghost use Rattle.sideways.specs.Kept.{IsPlan};
+    ghost use Rattle.sideways.specs.Kept.{HasRoom, IsPlan};
     ghost use Rattle.sideways.specs.Searches.{Search, question_of, search_of};
     ghost use Rattle.sideways.specs.contracts.ask.SearchAsk as e;
     ghost use Rattle.std.specs.Coded.{codes};
@@ -57,8 +58,15 @@ impl<'a> Model for DrillPlan<'a> {
 
     ghost view = { λ p. search_of p.view.now p.config.now p.segments.now p.ask.now };
 
-    ghost invariant = { λ p. IsPlan (question_of p.view.now p.config.now p.segments.now p.ask.now) p.hits p.lifted.items × (p.places.items ≡ [])
-        × (p.counted.items ≡ []) };
+    ghost invariant = { λ p. IsPlan (question_of p.view.now p.config.now p.segments.now p.ask.now) p.hits p.lifted.items
+        × HasRoom p.ask.now.hits p.lifted.items p.places p.counted };
+}
+
+// How many places of hits are kept: those that are wanted, and no more than there are documents.
+fn limit_of(ask: &SearchAsk) -> u32
+    ensures { result ≡ min ask.now.hits 1000000 }
+{
+    ask.hits.min(1_000_000)
 }
 
 // A pass without a part for each dimension of the drill.
@@ -115,23 +123,23 @@ fn count_lifted<'a>(
     lifted: Vec<LiftedPass<'a>>,
     counted: Vec<LiftedCounts<'a>>,
     hits: &Counter<'_>,
-) -> Result<Vec<LiftedCounts<'a>>, NoMemory>
+) -> Vec<LiftedCounts<'a>>
     requires none { counted.items ≡ [] }
+    requires capacity { length lifted.items ≤ vec_capacity counted }
     requires ready { AllByRecursion (λ l. IsReady l.pass.parts.items l.pass.counter) lifted.items }
     requires room { AllByRecursion (λ l. HasRoomFor l.pass.parts.items l.pass.counter hits.now) lifted.items }
-    ensures each { IfOk result (λ v. (q : Question) → AreHitsIn q hits.now → AllByRecursion (λ l. IsLiftedOf q q.segments l) lifted.entry.items
-        → AllByRecursion (λ l. AreCountsOf q (Some l.dim.now) l.counts) v.items) }
-    ensures covers { IfOk result (λ v. (dim : List ℕ) → list_any (λ l. bytes_eq l.dim.now dim) v.items
-        ≡ list_any (λ l. bytes_eq l.dim.now dim) lifted.entry.items) }
+    ensures each { (q : Question) → AreHitsIn q hits.now → AllByRecursion (λ l. IsLiftedOf q q.segments l) lifted.entry.items
+        → AllByRecursion (λ l. AreCountsOf q (Some l.dim.now) l.counts) result.items }
+    ensures covers { (dim : List ℕ) → list_any (λ l. bytes_eq l.dim.now dim) result.items ≡ list_any (λ l. bytes_eq l.dim.now dim) lifted.entry.items }
 {
     let mut lifted = lifted;
     let mut counted = counted;
     while let Some(one) = lifted.pop() {
         let LiftedPass { dim, pass } = one;
         let counts = pass.count(hits);
-        counted.push(LiftedCounts { dim, counts })?;
+        push_within(&mut counted, LiftedCounts { dim, counts });
     }
-    Ok(counted)
+    counted
 }
 
 impl<'a> DrillPlan<'a> {
@@ -172,6 +180,7 @@ impl<'a> DrillPlan<'a> {
         let mut hits = Pass::new(alloc, view, config, segments.len())?;
         let mut lifted = lifted_passes(alloc, view, config, segments, ask)?;
         add_segments(alloc, segments, ask, &mut hits, &mut lifted)?;
+        let places = Vec::with_capacity(alloc, limit_of(ask) as usize)?;
         let counted = Vec::with_capacity(alloc, lifted.len())?;
         Ok(DrillPlan {
             view,
@@ -180,16 +189,15 @@ impl<'a> DrillPlan<'a> {
             ask,
             hits,
             lifted,
-            places: Vec::new(alloc),
+            places,
             counted,
         })
     }
 
     /// Runs the passes. Each walks over the places that it finds, from the first segment to the last, and counts the ordinals of the record at each: a hit
-    /// once for all dimensions, and a document that one dimension alone leaves out once for that dimension.
-    /// It takes memory for the places of the hits that are wanted.
-    pub fn run(self) -> Result<SidewaysAnswer<'a>, NoMemory>
-        ensures { IfOk result (λ a. a ≡ self.entry) }
+    /// once for all dimensions, and a document that one dimension alone leaves out once for that dimension. It takes no memory.
+    pub fn run(self) -> SidewaysAnswer<'a>
+        ensures { result ≡ self.entry }
     {
         let DrillPlan {
             view,
@@ -205,20 +213,20 @@ impl<'a> DrillPlan<'a> {
             counter,
             number,
             places,
-        } = hits.count_hits(ask.hits, places)?;
-        let lifted = count_lifted(lifted, counted, &counter)?;
+        } = hits.count_hits(limit_of(ask), places);
+        let lifted = count_lifted(lifted, counted, &counter);
         let found = Found {
             counts: counter.roll_up(),
             number,
             places,
         };
-        Ok(SidewaysAnswer {
+        SidewaysAnswer {
             view,
             config,
             segments,
             ask,
             found,
             lifted,
-        })
+        }
     }
 }

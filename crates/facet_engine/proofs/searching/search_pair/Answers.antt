@@ -38,7 +38,7 @@ found-requires-clause-docs c =
     let e = c.segments-segments.ensures in
     let segments = map arc_value c.segments-segments.result.now in
     let ready = searchable c.args.pair.now c.view.result.now c.args.config.now segments c.view.ensures c.requires.config e.segments e.decodes e.few in
-    subst (λ (a : Search). Decodes a.labels a.config a.segments (docs_in a.labels a.segments)) (sym (c.in-Ok-run.ensures ∙ c.in-Ok.ensures.plan))
+    subst (λ (a : Search). Decodes a.labels a.config a.segments (docs_in a.labels a.segments)) (sym (c.run-answer.ensures ∙ c.in-Ok.ensures.plan))
     (subst (Decodes c.view.result.now c.args.config.now segments) (sym (decoded c.view.result.now c.args.config.now segments ready.0 ready.1)) ready.1)
 
 pub returns-in-Ok-found : goal.returns-in-Ok-found
@@ -48,6 +48,6 @@ returns-in-Ok-found c = record {
       let asks = map ask_view c.args.ask.now.asks.items in
       let config = c.args.config.now in
       let none : first_refused config asks ≡ None = none_found (refusals.first_refused config asks) (first_refused config asks) (first_refused_as config asks) (none_refused (refusals.first_refused config asks) c.in-Ok.plan _ refl c.in-Ok.ensures.refused) in
-      let here = subst (λ (a : Search). IsFound a.config (search_view a.ask) None c.operations.result (docs_in a.labels a.segments) (found (found_view c.in-Ok-found.found))) (c.in-Ok-run.ensures ∙ c.in-Ok.ensures.plan) c.in-Ok-found.ensures in
+      let here = subst (λ (a : Search). IsFound a.config (search_view a.ask) None c.operations.result (docs_in a.labels a.segments) (found (found_view c.in-Ok-found.found))) (c.run-answer.ensures ∙ c.in-Ok.ensures.plan) c.in-Ok-found.ensures in
       found_in c.args.pair.now c.view.result.now config (map arc_value c.segments-segments.result.now) c.args.ask.now c.operations.result _ c.view.ensures c.requires.config e.segments e.decodes c.operations.ensures none here;
 }

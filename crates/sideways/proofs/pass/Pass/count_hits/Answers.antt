@@ -3,8 +3,8 @@ use Rattle.sideways.specs.Counted.{PartLeft}
 use Rattle.sideways.proofs.Placed.{all_grown, all_noted, all_numbered, base_more, base_room, counted_more, next_part, number_more, part_here, places_more, take_at_most}
 use Rattle.sideways.proofs.pass.Pass.count_hits.Goals as goal
 
-pub count_part-requires : goal.count_part-requires
-count_part-requires c =
+pub count_part-number-requires : goal.count_part-number-requires
+count_part-number-requires c =
     let lt : c.loop-part.part-index < length c.args.self.parts.items = omega (arith, c.loop-part.invariant.counted.long, c.loop-part-test.true) in
     let p : PartLeft = get_or c.loop-part.part-items c.loop-part.part-index c.part-item.result in
     let at = part_here c.loop-part.part-index c.loop-part.part-items c.args.self.parts.items c.args.self.counter c.loop-part.counter c.part-item.result c.loop-part.invariant.counted lt in
@@ -14,6 +14,7 @@ count_part-requires c =
       room = next.room;
       few = base_room c.loop-part.part-index c.loop-part.part-items c.args.self.parts.items c.args.self.counter c.loop-part.counter p c.loop-part.base c.loop-part.invariant.counted c.requires.ready lt at c.loop-part.invariant.base;
       limit = take_at_most c.args.limit _ c.loop-part.places.items c.loop-part.invariant.places;
+      capacity = omega (arith, c.requires.capacity, c.loop-part.invariant.capacity);
     }
 
 pub loop-part-preserved : goal.loop-part-preserved
@@ -22,12 +23,13 @@ loop-part-preserved c =
     let p : PartLeft = get_or c.loop-part.part-items c.loop-part.part-index c.part-item.result in
     let counted = c.loop-part.invariant.counted in
     let at = part_here c.loop-part.part-index c.loop-part.part-items c.args.self.parts.items c.args.self.counter c.loop-part.counter c.part-item.result counted lt in
-    let more = c.in_ok-number.ensures in
+    let more = c.count_part-number.ensures in
     record {
-      counted = counted_more c.loop-part.part-index c.loop-part.part-items _ c.args.self.parts.items c.args.self.counter c.loop-part.counter c.count_part.new.counter p c.count_part.new.part counted lt at refl more.grown;
+      counted = counted_more c.loop-part.part-index c.loop-part.part-items _ c.args.self.parts.items c.args.self.counter c.loop-part.counter c.count_part-number.new.counter p c.count_part-number.new.part counted lt at refl more.grown;
       number = number_more c.loop-part.part-index c.loop-part.part-items c.args.self.parts.items c.args.self.counter c.loop-part.counter p c.loop-part.number _ counted lt at c.loop-part.invariant.number (ap (λ n. c.loop-part.number + n) more.number);
       base = ap (λ n. c.loop-part.base + n) c.docs-docs.ensures ∙ base_more c.loop-part.part-index c.loop-part.part-items c.args.self.parts.items c.args.self.counter c.loop-part.counter p c.loop-part.base counted lt at c.loop-part.invariant.base;
-      places = places_more c.loop-part.part-index c.loop-part.part-items c.args.self.parts.items c.args.self.counter c.loop-part.counter p c.loop-part.base c.args.limit c.loop-part.places.items c.count_part.new.hits.items counted lt at c.loop-part.invariant.base c.loop-part.invariant.places more.noted;
+      capacity = omega (arith, more.capacity, c.loop-part.invariant.capacity);
+      places = places_more c.loop-part.part-index c.loop-part.part-items c.args.self.parts.items c.args.self.counter c.loop-part.counter p c.loop-part.base c.args.limit c.loop-part.places.items c.count_part-number.new.hits.items counted lt at c.loop-part.invariant.base c.loop-part.invariant.places more.noted;
     }
 
 pub overflow_add-number : goal.overflow_add-number
@@ -36,7 +38,7 @@ overflow_add-number c =
     let p : PartLeft = get_or c.loop-part.part-items c.loop-part.part-index c.part-item.result in
     let at = part_here c.loop-part.part-index c.loop-part.part-items c.args.self.parts.items c.args.self.counter c.loop-part.counter c.part-item.result c.loop-part.invariant.counted lt in
     let next = next_part c.loop-part.part-index c.loop-part.part-items c.args.self.parts.items c.args.self.counter c.loop-part.counter p c.loop-part.invariant.counted c.requires.ready lt at in
-    omega (arith, next.room, c.in_ok-number.ensures.number, c.loop-part.invariant.number, c.loop-part.invariant.counted.grown.number)
+    omega (arith, next.room, c.count_part-number.ensures.number, c.loop-part.invariant.number, c.loop-part.invariant.counted.grown.number)
 
 pub overflow_add-base : goal.overflow_add-base
 overflow_add-base c =

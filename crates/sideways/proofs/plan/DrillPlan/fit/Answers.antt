@@ -1,4 +1,5 @@
-use Rattle.std.proofs.Common.{◌∙◌, subst}
+use Rattle.std.proofs.Common.{◌∙◌, subst, arith}
+use Rattle.std.proofs.lemmas.Slice.Zip.{AllZip-long}
 use Rattle.facet_names.specs.Labels.{IsLabelList}
 use Rattle.sideways.specs.Searches.{question_of, records_of}
 use Rattle.sideways.proofs.Gathered.{hits_are_of, lifted_are_of, same_any}
@@ -27,6 +28,10 @@ invariant_of-result c =
         each = lifted_are_of q q.segments c.in_ok-lifted.lifted.items c.add_segments.new.lifted.items c.in_ok-lifted.ensures.each added.lifted;
         covers = λ d. same_any q.query q.drill q.segments d c.in_ok-lifted.lifted.items c.add_segments.new.lifted.items added.lifted ∙ c.in_ok-lifted.ensures.covers d;
       },
-      c.new-2.ensures.items,
-      c.in_ok-counted.ensures.items,
+      record {
+        no_places = c.in_ok-places.ensures.items;
+        for_places = omega (arith, c.in_ok-places.ensures.exact, c.limit_of.ensures);
+        no_counts = c.in_ok-counted.ensures.items;
+        for_counts = omega (arith, c.in_ok-counted.ensures.exact, c.len.ensures, AllZip-long _ c.in_ok-lifted.lifted.items c.add_segments.new.lifted.items c.in_ok-add_segments.ensures.lifted, c.add_segments.new.lifted.ok.0);
+      },
     )
