@@ -24,11 +24,11 @@ pub read_whole : {S : Type 0} (source : SourceGhosts S) (from to : S) (items inp
 read_whole source from to items input same read end fits = subst (λ (bytes : List ℕ). ReadsWhole source from to bytes) (sym same) (record { read = read; end = end; fits = fits })
 
 -- the files have this fault
-abbrev IsOfFiles : OpenFault → Type 0
+abbrev pub IsOfFiles : OpenFault → Type 0
 IsOfFiles fault = (fault ≢ faults.Disk) × (fault ≢ faults.NoMemory) × ((fault_status fault ≡ BadStore) ⊎ (fault_status fault ≡ OtherConfig))
 
 -- a fault is the disk's, want of memory, or one of the files
-kind_of : (fault : OpenFault) → (fault ≡ faults.Disk) ⊎ (fault ≡ faults.NoMemory) ⊎ IsOfFiles fault
+pub kind_of : (fault : OpenFault) → (fault ≡ faults.Disk) ⊎ (fault ≡ faults.NoMemory) ⊎ IsOfFiles fault
 kind_of faults.Disk = inl refl
 kind_of faults.NoMemory = inr (inl refl)
 kind_of (faults.Missing name) = inr (inr ((λ e. cc e), (λ e. cc e), inl refl))

@@ -15,3 +15,6 @@ pub mod Placed
 pub mod Counted
 pub mod Commits
 pub mod Acknowledged
+pub mod Summing
+pub mod Completing
+pub mod Asking

@@ -6,3 +6,6 @@ pub mod Laws
 pub mod Alike
 pub mod Added
 pub mod Acknowledged
+pub mod Counting
+pub mod Generating
+pub mod Asking

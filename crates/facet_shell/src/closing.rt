@@ -24,8 +24,8 @@ fn end_line(alloc: Global, opened: (u64, u32), trace: &Trace) -> Result<Vec<u8>,
     Ok(line)
 }
 
-// Writes a line.
-fn write<K: Sink>(sink: &mut K, line: &[u8]) -> Status
+/// Writes a line.
+pub(crate) fn write<K: Sink>(sink: &mut K, line: &[u8]) -> Status
     ensures { IsWritten line.now K.Sink sink.old sink.new result }
 {
     match write_all(sink, line) {

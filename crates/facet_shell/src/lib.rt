@@ -4,10 +4,12 @@
 
 mod closing;
 mod counting;
+mod generating;
 mod laws;
 mod program;
 mod serving;
 mod status;
+mod tallying;
 mod telling;
 
 pub use facet_engine::Trace;

@@ -1,4 +1,4 @@
-use Rattle.std.proofs.Common.{rules, ◌≡◌, ◌∙◌, length, map}
+use Rattle.std.proofs.Common.{rules, map}
 use Rattle.facet_words.specs.Sessions.CommandViews.{order_view}
 use Rattle.facet_phases.proofs.Closing.{phase_flushed, phase_failed, phase_short}
 use Rattle.facet_phases.proofs.Flushed.{flushed_idle, flushed_ready}

@@ -1,5 +1,4 @@
 use Rattle.std.proofs.Common.{inl, inr}
-use Rattle.facet_phases.specs.Moments.{moment}
 use Rattle.facet_words.specs.Sessions.CommandViews.{script_view}
 use Rattle.facet_shell.proofs.Closed.{carried_room, serves_carried}
 use Rattle.facet_shell.proofs.Shut.{shut_after}
