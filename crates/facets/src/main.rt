@@ -1,5 +1,5 @@
-//! `facets`: reads a script of a faceted search index from standard input, carries it out on the store of a directory, its sessions at once, and writes the
-//! replies to standard output.
+//! `facets`: reads a script of a faceted search index from standard input, or with `--generate` makes one, carries it out on the store of a directory, its
+//! sessions at once, and writes the replies, or a line that sums them up, to standard output.
 #![tactic(auto)]
 
 use facet_disk::StdDisk;
