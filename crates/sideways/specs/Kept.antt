@@ -82,7 +82,8 @@ pub record IsGivenSet (segment : Records) (set : Marked) (old new : LiftedPass) 
 -- The first k passes were given the sets beside them, and the others are as they were.
 pub record IsGivenSets (segment : Records) (sets : List Marked) (k : ℕ) (old new : List LiftedPass) : Type 0 where
   pub len : length new ≡ length old
-  pub done : (j : ℕ) (set : Marked) (l : LiftedPass) → j < k → j < length old → IsGivenSet segment (slice_index_or sets j set) (slice_index_or old j l) (slice_index_or new j l)
+  pub done : (j : ℕ) (set : Marked) (l : LiftedPass) → j < k → j < length old
+      → IsGivenSet segment (slice_index_or sets j set) (slice_index_or old j l) (slice_index_or new j l)
   pub rest : (j : ℕ) (l : LiftedPass) → k ≤ j → slice_index_or new j l ≡ slice_index_or old j l
 
 -- There is room for the places of the hits that are wanted, of a million documents at most, and for the counts of each pass.
