@@ -12,7 +12,6 @@ mod stripes;
 
 pub use laws::ordinals_stay;
 pub use looked::Looked;
-pub use memo::Memo;
 pub use memos::Memos;
 pub use name::Name;
 pub use stripe::Stripe;

@@ -24,7 +24,7 @@ const OFFERED: u32 = 8;
 ///
 /// Contracts see its entries, the one used last first, how many there may be, and what the note has seen.
 #[derive(Drop)]
-pub struct Memo<N: Name> {
+pub(crate) struct Memo<N: Name> {
     alloc: Global,
     cache: LruCache<Path, Resolved>,
     note: Token<Path>,
