@@ -8,8 +8,8 @@ them a command took. This searches for an order of all refreshes, for their numb
 - each added label has a bringer: an add that may have entered it, since all pairs that its session had seen have no more labels than stood before it.
 
 A command takes its pair as early as it can: an earlier pair has no more documents and no more labels, so nothing that comes later is hindered by it. A pair has
-as few labels as it can, or as many as the next `stats` tells. Where each label can have been entered by one session alone, the best refresh to come next is
-known (`best`), and nothing is tried in vain; else all ways are tried."""
+as few labels as it can, or as many as the next `stats` tells. Where each label can have been entered by one session alone, and no command waits for fewer labels
+than the next `stats` tells, the best refresh to come next is known (`best`), and nothing is tried in vain; else all ways are tried."""
 
 from __future__ import annotations
 
@@ -231,15 +231,23 @@ class Search:
         openers = [refresh for refresh in ready if refresh.fewest <= told <= refresh.latest]
         return (min(openers, key=lambda refresh: refresh.latest), told) if openers else None
 
+    def is_hurried(self, state: State, told: int | None, documents: int) -> bool:
+        """A command waits for a pair of so many documents with fewer labels than the next reply tells."""
+        for session, come in zip(self.sessions[state.phase], state.come):
+            event = self.event(state.phase, session, come)
+            if event and not event.is_refresh and event.documents == documents and told is not None and self.latest[state.phase, session][come] < told:
+                return True
+        return False
+
     def published(self, state: State) -> Iterator[State | None]:
-        """The ways to publish the next pair: the best one, and where a label has bringers of several sessions also all others."""
+        """The ways to publish the next pair: the best one, and where a command is hurried, or a label has bringers of several sessions, also all others."""
         lowest = self.lowest_refresh(state)
         if lowest is None or self.is_stuck(state, lowest):
             return
         told, ready = self.next_told(state, lowest), self.ready(state, lowest)
         wanted = [told] if told is not None else [self.told_later(state.phase, lowest), None]
         ways = [way for way in (self.best(state, ready, labels, lowest) for labels in wanted) if way]
-        if not self.shared[state.phase] <= state.done:
+        if self.is_hurried(state, told, lowest) or not self.shared[state.phase] <= state.done:
             ways += [(refresh, labels) for refresh in ready for labels in (refresh.fewest, *wanted) if labels is not None and labels >= refresh.fewest]
         for refresh, labels in dict.fromkeys(ways):
             if labels <= min(refresh.latest, self.problem.most):
