@@ -5,3 +5,4 @@ mod Notes
 mod Misses
 mod Firsts
 mod Fills
+mod Counts

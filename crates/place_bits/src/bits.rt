@@ -1,4 +1,4 @@
-ghost use Rattle.std.specs.Prelude.{◌≡◌, ◌<◌, ◌≤◌, ◌+◌, ◌*◌, ◌/◌, ◌&&◌, ◌||◌, ◌∷◌, not, [], ℕ, IfOk};
+ghost use Rattle.std.specs.Prelude.{◌≡◌, ◌<◌, ◌≤◌, ◌+◌, ◌*◌, ◌/◌, ◌&&◌, ◌||◌, ◌∷◌, not, [], ℕ, IfOk, filter, length};
 ghost use Rattle.std.specs.List.{range_with_len};
 ghost use Rattle.seg_postings.specs.Rising.{IsRising, is_in};
 ghost use Rattle.seg_postings.specs.Sets.{either};
@@ -82,6 +82,30 @@ impl Bits {
         ensures end { P.left places.new ≡ [] }
     {
         words::mark_all(&mut self.words, places);
+    }
+
+    /// How many places there are, by one count of bits a word.
+    pub fn len(&self) -> u64
+        ensures { result ≡ length self.now.places }
+    {
+        words::common(&self.words, &self.words)
+    }
+
+    /// How many places both have, by one count of bits a word. It takes no memory.
+    pub fn common(&self, other: &Bits) -> u64
+        requires { self.now.words ≡ other.now.words }
+        ensures { result ≡ length (filter (λ n. is_in n other.now.places) self.now.places) }
+    {
+        words::common(&self.words, &other.words)
+    }
+
+    /// Whether it has the place, in constant time.
+    pub fn has(&self, place: u32) -> bool
+        requires { place < 64 * self.now.words }
+        ensures has { result ≡ is_in place self.now.places }
+        ensures rising { IsRising self.now.places }
+    {
+        words::has_place(&self.words, place)
     }
 
     /// The places, one after the other.

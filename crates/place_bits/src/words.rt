@@ -1,6 +1,7 @@
 //! Operations on words, place by place.
-ghost use Rattle.std.specs.Prelude.{◌≡◌, ◌==◌, ◌<◌, ◌≤◌, ◌*◌, ◌&&◌, ◌||◌, not, [], ℕ, length, nat_lt};
+ghost use Rattle.std.specs.Prelude.{◌≡◌, ◌==◌, ◌<◌, ◌≤◌, ◌*◌, ◌&&◌, ◌||◌, not, [], ℕ, filter, length, nat_lt};
 ghost use Rattle.std.specs.Int.{bit_at};
+ghost use Rattle.std.specs.List.{range_with_len};
 ghost use Rattle.seg_postings.specs.Rising.{IsRising, is_in};
 ghost use Rattle.place_bits.specs.Words.{has, AreBelow};
 
@@ -48,6 +49,27 @@ pub(crate) fn mark_all<P: Places>(words: &mut [u64], places: &mut P)
     while let Some(place) = places.next() {
         mark(words, place);
     }
+}
+
+/// Whether it has the place.
+pub(crate) fn has_place(words: &[u64], place: u32) -> bool
+    requires { place < 64 * length words.now }
+    ensures { result ≡ has words.now place }
+{
+    words[place as usize / 64] >> (place % 64) & 1 == 1
+}
+
+/// How many places both have.
+pub(crate) fn common(words: &[u64], other: &[u64]) -> u64
+    requires same { length words.now ≡ length other.now }
+    requires few { length words.now ≤ 67108864 }
+    ensures { result ≡ length (filter (λ n. has words.now n && has other.now n) (range_with_len 0 (64 * length words.now))) }
+{
+    let mut number = 0;
+    for k in 0..words.len() {
+        number += (words[k] & other[k]).count_ones() as u64;
+    }
+    number
 }
 
 /// Turns a dimension's places into those of the base that it lacks. `ones` has the places of the base that a dimension lacked, and `twos` those that

@@ -1,4 +1,4 @@
-ghost use Rattle.std.specs.Prelude.{◌≡◌, ℕ, List, length};
+ghost use Rattle.std.specs.Prelude.{◌≡◌, ◌<◌, ℕ, List, length, slice_index_or};
 ghost use Rattle.seg_postings.specs.Bytes.{AreNumbers, IsOfNumbers};
 ghost use Rattle.seg_postings.specs.Rising.{IsNext};
 
@@ -34,6 +34,15 @@ impl<'a> Ords<'a> {
         ensures { result ≡ length self.now }
     {
         self.ords.len()
+    }
+
+    /// The number that stands at an index, in constant time.
+    pub fn at(&self, index: usize) -> u32
+        requires { index < length self.now }
+        ensures { result ≡ slice_index_or self.now index 0 }
+    {
+        let ords = self.ords;
+        u32::from_be_bytes(ords[index])
     }
 
     /// The next number left, in constant time.
