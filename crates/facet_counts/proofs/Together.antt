@@ -1,11 +1,12 @@
--- What two counters have counted together.
-use Rattle.std.proofs.Common.{◌≡◌, ℕ, ◌+◌, ◌<◌, ◌≤◌, ◌^◌, Bool, List, ◌++◌, length, get_or, set, nat_eq, refl, sym, ap, subst, ◌∙◌, inl, inr, arith}
-use Rattle.std.specs.Prelude.{cond}
+-- What two counters have counted together, and what a counter has with more lists.
+use Rattle.std.proofs.Common.{◌≡◌, ℕ, ◌+◌, ◌<◌, ◌≤◌, ◌^◌, Bool, true, false, ◌||◌, eqb, List, [], ◌∷◌, ◌++◌, map, length, get_or, set, nat_eq, refl, sym, ap, subst, ◌∙◌, inl, inr, arith}
+use Rattle.std.specs.Prelude.{cond, count_by, All}
 use Rattle.std.specs.List.{list_any}
-use Rattle.std.proofs.lemmas.Bool.{cases_eq}
-use Rattle.std.proofs.lemmas.List.{get_or-set_same, get_or-set_other, length-append, length-set}
-use Rattle.std.proofs.lemmas.List.Elements.{All-append}
+use Rattle.std.proofs.lemmas.Bool.{cases_eq, eq-eqb}
+use Rattle.std.proofs.lemmas.List.{get_or-set_same, get_or-set_other, length-append, length-map, length-set}
+use Rattle.std.proofs.lemmas.List.Elements.{All-append, All-nil, All-cons}
 use Rattle.std.proofs.lemmas.List.Sums.{count_by-le-length, sum_by-append}
+use Rattle.seg_postings.specs.Rising.{is_in}
 use Rattle.facet_counts.specs.Kept.{IsCounter}
 use Rattle.facet_counts.specs.Lists.{IsCounted}
 use Rattle.facet_counts.specs.Tallies.{Tally, HasAdded}
@@ -76,3 +77,39 @@ module _ (a b : Tally) (labels : b.labels ≡ a.labels) (config : b.config ≡ a
         count_by-le-length (list_any (nat_eq i)) first.some.0,
         count_by-le-length (list_any (nat_eq i)) second.some.0,
       )
+
+-- ---- more lists
+
+or_true : (b : Bool) → (b || true) ≡ true
+or_true true = refl
+or_true false = refl
+
+-- what holds at each of the places holds of all that stands there
+pub all_at : (P : List ℕ → Type 0) (f : ℕ → List ℕ) (places : List ℕ) → ((n : ℕ) → is_in n places ≡ true → P (f n)) → All P (map f places)
+all_at P f [] h = All-nil P
+all_at P f (x ∷ xs) h =
+    All-cons P (f x) (map f xs) (h x (ap (λ b. b || is_in x xs) (eq-eqb x x refl))) (all_at P f xs (λ n i. h n (ap (λ b. eqb n x || b) i ∙ or_true (eqb n x))))
+
+module _ (tally : Tally) (own : List ℕ) (f : ℕ → List ℕ) (places : List ℕ) (counted : (n : ℕ) → is_in n places ≡ true → IsCounted tally.config tally.labels (f n))
+    (plus : (i : ℕ) → i < length tally.labels → get_or own i 0 ≡ get_or tally.own i 0 + count_by (list_any (nat_eq i)) (map f places)) where
+  pub more_lists : (lists : List (List ℕ)) → HasAdded tally lists → HasAdded (tally_of tally own (tally.added + length places)) (lists ++ map f places)
+  more_lists lists has = record {
+    each = All-append (IsCounted tally.config tally.labels) lists (map f places) has.each (all_at (IsCounted tally.config tally.labels) f places counted);
+    number = omega (arith, has.number, length-append lists (map f places), length-map places f);
+    own = λ i l. plus i l ∙ ap (λ n. n + count_by (list_any (nat_eq i)) (map f places)) (has.own i l) ∙ sym (sum_by-append (λ list. cond (list_any (nat_eq i) list) 1 0) lists (map f places));
+  }
+
+  pub counter_with_more : (rolled : List Bool) → IsCounter tally rolled → tally.added + length places ≤ 1000000 → length own ≡ length tally.own → IsCounter (tally_of tally own (tally.added + length places)) rolled
+  counter_with_more rolled counter few size = record {
+    list = counter.list;
+    few = counter.few;
+    sized = size ∙ counter.sized;
+    as_many_marks = counter.as_many_marks;
+    marks = counter.marks;
+    some = (counter.some.0 ++ map f places, more_lists counter.some.0 counter.some.1);
+    at_most = few;
+  }
+
+-- there is room for one more of each place
+pub more_fit : (tally : Tally) (rolled : List Bool) → IsCounter tally rolled → (number : ℕ) → tally.added + number ≤ 1000000 → (i : ℕ) → i < length tally.labels → get_or tally.own i 0 + number < 2 ^ 32
+more_fit tally rolled counter number few i l = omega (arith, few, counter.some.1.own i l, counter.some.1.number, count_by-le-length (list_any (nat_eq i)) counter.some.0)

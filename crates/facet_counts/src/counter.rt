@@ -1,13 +1,16 @@
-ghost use Rattle.std.specs.Prelude.{◌≡◌, ◌<◌, ◌≤◌, ◌+◌, ◌++◌, ◌∷◌, ◌^◌, [], List, ℕ, All, nat_eq, length, slice_index_or, if◌then◌else◌, IfOk};
+ghost use Rattle.std.specs.Prelude.{◌≡◌, ◌<◌, ◌≤◌, ◌+◌, ◌++◌, ◌∷◌, ◌/◌, ◌^◌, [], List, ℕ, All, true, nat_eq, length, map, slice_index_or, if◌then◌else◌, IfOk};
 ghost use Rattle.std.specs.List.{list_any, AllPairs};
 ghost use Rattle.facet_names.specs.Labels.{IsLabelList};
+ghost use Rattle.seg_postings.specs.Rising.{is_in};
 ghost use Rattle.facet_counts.specs.Lists.{IsCounted};
 ghost use Rattle.facet_counts.specs.Tallies.{HasAdded, AreCounts};
 
 use crate::counts::Counts;
 use crate::rolled::{roll, rolled_labels};
+use counted_column::Column;
 use facet_config::FacetsConfig;
 use facet_names::NoMemory;
+use place_bits::Bits;
 use seg_postings::Ords;
 use std::alloc::Global;
 use std::marker::Model;
@@ -95,6 +98,22 @@ impl<'a> Counter<'a> {
     {
         add_each(&mut self.counts, counted);
         self.added += 1;
+    }
+
+    /// Counts the documents of a segment at these places, by the segment's column: as much work as `Column::count_at`.
+    pub fn add_column(&mut self, column: &Column, places: &Bits)
+        requires words { places.now.words ≡ (length column.now + 63) / 64 }
+        requires below { (n : ℕ) → is_in n places.now.places ≡ true → n < length column.now }
+        requires counted { (n : ℕ) → is_in n places.now.places ≡ true → IsCounted self.old.config self.old.labels (slice_index_or column.now n []) }
+        requires few { self.old.added + length places.now.places ≤ 1000000 }
+        ensures added { (lists : List (List ℕ)) → HasAdded self.old lists
+            → HasAdded self.new (lists ++ map (λ n. slice_index_or column.now n []) places.now.places) }
+        ensures number { self.new.added ≡ self.old.added + length places.now.places }
+        ensures labels { self.new.labels ≡ self.old.labels }
+        ensures config { self.new.config ≡ self.old.config }
+    {
+        column.count_at(places, &mut self.counts);
+        self.added += places.len() as u32;
     }
 
     /// Counts all documents that another counter over the same labels has counted, by one sum a label. Together they are at most a million.

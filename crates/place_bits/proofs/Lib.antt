@@ -1,5 +1,5 @@
 mod WordBits
-mod Lists
+pub mod Lists
 mod Marks
 mod Notes
 mod Misses

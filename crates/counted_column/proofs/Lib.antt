@@ -1,0 +1,5 @@
+mod Members
+mod Raising
+mod Totals
+mod Notes
+mod Made
