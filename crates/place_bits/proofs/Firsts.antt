@@ -48,11 +48,11 @@ found words from k word h low e some fits =
     )
 
 -- the bits of a word from one on
-high_bit : (w s i : ℕ) → s < 64 → i < 64 → s ≤ i → bit_at (bit_and w ((2 ^ 64 - 1) * 2 ^ s % 2 ^ 64)) i ≡ bit_at w i
+pub high_bit : (w s i : ℕ) → s < 64 → i < 64 → s ≤ i → bit_at (bit_and w ((2 ^ 64 - 1) * 2 ^ s % 2 ^ 64)) i ≡ bit_at w i
 high_bit w s i small within le =
     ap (λ m. bit_at (bit_and w m) i) (ones_shl 64 s (omega arith)) ∙ bit_at_and w (2 ^ 64 - 2 ^ s) i ∙ omega (arith, bit_at_mask_inside s 64 i le within)
 
-low_bit : (w s i : ℕ) → s < 64 → i < s → bit_at (bit_and w ((2 ^ 64 - 1) * 2 ^ s % 2 ^ 64)) i ≡ 0
+pub low_bit : (w s i : ℕ) → s < 64 → i < s → bit_at (bit_and w ((2 ^ 64 - 1) * 2 ^ s % 2 ^ 64)) i ≡ 0
 low_bit w s i small less =
     ap (λ m. bit_at (bit_and w m) i) (ones_shl 64 s (omega arith)) ∙ bit_at_and w (2 ^ 64 - 2 ^ s) i ∙ omega (arith, bit_at_mask_below s 64 i less)
 
@@ -84,11 +84,11 @@ left_found words from left e some fits =
 
 -- ---- as lists
 
-and_false : (b : Bool) → (b && false) ≡ false
+pub and_false : (b : Bool) → (b && false) ≡ false
 and_false true = refl
 and_false false = refl
 
-and_true : (b : Bool) → (b && true) ≡ b
+pub and_true : (b : Bool) → (b && true) ≡ b
 and_true true = refl
 and_true false = refl
 
@@ -101,7 +101,7 @@ below_after x (y ∷ ys) =
       | inr ge ↦ rw (le-leb (x + 1) y ge) (omega arith, below_after x ys)
     ]
 
-in_from : (n p : ℕ) (xs : List ℕ) → is_in n (from_place p xs) ≡ (is_in n xs && leb p n)
+pub in_from : (n p : ℕ) (xs : List ℕ) → is_in n (from_place p xs) ≡ (is_in n xs && leb p n)
 unfolding from_place
 in_from n p xs = is_in_filter (λ y. leb p y) n xs
 

@@ -4,5 +4,6 @@ mod Marks
 mod Notes
 mod Misses
 mod Firsts
+mod Rests
 mod Fills
 mod Counts

@@ -2,6 +2,7 @@
 use Rattle.std.specs.Prelude.{◌≡◌, ℕ, ◌*◌, ◌/◌, ◌%◌, Bool, List, [], slice_index, length, ◌==◌, ◌<◌, ◌≤◌, true, false, Option, None, Some}
 use Rattle.std.specs.Int.{bit_at}
 use Rattle.std.specs.List.{filter, range_with_len, AllByRecursion}
+use Rattle.seg_postings.specs.Rising.{from_place}
 
 -- the bit of the place is set
 unfoldable pub has : List ℕ → ℕ → Bool
@@ -19,6 +20,10 @@ pub record Marked : Type 0 where
 -- what words stand for
 abbrev pub marked : List ℕ → Marked
 marked words = record { words = length words; places = members words }
+
+-- what words stand for from a place on
+abbrev pub marked_from : ℕ → List ℕ → Marked
+marked_from next words = record { words = length words; places = from_place next (members words) }
 
 -- the same room, for these places
 abbrev pub with_places : List ℕ → Marked → Marked

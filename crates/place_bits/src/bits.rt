@@ -3,7 +3,7 @@ ghost use Rattle.std.specs.List.{range_with_len};
 ghost use Rattle.seg_postings.specs.Rising.{IsRising, is_in};
 ghost use Rattle.seg_postings.specs.Sets.{either};
 ghost use Rattle.place_bits.specs.Misses.{IsMissed};
-ghost use Rattle.place_bits.specs.Words.{AreBelow, empty_set, with_places};
+ghost use Rattle.place_bits.specs.Words.{AreBelow, empty_set, marked, with_places};
 
 use crate::cursor::BitPlaces;
 use crate::words;
@@ -108,10 +108,18 @@ impl Bits {
         words::has_place(&self.words, place)
     }
 
+    // The places whose bit is set in words.
+    pub(crate) fn of_words(words: Vec<u64>) -> Bits
+        requires { length words.items ≤ 67108864 }
+        ensures { result ≡ marked words.items }
+    {
+        Bits { words }
+    }
+
     /// The places, one after the other.
     pub fn into_places(self) -> BitPlaces
-        ensures places { result ≡ self.places }
-        ensures rising { IsRising result }
+        ensures places { result ≡ self }
+        ensures rising { IsRising result.places }
     {
         BitPlaces::new(self.words)
     }

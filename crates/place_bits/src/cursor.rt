@@ -1,8 +1,10 @@
 //! The places of words, one after the other.
 ghost use Rattle.std.specs.Prelude.{◌≡◌, ◌≤◌, ◌*◌, length};
-ghost use Rattle.seg_postings.specs.Rising.{IsRising, from_place};
-ghost use Rattle.place_bits.specs.Words.{IsFirstIn, members};
+ghost use Rattle.seg_postings.specs.Rising.{IsNext, IsRising, from_place};
+ghost use Rattle.place_bits.specs.Words.{IsFirstIn, marked, with_places};
 
+use crate::bits::Bits;
+use crate::words;
 use seg_postings::Places;
 use std::marker::Model;
 
@@ -15,13 +17,12 @@ pub struct BitPlaces {
 }
 
 impl Model for BitPlaces {
-    ghost use Rattle.std.specs.Prelude.{List, ℕ, ◌≤◌, length};
-    ghost use Rattle.seg_postings.specs.Rising.{from_place};
-    ghost use Rattle.place_bits.specs.Words.{members};
+    ghost use Rattle.std.specs.Prelude.{◌≤◌, length};
+    ghost use Rattle.place_bits.specs.Words.{Marked, marked_from};
 
-    ghost Value = { List ℕ };
+    ghost Value = { Marked };
 
-    ghost view = { λ p. from_place p.next (members p.words.items) };
+    ghost view = { λ p. marked_from p.next p.words.items };
 
     ghost invariant = { λ p. (p.next ≤ 4294967296) × (length p.words.items ≤ 67108864) };
 }
@@ -30,16 +31,26 @@ impl BitPlaces {
     /// All places of the words.
     pub(crate) fn new(words: Vec<u64>) -> BitPlaces
         requires { length words.items ≤ 67108864 }
-        ensures places { result ≡ members words.items }
-        ensures rising { IsRising result }
+        ensures places { result ≡ marked words.items }
+        ensures rising { IsRising result.places }
     {
         BitPlaces { words, next: 0 }
     }
 
+    /// The places that are left, as a set with the same room. It looks once at each word before them, and takes no memory.
+    pub fn into_rest(self) -> Bits
+        ensures rest { result ≡ self }
+        ensures rising { IsRising result.places }
+    {
+        let BitPlaces { mut words, next } = self;
+        words::leave_from(&mut words, next);
+        Bits::of_words(words)
+    }
+
     // Passes all before `place`.
     fn pass(&mut self, place: u32)
-        ensures rising { IsRising self.old }
-        ensures moved { self.new ≡ from_place place self.old }
+        ensures rising { IsRising self.old.places }
+        ensures moved { self.new ≡ with_places (from_place place self.old.places) self.old }
     {
         if self.next < place as u64 {
             self.next = place as u64;
@@ -48,15 +59,23 @@ impl BitPlaces {
 }
 
 impl Places for BitPlaces {
-    ghost left = { λ p. p };
+    ghost left = { λ p. p.places };
 
-    fn next(&mut self) -> Option<u32> {
+    fn next(&mut self) -> Option<u32>
+        ensures rising { IsRising self.old.places }
+        ensures next { IsNext result self.old.places self.new.places }
+        ensures words { self.new.words ≡ self.old.words }
+    {
         let place = first_from(&self.words, self.next)?;
         self.next = place as u64 + 1;
         Some(place)
     }
 
-    fn seek(&mut self, place: u32) -> Option<u32> {
+    fn seek(&mut self, place: u32) -> Option<u32>
+        ensures rising { IsRising self.old.places }
+        ensures next { IsNext result (from_place place self.old.places) self.new.places }
+        ensures words { self.new.words ≡ self.old.words }
+    {
         self.pass(place);
         self.next()
     }

@@ -1,5 +1,5 @@
 //! Operations on words, place by place.
-ghost use Rattle.std.specs.Prelude.{◌≡◌, ◌==◌, ◌<◌, ◌≤◌, ◌*◌, ◌&&◌, ◌||◌, not, [], ℕ, filter, length, nat_lt};
+ghost use Rattle.std.specs.Prelude.{◌≡◌, ◌==◌, ◌<◌, ◌≤◌, ◌*◌, ◌&&◌, ◌||◌, not, [], ℕ, filter, length, nat_le, nat_lt};
 ghost use Rattle.std.specs.Int.{bit_at};
 ghost use Rattle.std.specs.List.{range_with_len};
 ghost use Rattle.seg_postings.specs.Rising.{IsRising, is_in};
@@ -26,6 +26,20 @@ pub(crate) fn leave(words: &mut [u64], other: &[u64])
 {
     for k in 0..words.len() {
         words[k] &= !other[k];
+    }
+}
+
+/// Leaves the places from one on.
+pub(crate) fn leave_from(words: &mut [u64], from: u64)
+    ensures len { length words.new ≡ length words.old }
+    ensures left { (n : ℕ) → has words.new n ≡ (has words.old n && nat_le from n) }
+{
+    let start = (from / 64).min(words.len() as u64) as usize;
+    for k in 0..start {
+        words[k] = 0;
+    }
+    if start < words.len() {
+        words[start] &= u64::MAX << (from % 64);
     }
 }
 
