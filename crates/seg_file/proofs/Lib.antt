@@ -4,3 +4,4 @@ pub mod Parts
 pub mod Search
 pub mod Opened
 pub mod PlacesOf
+pub mod Columns

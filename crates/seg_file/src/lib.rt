@@ -3,7 +3,9 @@
 
 mod fronts;
 mod segment;
+mod segment_bytes;
 
+pub use counted_column::Column;
 pub use seg_grammar::SegFault;
 pub use seg_postings::Ords;
 pub use seg_terms::Entry;

@@ -6,36 +6,48 @@ ghost use Rattle.seg_grammar.specs.declared.fault.SegFault.TheVariants.{NoMemory
 ghost use Rattle.seg_grammar.specs.Spelling.{IsRecord, IsSegment, seg_bytes, TermsRise};
 ghost use Rattle.seg_grammar.specs.Reading.{Fails, segment_at};
 ghost use Rattle.seg_grammar.specs.Lookups.{record_of, places_of_term};
-ghost use Rattle.seg_file.specs.Fronts.{BeginsRecord, BeginsCounted, BeginsTerm};
 ghost use Rattle.seg_file.specs.Search.{term_of, IsFirstFrom};
 
-use crate::fronts::{cursor_at, list_front, places_front, text_front};
-use facet_codec::Cursor;
+use crate::segment_bytes::SegmentBytes;
+use counted_column::Column;
 use facet_names::NoMemory;
-use seg_grammar::{Index, SegFault, read_index};
+use seg_grammar::SegFault;
 use seg_postings::{Ords, Postings};
-use seg_terms::{Entry, terms_of};
-use seg_writing::write_segment;
-use std::alloc::Global;
+use seg_terms::Entry;
+use std::alloc::{AllocError, Global};
 use std::marker::Model;
 
 /// Documents and their terms, as bytes that are read where they stand. Beside the bytes it keeps where their parts begin, 16 bytes a document and 8 a
-/// term. No reader copies or takes memory.
+/// term, and a column of the counted ordinals: a map of a bit a document for each ordinal that at least one document in 64 has, at most 64 for each
+/// counted ordinal of a document, so 4.5 to 5 bytes a document where documents share their labels, and 4 bytes for each other counted ordinal. No reader
+/// copies or takes memory.
 #[derive(Drop)]
 pub struct Segment {
-    bytes: Vec<u8>,
-    index: Index,
+    stored: SegmentBytes,
+    column: Column,
 }
 
 impl Model for Segment {
+    ghost use Rattle.std.specs.Prelude.{◌≡◌, map};
     ghost use Rattle.facet_model.specs.Stored.{Records};
-    ghost use Rattle.seg_file.specs.Decoded.{decoded, IsIndexed};
 
     ghost Value = { Records };
 
-    ghost view = { λ s. decoded s.bytes.items };
+    ghost view = { λ s. s.stored };
 
-    ghost invariant = { λ s. IsIndexed (decoded s.bytes.items) s.bytes.items s.index };
+    ghost invariant = { λ s. s.column ≡ map (λ r. r.counted) s.stored.records };
+}
+
+// The counted ordinals of each document, as a column. In between it takes 16 bytes a document.
+fn column_of(alloc: Global, stored: &SegmentBytes) -> Result<Column, AllocError>
+    ensures { IfOk result (λ c. c ≡ map (λ r. r.counted) stored.now.records) }
+{
+    let docs = stored.docs();
+    let mut lists = Vec::with_capacity(alloc, docs as usize)?;
+    for doc in 0..docs {
+        lists.push(stored.counted(doc))?;
+    }
+    Column::of(alloc, &lists)
 }
 
 impl Segment {
@@ -47,12 +59,9 @@ impl Segment {
         requires few { length entries.now ≤ 1000000 }
         ensures { IfOk result (λ s. s ≡ record { records = map stored_of entries.now; terms = terms_of (map (λ e. e.doc) entries.now) }) }
     {
-        let terms = terms_of(alloc, entries)?;
-        let written = write_segment(alloc, entries, &terms)?;
-        Ok(Segment {
-            bytes: written.bytes,
-            index: written.index,
-        })
+        let stored = SegmentBytes::build(alloc, entries)?;
+        let column = column_of(alloc, &stored)?;
+        Ok(Segment { stored, column })
     }
 
     /// The segment that the bytes are. They are read once from left to right, and kept.
@@ -61,8 +70,9 @@ impl Segment {
         ensures only { (r : Records) → IsSegment bytes.items r → MatchResult result (λ s. s ≡ r) (λ e. e ≡ Memory) }
         ensures fault { IfErr result (λ e. Fails e (segment_at bytes.items)) }
     {
-        let index = read_index(alloc, &bytes)?;
-        Ok(Segment { bytes, index })
+        let stored = SegmentBytes::open(alloc, bytes)?;
+        let column = column_of(alloc, &stored)?;
+        Ok(Segment { stored, column })
     }
 
     /// The bytes.
@@ -70,7 +80,7 @@ impl Segment {
         ensures bytes { result.now ≡ seg_bytes self.now }
         ensures is { IsSegment (seg_bytes self.now) self.now }
     {
-        self.bytes.as_slice()
+        self.stored.bytes()
     }
 
     /// How many documents there are, 1 to 1,000,000.
@@ -78,7 +88,7 @@ impl Segment {
         ensures number { result ≡ length self.now.records }
         ensures is { IsSegment (seg_bytes self.now) self.now }
     {
-        self.index.records.len() as u32
+        self.stored.docs()
     }
 
     /// The id of a document.
@@ -87,8 +97,7 @@ impl Segment {
         ensures id { result.now ≡ (record_of self.now doc).id }
         ensures fits { IsRecord (record_of self.now doc) }
     {
-        let mut cursor = self.record(doc);
-        text_front(&mut cursor)
+        self.stored.id(doc)
     }
 
     /// The text of a document.
@@ -96,9 +105,7 @@ impl Segment {
         requires { doc < length self.now.records }
         ensures { result.now ≡ (record_of self.now doc).text }
     {
-        let mut cursor = self.record(doc);
-        text_front(&mut cursor);
-        text_front(&mut cursor)
+        self.stored.text(doc)
     }
 
     /// The ordinals of a document's labels, in the order given.
@@ -106,10 +113,7 @@ impl Segment {
         requires { doc < length self.now.records }
         ensures { result ≡ (record_of self.now doc).leaves }
     {
-        let mut cursor = self.record(doc);
-        text_front(&mut cursor);
-        text_front(&mut cursor);
-        list_front(&mut cursor)
+        self.stored.leaves(doc)
     }
 
     /// The ordinals that are counted for a document, rising, at most 8,192. It goes straight to them.
@@ -117,8 +121,7 @@ impl Segment {
         requires { doc < length self.now.records }
         ensures { result ≡ (record_of self.now doc).counted }
     {
-        let mut cursor = self.counted_list(doc);
-        list_front(&mut cursor)
+        self.stored.counted(doc)
     }
 
     /// The documents that have a term, rising, or None exactly where there is no such term. It bisects, so it looks at about the logarithm of the number
@@ -126,14 +129,7 @@ impl Segment {
     pub fn postings(&self, term: &str) -> Option<Postings<'_>>
         ensures { result ≡ places_of_term self.now.terms term.now }
     {
-        let at = self.first_from(term);
-        if at == self.terms() {
-            return None;
-        }
-        if self.term_text(at) != term {
-            return None;
-        }
-        Some(self.places(at))
+        self.stored.postings(term)
     }
 
     /// How many terms there are.
@@ -141,7 +137,7 @@ impl Segment {
         ensures number { result ≡ length self.now.terms }
         ensures rise { TermsRise None self.now.terms }
     {
-        self.index.terms.len()
+        self.stored.terms()
     }
 
     /// How many terms come before the text. It bisects.
@@ -150,17 +146,7 @@ impl Segment {
         ensures within { result ≤ length self.now.terms }
         ensures rise { TermsRise None self.now.terms }
     {
-        let mut low = 0;
-        let mut high = self.terms();
-        while low < high {
-            let middle = low + (high - low) / 2;
-            if self.term_text(middle) < text {
-                low = middle + 1;
-            } else {
-                high = middle;
-            }
-        }
-        low
+        self.stored.first_from(text)
     }
 
     /// The text of a term.
@@ -168,8 +154,7 @@ impl Segment {
         requires { at < length self.now.terms }
         ensures { result.now ≡ (term_of self.now.terms at).0 }
     {
-        let mut cursor = self.term(at);
-        text_front(&mut cursor)
+        self.stored.term_text(at)
     }
 
     /// The places of a term.
@@ -177,32 +162,13 @@ impl Segment {
         requires { at < length self.now.terms }
         ensures { result ≡ (term_of self.now.terms at).1 }
     {
-        let mut cursor = self.term(at);
-        text_front(&mut cursor);
-        places_front(&mut cursor)
+        self.stored.places(at)
     }
 
-    // A cursor at a term.
-    fn term(&self, at: usize) -> Cursor<'_>
-        requires { at < length self.now.terms }
-        ensures { BeginsTerm (length self.now.records) result.rest (term_of self.now.terms at) }
+    /// The counted ordinals of all documents.
+    pub fn column(&self) -> &Column
+        ensures { result.now ≡ map (λ r. r.counted) self.now.records }
     {
-        cursor_at(self.bytes.as_slice(), self.index.terms[at])
-    }
-
-    // A cursor at a record.
-    fn record(&self, doc: u32) -> Cursor<'_>
-        requires { doc < length self.now.records }
-        ensures { BeginsRecord result.rest (record_of self.now doc) }
-    {
-        cursor_at(self.bytes.as_slice(), self.index.records[doc as usize])
-    }
-
-    // A cursor at the counted ordinals of a record.
-    fn counted_list(&self, doc: u32) -> Cursor<'_>
-        requires { doc < length self.now.records }
-        ensures { BeginsCounted result.rest (record_of self.now doc) }
-    {
-        cursor_at(self.bytes.as_slice(), self.index.counted[doc as usize])
+        &self.column
     }
 }

@@ -1,0 +1,26 @@
+use Rattle.std.proofs.Common.{◌≡◌, ◌++◌, ℕ, List, drop, length, ap, subst, ◌∙◌, arith}
+use Rattle.facet_model.specs.Stored.{Records}
+use Rattle.seg_grammar.specs.Spelling.{term_bytes, IsTerm}
+use Rattle.seg_file.specs.Search.{term_of}
+use Rattle.seg_file.specs.Decoded.{IsIndexed}
+use Rattle.seg_file.proofs.Marks.{terms_count, term_mark, fits_at}
+use Rattle.seg_file.proofs.segment_bytes.SegmentBytes.term.Goals as goal
+
+pub index-requires : goal.index-requires
+index-requires c =
+    let h = subst (λ (r : Records). IsIndexed r c.self.inside.bytes.items c.self.inside.index) c.self.view_is c.self.invariant in
+    omega (arith, c.self.inside.index.terms.ok.0, terms_count c.args.self.now c.self.inside.bytes.items c.self.inside.index h)
+
+pub cursor_at-requires : goal.cursor_at-requires
+cursor_at-requires c =
+    let h = subst (λ (r : Records). IsIndexed r c.self.inside.bytes.items c.self.inside.index) c.self.view_is c.self.invariant in
+    let m = term_mark c.args.self.now c.self.inside.bytes.items c.self.inside.index c.args.at c.index.result.now h c.requires in
+    omega (arith, m.within, c.index.ensures, ap length c.as_slice.ensures.value)
+
+pub returns : goal.returns
+returns c =
+    let bytes = c.self.inside.bytes.items in
+    let h = subst (λ (r : Records). IsIndexed r bytes c.self.inside.index) c.self.view_is c.self.invariant in
+    let m = term_mark c.args.self.now bytes c.self.inside.index c.args.at c.index.result.now h c.requires in
+    let is : c.cursor_at.result.rest ≡ term_bytes (term_of c.args.self.now.terms c.args.at) ++ m.rest = c.cursor_at.ensures ∙ ap (λ (bs : List ℕ). drop c.index.result.now bs) c.as_slice.ensures.value ∙ ap (λ (n : ℕ). drop n bytes) c.index.ensures ∙ m.is in
+    record { tail = m.rest; is = is; fits = fits_at (IsTerm (length c.args.self.now.records)) c.args.self.now.terms c.args.at _ h.segment.terms c.requires; few = omega (arith, h.segment.few) }
