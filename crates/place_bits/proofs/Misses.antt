@@ -150,6 +150,7 @@ all_near base all (d ∷ ds) [] new twos h missed left = absurd missed
 all_near base all (d ∷ ds) (m ∷ ms) [] twos h missed left = absurd left
 all_near base all (d ∷ ds) (m ∷ ms) (x ∷ xs) twos h missed left = (
   record {
+    words = left.0.words ∙ missed.0.words;
     members = λ n. left.0.members n ∙ ap (λ b. b && not (is_in n twos)) (missed.0.members n) ∙ near_left (is_in n base) (is_in n d.places) (is_in n twos) (fails all n) (h n);
     rising = left.0.rising;
   },

@@ -14,6 +14,7 @@ HaveWords words dims = AllByRecursion (λ d. d.words ≡ words) dims
 
 -- The new set has the near misses of the old: the places of the base that it lacks and no other of the sets does, which rise.
 pub record IsNear (base : List ℕ) (dims : List Marked) (old new : Marked) : Type 0 where
+  pub words : new.words ≡ old.words
   pub members : (n : ℕ) → is_in n new.places ≡ (is_in n base && (not (is_in n old.places) && nat_le (fails dims n) 1))
   pub rising : IsRising new.places
 
@@ -24,5 +25,6 @@ pub record IsMissed (base : List ℕ) (old new : Marked) : Type 0 where
 
 -- The new set has the places of the old one that are not among the others.
 pub record IsLeftBy (others : List ℕ) (old new : Marked) : Type 0 where
+  pub words : new.words ≡ old.words
   pub members : (n : ℕ) → is_in n new.places ≡ (is_in n old.places && not (is_in n others))
   pub rising : IsRising new.places

@@ -13,6 +13,7 @@ pub fn near_misses(base: &mut Bits, dims: &mut [Bits], ones: &mut Bits, twos: &m
     requires dims { HaveWords base.old.words dims.old }
     requires ones { ones.old ≡ empty_set base.old.words }
     requires twos { twos.old ≡ empty_set base.old.words }
+    ensures words { base.new.words ≡ base.old.words }
     ensures hits { (n : ℕ) → is_in n base.new.places ≡ (is_in n base.old.places && fails dims.old n == 0) }
     ensures rising { IsRising base.new.places }
     ensures near { AllZip (IsNear base.old.places dims.old) dims.old dims.new }

@@ -11,7 +11,7 @@ leave-requires c = words_here (IsLeftBy c.args.other.now.places) c.args.other.no
 
 pub loop-k-preserved : goal.loop-k-preserved
 loop-k-preserved c = changed_more (IsLeftBy c.args.other.now.places) c.loop-k.k c.loop-k.dims c.args.dims.now _ _ c.index-dims-k.result c.loop-k.invariant (omega (arith, c.loop-k.invariant.len)) refl
-    (record { members = c.leave.ensures.left; rising = c.leave.ensures.rising })
+    (record { words = c.leave.ensures.words; members = c.leave.ensures.left; rising = c.leave.ensures.rising })
 
 pub returns : goal.returns
 returns c = all_changed _ _ _ _ c.loop-k.invariant (omega (arith, c.loop-k.invariant.len))
