@@ -1,5 +1,5 @@
 -- Nodes all of which a document has to have, one dimension of a drill after the other.
-use Rattle.std.proofs.Common.{◌≡◌, ℕ, zero, suc, ◌+◌, ◌-◌, ◌<◌, Bool, true, false, List, [], ◌∷◌, ◌++◌, length, take, get_or, Option, Some, None, refl, sym, ap, subst, ◌∙◌, arith}
+use Rattle.std.proofs.Common.{◌≡◌, ℕ, zero, suc, ◌+◌, ◌<◌, Bool, true, false, List, [], ◌∷◌, ◌++◌, length, take, get_or, Option, Some, None, refl, sym, ap, subst, ◌∙◌, arith}
 use Rattle.std.specs.Prelude.{◌||◌, ◌&&◌, not, slice_get, unwrap_or}
 use Rattle.std.specs.List.{list_any, list_all, range_with_len, All, AllByRecursion}
 use Rattle.std.specs.Option.{option_map_or}
@@ -151,11 +151,6 @@ module _ (drill : List (List (List ℕ))) (lift : Option (List ℕ)) where
 
 pub dim_at : (drill : List (List (List ℕ))) (i : ℕ) (path : List (List ℕ)) (dim : List ℕ) → i < length drill → path ≡ get_or drill i path → slice_get path 0 ≡ Some dim → dim_of (get_or drill i []) ≡ dim
 dim_at drill i path dim lt is at = ap dim_of (get_or_from_slice_get drill i path [] (slice_get_read drill (length drill) i path refl lt is)) ∙ ap (λ o. unwrap_or o []) at
-
--- without a node the part has all records
-pub every_left : (segment : Records) (docs : List Doc) (test : Doc → Bool) (nodes : List Planned) → length segment.records ≡ length docs → length nodes ≡ 0 → AreAllOf docs test nodes → range_with_len 0 (length segment.records - 0) ≡ places test docs
-every_left segment docs test [] long none all = let whole : length segment.records - 0 ≡ length docs = omega (arith, long) in ap (range_with_len 0) whole ∙ all_pass docs test all
-every_left segment docs test (p ∷ ps) long none all = absurd (omega arith)
 
 -- one node alone
 pub one_left : (docs : List Doc) (test : Doc → Bool) (p : Planned) → AreAllOf docs test (p ∷ []) → p.left ≡ places test docs

@@ -18,7 +18,7 @@ use Rattle.plan_places.specs.Planned.{Planned}
 use Rattle.query_eval.proofs.Marks.{at, is_in_places, are_places, same_places}
 use Rattle.query_eval.specs.Segments.{HasTermsOf}
 use Rattle.seg_postings.specs.Rising.{IsRising, is_in}
-use Rattle.sideways.specs.Counted.{AreNodesFor, AreWithin, IsMarkedBy, fails_alone, is_drilled, passes_tests}
+use Rattle.sideways.specs.Counted.{AreNodesFor, IsMarkedBy, IsSetWithin, fails_alone, is_drilled, passes_tests}
 use Rattle.sideways.specs.Kept.{AreDistinct, HasNear, IsGivenSet, IsGivenSets, dim_in}
 use Rattle.sideways.specs.declared.pass.LiftedPass.{LiftedPass}
 use Rattle.sideways.proofs.Misses.{near_test, test_of}
@@ -29,6 +29,12 @@ have_words docs [] [] are = tt
 have_words docs [] (s ∷ ss) are = absurd are
 have_words docs (p ∷ ps) [] are = absurd are
 have_words docs (p ∷ ps) (s ∷ ss) are = (are.0.words, have_words docs ps ss are.1)
+
+pub near_words : (words : ℕ) (base : List ℕ) (all olds news : List Marked) → HaveWords words olds → AllZip (IsNear base all) olds news → HaveWords words news
+near_words words base all [] [] have near = tt
+near_words words base all [] (n ∷ ns) have near = absurd near
+near_words words base all (o ∷ os) [] have near = absurd near
+near_words words base all (o ∷ os) (n ∷ ns) have near = (near.0.words ∙ have.0, near_words words base all os ns have.1 near.1)
 
 module _ (among : List Doc) where
   -- the set has the places of the documents that pass
@@ -97,16 +103,17 @@ module _ (among : List Doc) where
 
 -- ---- within the segment
 
-pub within_at : (segment : Records) (sets : List Marked) (i : ℕ) (s : Marked) → AllByRecursion (λ x. AreWithin segment x.places) sets → i < length sets → s ≡ get_or sets i s → AreWithin segment s.places
+pub within_at : (segment : Records) (sets : List Marked) (i : ℕ) (s : Marked) → AllByRecursion (IsSetWithin segment) sets → i < length sets → s ≡ get_or sets i s → IsSetWithin segment s
 within_at segment [] i s all lt is = absurd (omega arith)
-within_at segment (x ∷ xs) zero s all lt is = subst (λ (m : Marked). AreWithin segment m.places) (sym is) all.0
+within_at segment (x ∷ xs) zero s all lt is = subst (IsSetWithin segment) (sym is) all.0
 within_at segment (x ∷ xs) (suc i) s all lt is = within_at segment xs i s all.1 (omega arith) is
 
-pub each_within : (segment : Records) (docs : List Doc) (f : (Doc → Bool) → Doc → Bool) (ts : List (Doc → Bool)) (sets : List Marked) → length segment.records ≡ length docs → AllZip (λ t s. s.places ≡ places (f t) docs) ts sets → AllByRecursion (λ s. AreWithin segment s.places) sets
-each_within segment docs f [] [] long are = tt
-each_within segment docs f [] (s ∷ ss) long are = absurd are
-each_within segment docs f (t ∷ ts) [] long are = absurd are
-each_within segment docs f (t ∷ ts) (s ∷ ss) long are = (within_docs segment docs (f t) s.places long are.0, each_within segment docs f ts ss long are.1)
+pub each_within : (segment : Records) (docs : List Doc) (f : (Doc → Bool) → Doc → Bool) (ts : List (Doc → Bool)) (sets : List Marked) → length segment.records ≡ length docs → HaveWords ((length segment.records + 63) / 64) sets
+    → AllZip (λ t s. s.places ≡ places (f t) docs) ts sets → AllByRecursion (IsSetWithin segment) sets
+each_within segment docs f [] [] long have are = tt
+each_within segment docs f [] (s ∷ ss) long have are = absurd are
+each_within segment docs f (t ∷ ts) [] long have are = absurd are
+each_within segment docs f (t ∷ ts) (s ∷ ss) long have are = (record { words = have.0; within = within_docs segment docs (f t) s.places long are.0 }, each_within segment docs f ts ss long have.1 are.1)
 
 -- ---- a set for each pass
 

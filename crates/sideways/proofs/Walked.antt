@@ -1,16 +1,15 @@
 -- Counting records one after the other.
-use Rattle.std.proofs.Common.{◌≡◌, ℕ, suc, ◌+◌, ◌-◌, ◌<◌, ◌≤◌, true, List, [], ◌∷◌, ◌++◌, length, Option, Some, None, sym, ap, subst, ◌∙◌, arith, append_assoc}
+use Rattle.std.proofs.Common.{◌≡◌, ℕ, zero, suc, ◌+◌, ◌<◌, true, List, [], ◌∷◌, ◌++◌, get_or, length, map, Option, Some, None, refl, sym, ap, subst, ◌∙◌, arith, append_assoc}
 use Rattle.std.specs.Prelude.{◌||◌, ◌==◌, IfSome}
-use Rattle.std.specs.List.{range_with_len}
 use Rattle.std.proofs.Math.Bool.{or-true}
 use Rattle.std.proofs.lemmas.List.{length-append, length-map, map_push}
-use Rattle.std.proofs.lemmas.List.FromFn.{map-range_with_len_more, length-range_with_len}
-use Rattle.facet_model.specs.Stored.{Records}
+use Rattle.facet_model.specs.Stored.{Records, Stored}
 use Rattle.facet_counts.specs.Lists.{IsCounted}
 use Rattle.facet_counts.specs.Tallies.{Tally, HasAdded}
 use Rattle.seg_grammar.specs.Lookups.{record_of}
+use Rattle.place_bits.specs.Words.{Marked}
 use Rattle.seg_postings.specs.Rising.{IsNext, is_in}
-use Rattle.sideways.specs.Counted.{AreCountable, AreWithin, IsGrown, lists_at}
+use Rattle.sideways.specs.Counted.{AreCountable, AreWithin, IsGrown, IsSetWithin, lists_at}
 
 here_is_in : (x : ℕ) (xs : List ℕ) → is_in x (x ∷ xs) ≡ true
 here_is_in x xs = grind arith
@@ -63,24 +62,6 @@ walked_more segment all left rest before now next number place walked is grown =
 pub walked_record : (segment : Records) (all left rest : List ℕ) (before now : Tally) (number place : ℕ) → IsWalked segment all left before now number → left ≡ place ∷ rest → place < length segment.records
 walked_record segment all left rest before now number place walked is = within_first segment place rest (subst (AreWithin segment) is walked.within)
 
--- ---- records in a row
-
-pub row_more : (segment : Records) (before now new : Tally) (next place : ℕ) → next ≤ place → IsGrown before now (lists_at segment (range_with_len next (place - next))) → IsGrown now new ((record_of segment place).counted ∷ [])
-    → IsGrown before new (lists_at segment (range_with_len next (place + 1 - next)))
-row_more segment before now new next place le walked grown =
-    let longer : place + 1 - next ≡ (place - next) + 1 = omega arith in
-    let there : next + (place - next) ≡ place = omega arith in
-    subst (IsGrown before new) (sym (ap (λ n. lists_at segment (range_with_len next n)) longer ∙ map-range_with_len_more (λ p. (record_of segment p).counted) next (place - next) place there))
-    (grown_more before now new (lists_at segment (range_with_len next (place - next))) ((record_of segment place).counted ∷ []) walked grown)
-
-pub row_room : (segment : Records) (before now : Tally) (next place end most : ℕ) → next ≤ place → place < end → before.added + (end - next) ≤ most → IsGrown before now (lists_at segment (range_with_len next (place - next))) → now.added < most
-row_room segment before now next place end most le lt room walked =
-    omega (arith, walked.number, length-map (range_with_len next (place - next)) (λ p. (record_of segment p).counted), length-range_with_len next (place - next))
-
--- the places from one on are it and those behind it
-pub row_next : (next end : ℕ) → next < end → range_with_len next (end - next) ≡ next ∷ range_with_len (next + 1) (end - (next + 1))
-row_next next end lt = let longer : end - next ≡ suc (end - (next + 1)) = omega arith in ap (range_with_len next) longer
-
 -- ---- the next place of a list
 
 pub next_within : (segment : Records) (r : Option ℕ) (old new : List ℕ) → AreWithin segment old → IsNext r old new → AreWithin segment new
@@ -90,3 +71,29 @@ next_within segment (Some x) old new within next = within_rest segment x new (su
 pub next_record : (segment : Records) (r : Option ℕ) (old new : List ℕ) → AreWithin segment old → IsNext r old new → IfSome r (λ place. place < length segment.records)
 next_record segment None old new within next = tt
 next_record segment (Some x) old new within next = within_first segment x new (subst (AreWithin segment) next within)
+
+pub next_set : (segment : Records) (r : Option ℕ) (old new : Marked) → IsSetWithin segment old → IsNext r old.places new.places → new.words ≡ old.words → IsSetWithin segment new
+next_set segment r old new within next words = record { words = words ∙ within.words; within = next_within segment r old.places new.places within.within next }
+
+-- ---- by the column
+
+-- the list of a place is that of its record
+pub list_at : (segment : Records) (column : List (List ℕ)) (n : ℕ) → column ≡ map (λ r. r.counted) segment.records → get_or column n [] ≡ (record_of segment n).counted
+list_at segment column n is = ap (λ (lists : List (List ℕ)). get_or lists n []) is ∙ counted_at segment.records n
+  where
+    counted_at : (rs : List Stored) (n : ℕ) → get_or (map (λ (r : Stored). r.counted) rs) n [] ≡ (get_or rs n (record { id = []; text = []; leaves = []; counted = [] })).counted
+    counted_at [] n = refl
+    counted_at (r ∷ rs) zero = refl
+    counted_at (r ∷ rs) (suc n) = counted_at rs n
+
+pub lists_in : (segment : Records) (column : List (List ℕ)) (places : List ℕ) → column ≡ map (λ r. r.counted) segment.records → map (λ n. get_or column n []) places ≡ lists_at segment places
+lists_in segment column places is i = map (λ n. list_at segment column n is i) places
+
+pub grown_by_column : (segment : Records) (column : List (List ℕ)) (places : List ℕ) (a b : Tally) → column ≡ map (λ r. r.counted) segment.records
+    → ((lists : List (List ℕ)) → HasAdded a lists → HasAdded b (lists ++ map (λ n. get_or column n []) places)) → b.added ≡ a.added + length places → b.labels ≡ a.labels → b.config ≡ a.config → IsGrown a b (lists_at segment places)
+grown_by_column segment column places a b is added number labels config = record {
+  added = λ before has. subst (λ (lists : List (List ℕ)). HasAdded b (before ++ lists)) (lists_in segment column places is) (added before has);
+  number = number ∙ omega (arith, length-map places (λ place. (record_of segment place).counted));
+  labels = labels;
+  config = config;
+}

@@ -89,6 +89,11 @@ pub record AreWithin (segment : Records) (places : List ℕ) : Type 0 where
   pub rising : IsRising places
   pub within : (n : ℕ) → is_in n places ≡ true → n < length segment.records
 
+-- The set has room for the documents of the segment, and at each of its places there is a record.
+pub record IsSetWithin (segment : Records) (set : Marked) : Type 0 where
+  pub words : set.words ≡ (length segment.records + 63) / 64
+  pub within : AreWithin segment set.places
+
 -- the part is of this segment, and has the documents that pass
 pub record IsPartOf (test : Doc → Bool) (segment : Records) (part : PartLeft) : Type 0 where
   pub same : part.segment ≡ segment

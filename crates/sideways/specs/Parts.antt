@@ -1,19 +1,18 @@
 -- The records of a segment that a part has left.
-use Rattle.std.specs.Prelude.{ℕ, ◌-◌, ◌≤◌, List, length}
-use Rattle.std.specs.List.{range_with_len}
+use Rattle.std.specs.Prelude.{ℕ, List, []}
 use Rattle.facet_model.specs.Stored.{Records}
-use Rattle.sideways.specs.Counted.{AreWithin}
+use Rattle.sideways.specs.Counted.{AreWithin, IsSetWithin}
 use Rattle.sideways.specs.declared.part.Left.{Left}
-use Rattle.sideways.specs.declared.part.Left.TheVariants.{From, At, Marked}
+use Rattle.sideways.specs.declared.part.Left.TheVariants.{At, Marked, Nothing}
 
 -- their places
-abbrev pub left_of : Records → Left → List ℕ
-left_of segment (From next) = range_with_len next (length segment.records - next)
-left_of segment (At places) = places
-left_of segment (Marked places) = places
+abbrev pub left_of : Left → List ℕ
+left_of (At places) = places
+left_of (Marked set) = set.places
+left_of Nothing = []
 
 -- each of them is there
 abbrev pub IsLeft : Records → Left → Type 0
-IsLeft segment (From next) = next ≤ length segment.records
 IsLeft segment (At places) = AreWithin segment places
-IsLeft segment (Marked places) = AreWithin segment places
+IsLeft segment (Marked set) = IsSetWithin segment set
+IsLeft segment Nothing = Unit {0}

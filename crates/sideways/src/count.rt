@@ -1,10 +1,10 @@
 //! Counting the records of one segment.
-ghost use Rattle.std.specs.Prelude.{◌≡◌, ◌+◌, ◌-◌, ◌≤◌, ◌<◌, ◌++◌, [], length};
-ghost use Rattle.std.specs.List.{range_with_len};
+ghost use Rattle.std.specs.Prelude.{◌≡◌, ◌+◌, ◌≤◌, ◌++◌, [], length};
 ghost use Rattle.facet_counts.specs.Tallies.{HasAdded};
-ghost use Rattle.sideways.specs.Counted.{AreCountable, AreWithin, lists_at, IsGrown};
+ghost use Rattle.sideways.specs.Counted.{AreCountable, AreWithin, lists_at, IsGrown, IsSetWithin};
 
 use facet_counts::Counter;
+use place_bits::BitPlaces;
 use seg_file::Segment;
 use seg_postings::Places;
 
@@ -29,17 +29,22 @@ pub(crate) fn count_places<P: Places>(
     number
 }
 
-/// Counts all records from a place on, and says how many they are.
-pub(crate) fn count_from(segment: &Segment, next: u32, counter: &mut Counter<'_>) -> u64
+/// Counts the records at the places that are left of a set, and says how many they are: by the maps of the segment's column where they are many, and else
+/// one after the other. It takes no memory.
+pub(crate) fn count_marked(segment: &Segment, places: BitPlaces, counter: &mut Counter<'_>) -> u64
     requires countable { AreCountable counter.old.config counter.old.labels segment.now }
-    requires within { next ≤ length segment.now.records }
-    requires room { counter.old.added + (length segment.now.records - next) ≤ 1000000 }
-    ensures grown { IsGrown counter.old counter.new (lists_at segment.now (range_with_len next (length segment.now.records - next))) }
-    ensures number { result ≡ length segment.now.records - next }
+    requires within { IsSetWithin segment.now places }
+    requires room { counter.old.added + length places.places ≤ 1000000 }
+    ensures grown { IsGrown counter.old counter.new (lists_at segment.now places.places) }
+    ensures number { result ≡ length places.places }
 {
-    let docs = segment.docs();
-    for place in next..docs {
-        counter.add_doc(segment.counted(place));
+    let rest = places.into_rest();
+    let number = rest.len();
+    let column = segment.column();
+    if column.is_quick_for(number) {
+        counter.add_column(column, &rest);
+        return number;
     }
-    (docs - next) as u64
+    let mut places = rest.into_places();
+    count_places(segment, &mut places, counter)
 }

@@ -1,13 +1,14 @@
 //! The parts of one segment: the hits, and for each drilled dimension the documents that it alone leaves out.
-ghost use Rattle.std.specs.Prelude.{◌≡◌, ◌&&◌, ◌∷◌, ◌++◌, [], Bool, ℕ, List, None, IfOk, OnOk, length, map, slice_index_or};
+ghost use Rattle.std.specs.Prelude.{◌≡◌, ◌+◌, ◌/◌, ◌&&◌, ◌∷◌, ◌++◌, [], Bool, ℕ, List, None, IfOk, OnOk, length, map, slice_index_or};
 ghost use Rattle.std.specs.List.{AllByRecursion, AllZip, list_any};
 ghost use Rattle.std.specs.Str.{bytes_eq};
 ghost use Rattle.facet_model.specs.CountedPaths.{places};
 ghost use Rattle.facet_model.specs.Documents.{Doc};
 ghost use Rattle.facet_model.specs.Hits.{passes};
 ghost use Rattle.facet_model.specs.QueryViews.{query_view};
+ghost use Rattle.place_bits.specs.Misses.{HaveWords};
 ghost use Rattle.query_eval.specs.Segments.{HasTermsOf};
-ghost use Rattle.sideways.specs.Counted.{AreAllOf, AreNodesFor, AreWithin, fails_alone, is_drilled, passes_all, passes_tests};
+ghost use Rattle.sideways.specs.Counted.{AreAllOf, AreNodesFor, IsSetWithin, fails_alone, is_drilled, passes_all, passes_tests};
 ghost use Rattle.sideways.specs.Kept.{AreDistinct, HasNear, HasPart, IsGivenSet, IsGivenSets, dim_in};
 
 use crate::common::{are_near_many, in_common, marked_each};
@@ -56,6 +57,8 @@ fn near_sets(
 ) -> Result<NearSets, NoMemory>
     requires { (among : List Doc) × (test : Doc → Bool) × (tests : List (Doc → Bool)) × AreAllOf among test base.items × AreNodesFor among tests dims.items
         × (docs ≡ length among) }
+    ensures hits_words { IfOk result (λ s. s.hits.words ≡ (docs + 63) / 64) }
+    ensures near_words { IfOk result (λ s. HaveWords ((docs + 63) / 64) s.near.items) }
     ensures hits { IfOk result (λ s. (among : List Doc) (test : Doc → Bool) (tests : List (Doc → Bool)) → docs ≡ length among
         → AreAllOf among test base.entry.items → AreNodesFor among tests dims.entry.items
         → s.hits.places ≡ places (λ doc. test doc && passes_tests tests doc) among) }
@@ -77,7 +80,7 @@ fn add_sets<'a>(
     sets: Vec<Bits>,
     lifted: &mut Vec<LiftedPass<'a>>,
 ) -> Result<(), NoMemory>
-    requires within { AllByRecursion (λ set. AreWithin segment.now set.places) sets.items }
+    requires within { AllByRecursion (IsSetWithin segment.now) sets.items }
     requires same { length sets.items ≡ length lifted.old.items }
     ensures { OnOk result (IsGivenSets segment.now sets.items (length sets.items) lifted.old.items lifted.new.items) }
 {

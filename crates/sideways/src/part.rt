@@ -1,13 +1,13 @@
-ghost use Rattle.std.specs.Prelude.{◌≡◌, ◌+◌, ◌-◌, ◌≤◌, ◌<◌, ◌∷◌, [], List, None, length, IfOk, IfSome};
-ghost use Rattle.std.specs.List.{range_with_len};
+ghost use Rattle.std.specs.Prelude.{◌≡◌, ◌+◌, ◌≤◌, ◌<◌, ◌∷◌, [], List, None, length, IfOk, IfSome};
 ghost use Rattle.facet_model.specs.Documents.{Doc};
 ghost use Rattle.facet_model.specs.QueryViews.{query_view};
 ghost use Rattle.query_eval.specs.Segments.{HasTermsOf};
 ghost use Rattle.seg_postings.specs.Rising.{IsNext};
-ghost use Rattle.sideways.specs.Counted.{AreCountable, AreWithin, IsGrown, IsPartOf, is_near, lists_at, passes_all};
+ghost use Rattle.sideways.specs.Counted.{AreCountable, IsGrown, IsPartOf, IsSetWithin, is_near, lists_at, passes_all};
+ghost use Rattle.sideways.specs.Parts.{IsLeft, left_of};
 
 use crate::common::{are_many, in_common};
-use crate::count::{count_from, count_places};
+use crate::count::{count_marked, count_places};
 use crate::node::{joined, nodes_of, without_one};
 use facet_counts::Counter;
 use facet_model::Query;
@@ -19,6 +19,7 @@ use seg_file::Segment;
 use seg_postings::Places;
 use std::alloc::Global;
 use std::marker::Model;
+use std::mem;
 
 /// The records of one segment that a pass goes over, those that are left.
 #[derive(Drop)]
@@ -30,12 +31,12 @@ pub(crate) struct Part<'a> {
 /// Which records of a segment are left.
 #[derive(Drop)]
 pub(crate) enum Left<'a> {
-    /// All from a place on.
-    From(u32),
     /// Those at the places of a plan.
     At(PlanPlaces<'a>),
     /// Those at the places of a set.
     Marked(BitPlaces),
+    /// None: all were counted.
+    Nothing,
 }
 
 impl<'a> Model for Part<'a> {
@@ -44,24 +45,24 @@ impl<'a> Model for Part<'a> {
 
     ghost Value = { PartLeft };
 
-    ghost view = { λ p. record { segment = p.segment.now; left = left_of p.segment.now p.left } };
+    ghost view = { λ p. record { segment = p.segment.now; left = left_of p.left } };
 
     ghost invariant = { λ p. IsLeft p.segment.now p.left };
 }
 
-// Takes the first of the places from `next` on that are below `end`.
-fn take_below(next: &mut u32, end: u32) -> Option<u32>
-    requires { next.old ≤ end }
-    ensures next { IsNext result (range_with_len next.old (end - next.old)) (range_with_len next.new (end - next.new)) }
-    ensures within { next.new ≤ end }
-    ensures below { IfSome result (λ place. place < end) }
+// Counts the records that are left of a segment, and says how many they are.
+fn count_left(segment: &Segment, left: Left<'_>, counter: &mut Counter<'_>) -> u64
+    requires countable { AreCountable counter.old.config counter.old.labels segment.now }
+    requires left { IsLeft segment.now left }
+    requires room { counter.old.added + length (left_of left) ≤ 1000000 }
+    ensures grown { IsGrown counter.old counter.new (lists_at segment.now (left_of left.entry)) }
+    ensures number { result ≡ length (left_of left.entry) }
 {
-    let place = *next;
-    if place == end {
-        return None;
+    match left {
+        Left::At(mut places) => count_places(segment, &mut places, counter),
+        Left::Marked(places) => count_marked(segment, places, counter),
+        Left::Nothing => 0,
     }
-    *next = place + 1;
-    Some(place)
 }
 
 impl<'a> Part<'a> {
@@ -76,11 +77,7 @@ impl<'a> Part<'a> {
         ensures { IfOk result (λ p. IsPartOf (passes_all (query_view query.now) drill.now None) segment.now p) }
     {
         let nodes = nodes_of(alloc, segment, query, drill, None)?;
-        if nodes.is_empty() {
-            let left = Left::From(0);
-            return Ok(Part { segment, left });
-        }
-        if are_many(&nodes, segment.docs()) {
+        if nodes.is_empty() || are_many(&nodes, segment.docs()) {
             let common = in_common(alloc, nodes, segment.docs())?;
             return Ok(Part::marked(segment, common));
         }
@@ -109,7 +106,7 @@ impl<'a> Part<'a> {
 
     /// The records at the places of a set.
     pub(crate) fn marked(segment: &'a Segment, set: Bits) -> Part<'a>
-        requires { AreWithin segment.now set.places }
+        requires { IsSetWithin segment.now set }
         ensures segment { result.segment ≡ segment.now }
         ensures left { result.left ≡ set.places }
     {
@@ -124,9 +121,9 @@ impl<'a> Part<'a> {
         ensures within { IfSome result (λ place. place < length self.old.segment.records) }
     {
         match &mut self.left {
-            Left::From(next) => take_below(next, self.segment.docs()),
             Left::At(places) => places.next(),
             Left::Marked(places) => places.next(),
+            Left::Nothing => None,
         }
     }
 
@@ -147,11 +144,8 @@ impl<'a> Part<'a> {
         ensures grown { IsGrown counter.old counter.new (lists_at self.old.segment self.old.left) }
         ensures number { result ≡ length self.old.left }
     {
-        match &mut self.left {
-            Left::From(next) => count_from(self.segment, *next, counter),
-            Left::At(places) => count_places(self.segment, places, counter),
-            Left::Marked(places) => count_places(self.segment, places, counter),
-        }
+        let left = mem::replace(&mut self.left, Left::Nothing);
+        count_left(self.segment, left, counter)
     }
 
     /// How many records the segment has.

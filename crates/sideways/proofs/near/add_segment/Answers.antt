@@ -1,4 +1,4 @@
-use Rattle.std.proofs.Common.{◌≡◌, ◌∙◌, ◌&&◌, ◌∷◌, ◌++◌, ◌<◌, [], List, ℕ, map, length, refl, sym, ap, subst, arith}
+use Rattle.std.proofs.Common.{◌≡◌, ◌∙◌, ◌+◌, ◌/◌, ◌&&◌, ◌∷◌, ◌++◌, ◌<◌, [], List, ℕ, map, length, refl, sym, ap, subst, arith}
 use Rattle.std.specs.List.{AllZip, list_any}
 use Rattle.std.specs.Str.{bytes_eq}
 use Rattle.std.proofs.lemmas.List.{length-map}
@@ -8,6 +8,7 @@ use Rattle.facet_model.specs.Documents.{Doc}
 use Rattle.facet_model.specs.Queries.{QueryTree, matches}
 use Rattle.facet_model.specs.QueryViews.{query_view}
 use Rattle.facet_model.specs.Stored.{Records}
+use Rattle.place_bits.specs.Misses.{HaveWords}
 use Rattle.query_eval.proofs.Marks.{same_places}
 use Rattle.query_eval.proofs.Words.{some_left}
 use Rattle.sideways.specs.Counted.{fails_alone, is_drilled, passes_tests}
@@ -30,8 +31,11 @@ marked-requires c =
     let query : QueryTree = query_view c.args.query.now in
     let tests = map (test_of query c.args.drill.now) c.deref.result.now in
     let long : c.docs-then-are_near_many.result ≡ length docs = c.docs-then-are_near_many.ensures.number ∙ c.requires.has.1.records in
-    within_docs c.args.segment.now docs (λ doc. matches query doc && passes_tests tests doc) c.in_ok-sets.sets.hits.places c.requires.has.1.records
-    (c.in_ok-sets.ensures.hits docs (matches query) tests long (c.in_ok-base.ensures docs c.requires.has.1) (c.in_ok-dims.ensures docs c.requires.has.1))
+    record {
+      words = c.in_ok-sets.ensures.hits_words ∙ ap (λ n. (n + 63) / 64) c.docs-then-are_near_many.ensures.number;
+      within = within_docs c.args.segment.now docs (λ doc. matches query doc && passes_tests tests doc) c.in_ok-sets.sets.hits.places c.requires.has.1.records
+          (c.in_ok-sets.ensures.hits docs (matches query) tests long (c.in_ok-base.ensures docs c.requires.has.1) (c.in_ok-dims.ensures docs c.requires.has.1));
+    }
 
 pub add_sets-requires-clause-within : goal.add_sets-requires-clause-within
 add_sets-requires-clause-within c =
@@ -40,6 +44,7 @@ add_sets-requires-clause-within c =
     let tests = map (test_of query c.args.drill.now) c.deref.result.now in
     let long : c.docs-then-are_near_many.result ≡ length docs = c.docs-then-are_near_many.ensures.number ∙ c.requires.has.1.records in
     each_within c.args.segment.now docs (λ t doc. matches query doc && fails_alone tests t doc) tests c.in_ok-sets.sets.near.items c.requires.has.1.records
+    (subst (λ n. HaveWords ((n + 63) / 64) c.in_ok-sets.sets.near.items) c.docs-then-are_near_many.ensures.number c.in_ok-sets.ensures.near_words)
     (c.in_ok-sets.ensures.near docs (matches query) tests long (c.in_ok-base.ensures docs c.requires.has.1) (c.in_ok-dims.ensures docs c.requires.has.1))
 
 pub add_sets-requires-clause-same : goal.add_sets-requires-clause-same

@@ -1,4 +1,4 @@
-use Rattle.std.proofs.Common.{◌≡◌, ◌∙◌, ◌&&◌, Bool, length, ap, sym, subst, arith}
+use Rattle.std.proofs.Common.{◌≡◌, ◌∙◌, ◌+◌, ◌/◌, ◌&&◌, Bool, length, ap, sym, subst, arith}
 use Rattle.std.specs.Vec.{with_items}
 use Rattle.std.proofs.lemmas.List.{with_items_is}
 use Rattle.std.proofs.lemmas.Slice.Zip.{AllZip-long}
@@ -8,7 +8,7 @@ use Rattle.std.specs.List.{AllZip}
 use Rattle.place_bits.specs.Misses.{HaveWords}
 use Rattle.place_bits.specs.Words.{Marked, empty_set}
 use Rattle.sideways.specs.Counted.{IsMarkedBy, fails_alone}
-use Rattle.sideways.proofs.Sets.{have_words, hits_are, nears_are, sets_of}
+use Rattle.sideways.proofs.Sets.{have_words, hits_are, near_words, nears_are, sets_of}
 use Rattle.sideways.proofs.Shared.{nodes_for_among}
 use Rattle.sideways.proofs.near.near_sets.Goals as goal
 
@@ -26,6 +26,16 @@ near_misses-requires c =
       ones = c.in_ok-ones.ensures ∙ ap empty_set (sym c.in_ok-hits.ensures.words);
       twos = c.in_ok-twos.ensures ∙ ap empty_set (sym c.in_ok-hits.ensures.words);
     }
+
+pub returns-clause-hits_words : goal.returns-clause-hits_words
+returns-clause-hits_words c = c.near_misses.ensures.words ∙ c.in_ok-hits.ensures.words
+
+pub returns-clause-near_words : goal.returns-clause-near_words
+returns-clause-near_words c =
+    let marked : AllZip (IsMarkedBy c.args.docs) c.args.dims.items c.deref_mut.result.now = subst (AllZip (IsMarkedBy c.args.docs) c.args.dims.items) (sym c.deref_mut.ensures.value) c.in_ok-near.ensures in
+    let size : length c.near_misses.new.dims ≡ length c.in_ok-near.near.items = AllZip-long _ c.deref_mut.result.now c.near_misses.new.dims c.near_misses.ensures.near ∙ ap length c.deref_mut.ensures.value in
+    let items : (with_items c.in_ok-near.near c.near_misses.new.dims).items ≡ c.near_misses.new.dims = with_items_is c.in_ok-near.near c.near_misses.new.dims (omega (arith, size, c.in_ok-near.near.ok.0)) in
+    subst (HaveWords ((c.args.docs + 63) / 64)) (sym items) (near_words _ _ _ c.deref_mut.result.now c.near_misses.new.dims (have_words c.args.docs c.args.dims.items c.deref_mut.result.now marked) c.near_misses.ensures.near)
 
 pub returns-clause-hits : goal.returns-clause-hits
 returns-clause-hits c = λ among test tests long base dims.

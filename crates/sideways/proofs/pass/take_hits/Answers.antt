@@ -1,4 +1,4 @@
-use Rattle.std.proofs.Common.{◌<◌, ◌∙◌, ◌∷◌, [], length, arith, sym, subst}
+use Rattle.std.proofs.Common.{◌<◌, ◌∷◌, [], length, arith, sym, subst}
 use Rattle.facet_model.specs.Stored.{Records}
 use Rattle.sideways.specs.Counted.{AreCountable, IsGrown, lists_at}
 use Rattle.sideways.proofs.Placed.{taking_more, taking_ready}
