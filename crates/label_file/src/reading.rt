@@ -109,7 +109,7 @@ fn label(labels: &mut Taxonomy, alloc: Global, cursor: &mut Cursor<'_>) -> Resul
     let Some(path) = path_below(labels, alloc, parent, part)? else {
         return Err(LabelsFault::Malformed { at });
     };
-    match labels.add(&path, 1_000_000) {
+    match labels.add_under(path, parent, 1_000_000) {
         Ok(_) => Ok(()),
         Err(TaxoFault::NoMemory) => Err(LabelsFault::NoMemory),
         // The list is not full.

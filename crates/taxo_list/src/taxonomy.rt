@@ -1,4 +1,4 @@
-ghost use Rattle.std.specs.Prelude.{◌≡◌, ◌≢◌, ◌≤◌, [], ◌∷◌, Some, Err, false, length, is_some, IsTrue, IsOk, IfOk, IfErr, OnOk, OnErr};
+ghost use Rattle.std.specs.Prelude.{◌≡◌, ◌≢◌, ◌≤◌, ◌<◌, [], ◌∷◌, Some, Err, false, length, is_some, IsTrue, IsOk, IfOk, IfErr, OnOk, OnErr};
 ghost use Rattle.facet_names.specs.Labels.{GoesOn, IsLabelList, above, place, stands, with_label};
 
 use crate::fault::TaxoFault;
@@ -76,6 +76,39 @@ impl Taxonomy {
         }
     }
 
+    // There are fewer labels than that.
+    fn check_room(&self, limit: u32) -> Result<(), TaxoFault>
+        ensures room { IfOk result (λ _. length self.now < limit) }
+        ensures full { limit ≤ length self.now → result ≡ Err (LabelsFull (length self.now)) }
+        ensures kind { IfErr result (λ e. limit ≤ length self.now) }
+    {
+        let ord = self.size();
+        if ord >= limit {
+            return Err(TaxoFault::LabelsFull { size: ord as u64 });
+        }
+        Ok(())
+    }
+
+    // Puts a label that is not there at the end, under the parent at an ordinal.
+    fn put_last(&mut self, label: Path, parent: u32) -> Result<u32, TaxoFault>
+        requires new { stands self.old label ≡ false }
+        requires room { length self.old < 1000000 }
+        requires parent { place self.old (above label) ≡ Some parent }
+        ensures added { OnOk result (self.new ≡ with_label self.old label) }
+        ensures ordinal { IfOk result (λ ord. place self.new label ≡ Some ord) }
+        ensures stands { OnOk result (IsTrue (stands self.new label)) }
+        ensures list { IsLabelList self.new }
+        ensures goes_on { GoesOn self.old self.new }
+        ensures memory { IfErr result (λ e. e ≡ Memory) }
+        ensures unchanged { OnErr result (self.new ≡ self.old) }
+    {
+        let ord = self.size();
+        self.parents.reserve(1)?;
+        self.labels.insert(label)?;
+        self.parents.push(parent as i32)?;
+        Ok(ord)
+    }
+
     /// The ordinal of a path, which is added at the end where it is not there. Its parent must be there, or the path has one component.
     ///
     /// It takes memory only where the path is new, and after a refusal the list is as before.
@@ -95,16 +128,35 @@ impl Taxonomy {
         if let Some(ord) = self.find(path) {
             return Ok(ord);
         }
-        let ord = self.size();
-        if ord >= limit {
-            return Err(TaxoFault::LabelsFull { size: ord as u64 });
-        }
+        self.check_room(limit)?;
         let parent = self.parent_of(path)?;
         let label = path.dup(self.alloc)?;
-        self.parents.reserve(1)?;
-        self.labels.insert(label)?;
-        self.parents.push(parent as i32)?;
-        Ok(ord)
+        self.put_last(label, parent)
+    }
+
+    /// As [`add`](Taxonomy::add), of a path whose parent stands at a known ordinal. The path itself is kept, so none is copied, and the parent is not looked
+    /// for.
+    pub fn add_under(&mut self, path: Path, parent: u32, limit: u32) -> Result<u32, TaxoFault>
+        requires limit { limit ≤ 1000000 }
+        requires parent { place self.old (above path) ≡ Some parent }
+        ensures added { OnOk result (self.new ≡ with_label self.old path) }
+        ensures ordinal { IfOk result (λ ord. place self.new path ≡ Some ord) }
+        ensures stands { OnOk result (IsTrue (stands self.new path)) }
+        ensures list { IsLabelList self.new }
+        ensures goes_on { GoesOn self.old self.new }
+        ensures there { IsTrue (stands self.old path) → IsOk result }
+        ensures full { stands self.old path ≡ false → limit ≤ length self.old → result ≡ Err (LabelsFull (length self.old)) }
+        ensures refused { IfErr result (λ e. e ≢ Memory → (stands self.old path ≡ false) × (limit ≤ length self.old)) }
+        ensures unchanged { OnErr result (self.new ≡ self.old) }
+    {
+        let _ = &self.labels;
+        match self.find(&path) {
+            Some(ord) => Ok(ord),
+            None => {
+                self.check_room(limit)?;
+                self.put_last(path, parent)
+            }
+        }
     }
 
     /// A view of the list as it stands. It copies every label, so it takes time and memory in proportion to the whole list.
