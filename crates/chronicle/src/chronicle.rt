@@ -169,8 +169,22 @@ impl<V: Standing> Chronicle<V> {
         ensures more { IsPrefix token.old.seen token.new.seen }
         ensures counted { IsCounted token.new }
     {
+        self.enter_lent(token, &entry);
+    }
+
+    /// The same of an entry that stays the caller's: the history takes no memory, so none has to be made for it.
+    pub fn enter_lent(&self, token: &mut Token<V::Entry>, entry: &V::Entry)
+        requires own { token.old.identity ≡ self.now }
+        requires turn { MayEnter token.old }
+        ensures turn { SameToken token.old token.new × (token.new.holds_turn ≡ true) }
+        ensures added { token.new.seen ≡ token.old.seen ++ (token.old.number, entry.now) ∷ [] }
+        ensures entries { entries token.new.seen ≡ entries token.old.seen ++ entry.now ∷ [] }
+        ensures mine { mine token.new ≡ mine token.old ++ (token.old.number, entry.now) ∷ [] }
+        ensures more { IsPrefix token.old.seen token.new.seen }
+        ensures counted { IsCounted token.new }
+    {
         let mut writer = mem::replace(&mut token.badge, Badge::blank()).into_seat();
-        board::add_entry::<V, Brand>(&self.table.shared, &mut writer, &entry);
+        board::add_entry::<V, Brand>(&self.table.shared, &mut writer, entry);
         token.badge = writer.into_badge();
     }
 

@@ -61,7 +61,7 @@ impl<V: Standing> Play<Option<V>, Knowledge<V::Entry>> for Pass {
     ghost then = { Passes };
 }
 
-// Which entry is added. Each call of `Chronicle::enter` picks it.
+// Which entry is added. Each call of `Chronicle::enter_lent` picks it.
 pub(crate) trait Adding<E> {
     ghost added: { Option E };
 }

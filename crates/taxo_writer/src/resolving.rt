@@ -1,4 +1,4 @@
-ghost use Rattle.std.specs.Prelude.{◌≡◌, ◌≢◌, ◌≤◌, ◌++◌, [], ◌∷◌, true, false, length, take, flat_map, Some, IsTrue, IfOk, IfErr, OnOk, OnErr};
+ghost use Rattle.std.specs.Prelude.{◌≡◌, ◌≢◌, ◌≤◌, ◌+◌, ◌++◌, ℕ, [], ◌∷◌, true, false, length, take, slice_index_or, flat_map, Some, IfOk, IfErr, OnOk, OnErr};
 ghost use mathlib.Core.List.{IsPrefix};
 ghost use Rattle.chronicle.specs.History.{numbered};
 ghost use Rattle.chronicle.specs.Shown.{mine, MayEnter, SameToken};
@@ -13,14 +13,24 @@ use chronicle::{Chronicle, Token};
 use facet_model::Resolved;
 use facet_names::Path;
 use std::alloc::Global;
-use taxo_list::{TaxoFault, Taxonomy};
+use taxo_list::{Labelled, TaxoFault, Taxonomy};
 
-// In the holder's turn: the ordinal of a path, which is added and entered where it is not there. Its parent must be there, or it has one component.
+// The ordinal of the parent of a path's prefix, whose ordinals of shorter ones these are: that of the one before it, and the root's before the first.
+fn parent_of(ords: &[u32], n: usize) -> u32
+    requires { n ≤ length ords.now }
+    ensures first { n ≡ 0 → result ≡ 0 }
+    ensures later { (m : ℕ) → n ≡ m + 1 → result ≡ slice_index_or ords.now m 0 }
+{
+    if n == 0 { 0 } else { ords[n - 1] }
+}
+
+// In the holder's turn: the ordinal of a path, which is added and entered where it is not there, under the parent at an ordinal.
 fn add_label(
     labels: &Chronicle<LabelList>,
     token: &mut Token<Path>,
     list: &mut Taxonomy,
     path: Path,
+    parent: u32,
     limit: u32,
 ) -> Result<u32, TaxoFault>
     requires limit { limit ≤ 1000000 }
@@ -28,7 +38,7 @@ fn add_label(
     requires turn { MayEnter token.old }
     requires list { list.old ≡ labels_of token.old.seen }
     requires labels { SeesLabels token.old }
-    requires parent { IsTrue (stands (labels_of token.old.seen) (above path)) }
+    requires parent { place (labels_of token.old.seen) (above path) ≡ Some parent }
     ensures turn { SameToken token.old token.new × (token.new.holds_turn ≡ true) }
     ensures list { list.new ≡ labels_of token.new.seen }
     ensures labels { SeesLabels token.new }
@@ -39,12 +49,12 @@ fn add_label(
     ensures refused { OnErr result (token.new ≡ token.old) }
     ensures full { IfErr result (λ e. e ≢ Memory → HasNoRoom e limit (labels_of token.old.seen) path) }
 {
-    if let Some(ord) = list.find(&path) {
-        return Ok(ord);
-    }
-    match list.add(&path, limit) {
+    let size = list.size();
+    match list.add_under(path, parent, limit) {
         Ok(ord) => {
-            labels.enter(token, path);
+            if ord >= size {
+                labels.enter_lent(token, list.path_of(ord));
+            }
             Ok(ord)
         }
         Err(fault) => Err(fault),
@@ -78,7 +88,8 @@ pub fn add_each(
     let from = ords.len();
     for n in from..path.len() {
         let prefix = path.front(alloc, n + 1)?;
-        match add_label(labels, token, list, prefix, limit) {
+        let parent = parent_of(ords.as_slice(), n);
+        match add_label(labels, token, list, prefix, parent, limit) {
             Ok(ord) => ords.push(ord)?,
             Err(fault) => return Err(fault),
         }

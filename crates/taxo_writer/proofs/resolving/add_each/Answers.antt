@@ -1,11 +1,11 @@
-use Rattle.std.proofs.Common.{rules, arith, ◌≡◌, ◌∙◌, ◌<◌, ◌≤◌, ◌+◌, ◌∷◌, ◌++◌, [], false, List, ℕ, Some, take, length, ap, sym, subst}
-use Rattle.std.proofs.lemmas.List.{take_all}
+use Rattle.std.proofs.Common.{rules, arith, ◌≡◌, ◌∙◌, ◌<◌, ◌≤◌, ◌+◌, ◌∷◌, ◌++◌, [], false, List, ℕ, Some, take, get_or, length, ap, sym, subst}
+use Rattle.std.proofs.lemmas.List.{take_all, length-take-le}
 use Rattle.chronicle.specs.History.{numbered}
 use Rattle.chronicle.specs.Shown.{mine}
 use Rattle.facet_names.specs.Labels.{above, prefixes, stands, place}
 use Rattle.taxo_cache.specs.Seen.{labels_of}
 use Rattle.taxo_writer.specs.Adding.{lacking, HaveOrdinals}
-use Rattle.taxo_writer.proofs.Ordinals.{as_many_prefixes, known_few, none_missing, one_ordinal_more, ordinals_seen, parent_stands, prefix_at, lacks_one}
+use Rattle.taxo_writer.proofs.Ordinals.{as_many_prefixes, known_few, none_missing, one_ordinal_more, ordinals_seen, parent_placed, as_many_ordinals, prefix_at, lacks_one}
 use Rattle.taxo_writer.proofs.Entering.{nothing_yet, so_far, next_so_far}
 use Rattle.taxo_writer.proofs.resolving.add_each.Goals as goal
 
@@ -26,11 +26,21 @@ loop-n-init c =
 pub returns-in_err-prefix-clause-adds : goal.returns-in_err-prefix-clause-adds
 returns-in_err-prefix-clause-adds c = so_far c.args.path.now c.args.limit c.loop-n.n c.args.token.now c.loop-n.token c.loop-n.invariant.entered c.loop-n.invariant.turn.0.0
 
+pub parent_of-parent-requires : goal.parent_of-parent-requires
+parent_of-parent-requires c =
+    let path = c.args.path.now in
+    let lt : c.loop-n.n < length path = omega (arith, c.loop-n-test.true, c.len-n-end.ensures.len) in
+    let size : length (take c.loop-n.n (prefixes path)) ≡ c.loop-n.n = length-take-le c.loop-n.n (prefixes path) (omega (arith, lt, as_many_prefixes path)) in
+    omega (arith, size, as_many_ordinals (labels_of c.loop-n.token.seen) (take c.loop-n.n (prefixes path)) c.loop-n.ords.items c.loop-n.invariant.ordinals)
+
 pub add_label-requires-clause-parent : goal.add_label-requires-clause-parent
 add_label-requires-clause-parent c =
     let path = c.args.path.now in
     let lt : c.loop-n.n < length path = omega (arith, c.loop-n-test.true, c.len-n-end.ensures.len) in
-    ap (λ p. stands (labels_of c.loop-n.token.seen) (above p)) c.in_ok-prefix.ensures ∙ parent_stands c.loop-n.token.seen path c.loop-n.n c.loop-n.ords.items lt c.loop-n.invariant.ordinals
+    let same : c.as_slice.result.now ≡ c.loop-n.ords.items = search rules in
+    ap (λ p. place (labels_of c.loop-n.token.seen) (above p)) c.in_ok-prefix.ensures
+    ∙ parent_placed c.loop-n.token.seen c.loop-n.invariant.labels path c.loop-n.n c.loop-n.ords.items c.parent_of-parent.result lt c.loop-n.invariant.ordinals c.parent_of-parent.ensures.first
+    (λ m next. c.parent_of-parent.ensures.later m next ∙ ap (λ os. get_or os m 0) same)
 
 pub returns-in_err-push-in-Ok-clause-adds : goal.returns-in_err-push-in-Ok-clause-adds
 returns-in_err-push-in-Ok-clause-adds c =

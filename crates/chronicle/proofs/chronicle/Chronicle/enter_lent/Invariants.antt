@@ -1,5 +1,5 @@
 use Rattle.std.proofs.Common.{Some}
-use Rattle.chronicle.proofs.chronicle.Chronicle.enter.Given as goal
+use Rattle.chronicle.proofs.chronicle.Chronicle.enter_lent.Given as goal
 
 -- the entry of this call
 abbrev pub ghosts-add_entry : goal.ghosts-add_entry

@@ -1,5 +1,0 @@
-use Rattle.std.proofs.Common.{rules, ◌∷◌, []}
-use Rattle.chronicle.proofs.chronicle.Chronicle.enter.Goals as goal
-
-pub returns-clause-more : goal.returns-clause-more
-returns-clause-more g c = ((c.args.token.now.number, c.args.entry) ∷ [], search rules)
