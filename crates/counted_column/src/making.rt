@@ -10,6 +10,11 @@ use std::alloc::{AllocError, Global};
 // From here on no ordinal is dense, so that numbers of documents are kept for so many alone.
 const MOST_SLOTS: usize = 1000000;
 
+// Nor is one of fewer documents, which a word would hold. And numbers are kept for so many ordinals at the most for each that a document has, so that a segment
+// of few documents costs nothing by how many labels there are.
+const FEWEST_DOCUMENTS: usize = 64;
+const MOST_SLOTS_EACH: usize = 64;
+
 // How many of the documents have an ordinal that is dense at the least: one in 64.
 fn is_dense(number: u32, docs: u32) -> bool {
     number > 0 && number as u64 * 64 >= docs as u64
@@ -19,15 +24,22 @@ fn is_dense(number: u32, docs: u32) -> bool {
 fn slots_needed(lists: &[Ords<'_>]) -> usize
     ensures { result ≤ 1000000 }
 {
+    if lists.len() < FEWEST_DOCUMENTS {
+        return 0;
+    }
     let mut needed = 0;
+    let mut total: usize = 0;
     for list in lists {
         let number = list.len();
+        total = total.saturating_add(number);
         if number > 0 {
             let last = list.at(number - 1) as usize;
             needed = needed.max(last + 1);
         }
     }
-    needed.min(MOST_SLOTS)
+    needed
+        .min(total.saturating_mul(MOST_SLOTS_EACH))
+        .min(MOST_SLOTS)
 }
 
 // Counts a document at each of its ordinals.
