@@ -47,3 +47,15 @@ pub returns-clause-ok : goal.returns-clause-ok
 returns-clause-ok g c = λ s told listed.
     segments_end c.args.config.now c.args.labels.now c.args.needs (segments_in Index s.files) c.args.parts.now c.loop-part.part-index blank (map arc_value c.loop-part.segments.items)
     (segments_of c.args.config.now c.args.labels.now c.args.needs (segments_in Index s.files) c.args.parts.now) (omega (arith, c.loop-part-test.false)) (c.loop-part.invariant.read s told listed)
+
+pub returns-in_err-keep-clause-read : goal.returns-in_err-keep-clause-read
+returns-in_err-keep-clause-read g c =
+    let kept = c.loop-part.invariant in
+    let read = c.in_ok-segment.ensures.read in
+    record {
+      quiet = goes_on g.D.Disk _ _ _ kept.quiet read.quiet;
+      counted = search rules;
+      still = search rules;
+      unfailed = search rules;
+      sound = search rules;
+    }
