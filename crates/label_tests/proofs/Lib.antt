@@ -1,3 +1,4 @@
 mod Spelled
 mod Below
 mod Made
+mod Rises

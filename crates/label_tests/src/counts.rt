@@ -2,6 +2,7 @@ ghost use Rattle.std.specs.Prelude.{◌≡◌, ◌<◌, true, length, IfOk};
 ghost use Rattle.facet_model.specs.Flags.{flags};
 ghost use Rattle.facet_counts.specs.Lists.{IsCounted, dim_at};
 ghost use Rattle.seg_postings.specs.Bytes.{AreNumbers};
+ghost use Rattle.seg_postings.specs.Rising.{IsRising};
 
 use crate::making::{BOOKS, listed};
 use facet_codec::put_u32;
@@ -15,7 +16,7 @@ use std::test::Fail;
 use taxo_list::{Labelled, TaxoView};
 
 // The flags of one hierarchical dimension.
-fn flags_of(multi_valued: bool, require_dim_count: bool) -> DimFlags {
+pub(crate) fn flags_of(multi_valued: bool, require_dim_count: bool) -> DimFlags {
     DimFlags {
         hierarchical: true,
         multi_valued,
@@ -23,7 +24,7 @@ fn flags_of(multi_valued: bool, require_dim_count: bool) -> DimFlags {
     }
 }
 
-fn config_of(alloc: Global, dim: &str, flags: DimFlags) -> Result<FacetsConfig, Fail> {
+pub(crate) fn config_of(alloc: Global, dim: &str, flags: DimFlags) -> Result<FacetsConfig, Fail> {
     let mut config = FacetsConfig::new(alloc);
     config.declare(dim, flags)?;
     Ok(config)
@@ -38,8 +39,9 @@ fn is_multi_valued(view: &TaxoView, config: &FacetsConfig, ord: u32) -> bool
 }
 
 // Whether the ordinals rise, in dimensions that are multi-valued; one alone may be in any.
-fn may_be_added(view: &TaxoView, config: &FacetsConfig, ords: &[u32]) -> bool
-    ensures { result ≡ true → IsCounted config.now view.now ords.now }
+pub(crate) fn may_be_added(view: &TaxoView, config: &FacetsConfig, ords: &[u32]) -> bool
+    ensures counted { result ≡ true → IsCounted config.now view.now ords.now }
+    ensures rising { result ≡ true → IsRising ords.now }
 {
     let mut last = 0;
     for ord in ords {
@@ -55,7 +57,7 @@ fn may_be_added(view: &TaxoView, config: &FacetsConfig, ords: &[u32]) -> bool
 }
 
 // The bytes of these ordinals.
-fn spelled(alloc: Global, ords: &[u32]) -> Result<Vec<u8>, facet_codec::NoMemory>
+pub(crate) fn spelled(alloc: Global, ords: &[u32]) -> Result<Vec<u8>, facet_codec::NoMemory>
     ensures { IfOk result (λ bytes. AreNumbers bytes.items ords.now) }
 {
     let mut out = Vec::new(alloc);
@@ -88,7 +90,7 @@ fn counts_of<'a>(
 }
 
 // Whether so many documents have these ordinals.
-fn are_counted(view: &TaxoView, counts: &Counts, rows: &[(u32, u32)]) -> bool
+pub(crate) fn are_counted(view: &TaxoView, counts: &Counts, rows: &[(u32, u32)]) -> bool
     requires { counts.now.labels ≡ view.now }
 {
     for (ord, count) in rows {

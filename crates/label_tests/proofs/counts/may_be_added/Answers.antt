@@ -2,6 +2,7 @@ use Rattle.std.proofs.Common.{arith, ap, sym, ◌≡◌, ◌<◌, ◌≤◌, ◌
 use Rattle.std.proofs.lemmas.Bool.{cases_eq}
 use Rattle.facet_model.specs.Flags.{flags}
 use Rattle.facet_counts.specs.Lists.{dim_at}
+use Rattle.label_tests.proofs.Rises.{rises}
 use Rattle.label_tests.proofs.counts.may_be_added.Goals as goal
 use Rattle.label_tests.proofs.counts.may_be_added.Goals.{else-ords-gt1-via-then-ords-gt1+else-not-is_multi_valued, else-ords-gt1-via-else-ords-gt1}
 
@@ -27,3 +28,6 @@ loop-ord-preserved c = (λ i lt. bounds i lt (cases_eq i c.loop-ord.ord-index), 
     several : (i : ℕ) → i < c.loop-ord.ord-index + 1 → 1 < length c.args.ords.now → (i ≡ c.loop-ord.ord-index) ⊎ (i ≡ c.loop-ord.ord-index → ⊥) → (flags c.args.config.now (dim_at c.args.view.now (get_or c.args.ords.now i 0))).multi_valued ≡ true
     several i lt long (inl same) = ap (λ k. (flags c.args.config.now (dim_at c.args.view.now (get_or c.args.ords.now k 0))).multi_valued) same ∙ here long
     several i lt long (inr apart) = c.loop-ord.invariant.2 i (omega arith) long
+
+pub returns-clause-rising : goal.returns-clause-rising
+returns-clause-rising c = λ t. rises c.args.ords.now (λ i j less lt. c.loop-ord.invariant.1 i j less (omega arith))
