@@ -162,8 +162,7 @@ fn check_commit(
     Ok(())
 }
 
-/// The index: the segments of its newest commit, or none. It reads the commit file and each of its segments once, and makes each segment's documents
-/// anew.
+/// The index: the segments of its newest commit, or none. It reads the commit file and each of its segments once.
 pub(crate) fn read_index<D: Disk>(
     alloc: Global,
     disk: &mut D,

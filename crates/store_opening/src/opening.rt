@@ -41,8 +41,8 @@ pub struct Read {
 /// with those that it names. Each of these files is read once and whole; other files are not read. The first fault that is met in this order is
 /// answered.
 ///
-/// It takes the time and the memory of adding all labels, and of adding all documents and building their segments once more. It keeps the labels, the
-/// segments, and the names of all files.
+/// It takes the time and the memory of adding all labels, and for each segment what `open_stored` takes beside its bytes. It keeps
+/// the labels, the segments, and the names of all files.
 pub fn read_store<D: Disk>(
     alloc: Global,
     disk: &mut D,
