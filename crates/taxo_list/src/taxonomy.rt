@@ -76,19 +76,6 @@ impl Taxonomy {
         }
     }
 
-    // There are fewer labels than that.
-    fn check_room(&self, limit: u32) -> Result<(), TaxoFault>
-        ensures room { IfOk result (λ _. length self.now < limit) }
-        ensures full { limit ≤ length self.now → result ≡ Err (LabelsFull (length self.now)) }
-        ensures kind { IfErr result (λ e. limit ≤ length self.now) }
-    {
-        let ord = self.size();
-        if ord >= limit {
-            return Err(TaxoFault::LabelsFull { size: ord as u64 });
-        }
-        Ok(())
-    }
-
     // Puts a label that is not there at the end, under the parent at an ordinal.
     fn put_last(&mut self, label: Path, parent: u32) -> Result<u32, TaxoFault>
         requires new { stands self.old label ≡ false }
@@ -128,7 +115,10 @@ impl Taxonomy {
         if let Some(ord) = self.find(path) {
             return Ok(ord);
         }
-        self.check_room(limit)?;
+        let ord = self.size();
+        if ord >= limit {
+            return Err(TaxoFault::LabelsFull { size: ord as u64 });
+        }
         let parent = self.parent_of(path)?;
         let label = path.dup(self.alloc)?;
         self.put_last(label, parent)
@@ -149,13 +139,14 @@ impl Taxonomy {
         ensures refused { IfErr result (λ e. e ≢ Memory → (stands self.old path ≡ false) × (limit ≤ length self.old)) }
         ensures unchanged { OnErr result (self.new ≡ self.old) }
     {
-        let _ = &self.labels;
+        let size = self.size();
         match self.find(&path) {
             Some(ord) => Ok(ord),
-            None => {
-                self.check_room(limit)?;
+            None => if size >= limit {
+                Err(TaxoFault::LabelsFull { size: size as u64 })
+            } else {
                 self.put_last(path, parent)
-            }
+            },
         }
     }
 
