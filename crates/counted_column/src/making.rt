@@ -13,6 +13,7 @@ const MOST_SLOTS: usize = 1000000;
 // Nor is one of fewer documents, which a word would hold. And numbers are kept for so many ordinals at the most for each that a document has, so that a segment
 // of few documents costs nothing by how many labels there are.
 const FEWEST_DOCUMENTS: usize = 64;
+
 const MOST_SLOTS_EACH: usize = 64;
 
 // How many of the documents have an ordinal that is dense at the least: one in 64.

@@ -91,13 +91,12 @@ fn counts_of<'a>(
     Ok(counter.roll_up())
 }
 
-#[test]
-fn counts_by_columns(rt: HostRuntime) -> Result<(), Fail> {
-    let alloc = rt.alloc();
-    let view = listed(&rt, alloc, TAGS)?.view()?;
+/// Counts tags of 130 documents at some of their places.
+pub(crate) fn tags_are_counted(rt: &impl Abort, alloc: Global) -> Result<(), Fail> {
+    let view = listed(rt, alloc, TAGS)?.view()?;
     let config = config_of(alloc, "Tag", flags_of(true, false))?;
     // the last ordinal is that of two documents alone
-    let column = column_of(&rt, alloc, &view, &config, [&[1, 2], &[1, 3], &[1, 2, 4]])?;
+    let column = column_of(rt, alloc, &view, &config, [&[1, 2], &[1, 3], &[1, 2, 4]])?;
     let all = (0..130u32).collect::<Vec<u32>>(alloc)?;
     let rows: [(&[u32], [(u32, u32); 4]); 4] = [
         (&all, [(1, 130), (2, 66), (3, 64), (4, 2)]),
@@ -106,7 +105,7 @@ fn counts_by_columns(rt: HostRuntime) -> Result<(), Fail> {
         (&[], [(1, 0), (2, 0), (3, 0), (4, 0)]),
     ];
     for (docs, want) in rows {
-        let counts = counts_of(&rt, alloc, &view, &config, &column, docs)?;
+        let counts = counts_of(rt, alloc, &view, &config, &column, docs)?;
         assert!(rt; are_counted(&view, &counts, &want), "{}", docs.len());
     }
     Ok(())

@@ -4,6 +4,7 @@ ghost use Rattle.facet_counts.specs.Lists.{IsCounted, dim_at};
 ghost use Rattle.seg_postings.specs.Bytes.{AreNumbers};
 ghost use Rattle.seg_postings.specs.Rising.{IsRising};
 
+use crate::columns::tags_are_counted;
 use crate::making::{BOOKS, listed};
 use facet_codec::put_u32;
 use facet_config::FacetsConfig;
@@ -118,5 +119,5 @@ fn counts_by_ordinals(rt: HostRuntime) -> Result<(), Fail> {
     let view = listed(&rt, alloc, BOOKS)?.view()?;
     let config = config_of(alloc, "Publish Date", flags_of(false, false))?;
     assert!(rt; days_are_counted(&rt, alloc, &view, &config)?);
-    Ok(())
+    tags_are_counted(&rt, alloc)
 }
