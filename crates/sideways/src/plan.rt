@@ -194,8 +194,8 @@ impl<'a> DrillPlan<'a> {
         })
     }
 
-    /// Runs the passes. Each walks over the places that it finds, from the first segment to the last, and counts the ordinals of the record at each: a hit
-    /// once for all dimensions, and a document that one dimension alone leaves out once for that dimension. It takes no memory.
+    /// Runs the passes, each from the first segment to the last. What it finds in a segment is counted by the segment's column where it is much, and else record
+    /// by record: a hit once for all dimensions, and a document that one dimension alone leaves out once for that dimension. It takes no memory.
     pub fn run(self) -> SidewaysAnswer<'a>
         ensures { result ≡ self.entry }
     {
