@@ -1,7 +1,7 @@
 -- A session's orders, one after the other.
-use Rattle.std.proofs.Common.{◌≡◌, ◌∙◌, ℕ, ◌+◌, ◌<◌, List, [], ◌∷◌, ◌++◌, length, take, get_or, map, refl, ap, sym, subst, arith}
+use Rattle.std.proofs.Common.{◌≡◌, ◌∙◌, ℕ, List, [], ◌∷◌, ◌++◌, length, take, map, refl, ap, sym, subst, arith}
 use Rattle.std.specs.Prelude.{Result, Ok, Err, IsErr}
-use Rattle.std.proofs.lemmas.List.{take_more, take_all, map-id, map-append}
+use Rattle.std.proofs.lemmas.List.{take_all, map-append}
 use Rattle.std.proofs.lemmas.List.Elements.{All-nil, All-push}
 use Rattle.chronicle.specs.Frame.{Frame}
 use Rattle.commit_turns.specs.Frames.{HasNumbers}
@@ -83,6 +83,3 @@ answers_some Holds engine old new orders done many Kept (Err fault) fails first 
       let s = going settings phase has in
       record { many = many; steps = s.0; asked = s.1.asked ∙ ap (λ (l : List Order). in_phase phase (map order_view l)) (sym first); ran = s.1.ran; held = s.1.held; spent = s.1.spent; replies = tt };
 }
-
-pub taken_more : (all yielded : List Order) (o : Order) → map (λ x. x) yielded ≡ take (length yielded) all → (length yielded < length all) × (o ≡ get_or all (length yielded) o) → take (length yielded + 1) all ≡ yielded ++ o ∷ []
-taken_more all yielded o so_far turn = take_more all (length yielded) o turn.0 ∙ (λ i. (sym so_far ∙ map-id yielded) i ++ sym turn.1 i ∷ [])

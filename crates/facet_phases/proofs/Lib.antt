@@ -16,3 +16,4 @@ pub mod Crossing
 pub mod Cutting
 pub mod Finishing
 pub mod Tracing
+pub mod Taken

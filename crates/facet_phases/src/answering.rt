@@ -1,4 +1,4 @@
-ghost use Rattle.std.specs.Prelude.{◌≡◌, All};
+ghost use Rattle.std.specs.Prelude.{◌≡◌, ◌++◌, ◌∷◌, [], All, MatchOption};
 ghost use Rattle.facet_engine.specs.Systems.{BelongsTo};
 ghost use Rattle.facet_phases.specs.Orders.{Answers};
 
@@ -13,9 +13,21 @@ use std::alloc::Global;
 use std::sync::Wait;
 use taxo_cache::Name;
 
+// Takes the last order. Where half of the orders were taken, their memory is given back.
+#[tactic(auto, using(crate::proofs::Taken::none_of_none))]
+fn take_last(orders: &mut Vec<Order>) -> Option<Order>
+    ensures { MatchOption result (orders.old.items ≡ []) (λ o. orders.old.items ≡ orders.new.items ++ o ∷ []) }
+{
+    let last = orders.pop();
+    if orders.len() <= orders.capacity() / 2 {
+        orders.shrink_to_fit();
+    }
+    last
+}
+
 /// Carries out orders of a session, one after the other, and keeps what is wanted of their replies. Without memory for that it stops.
 ///
-/// It waits where the gate and the calls wait.
+/// It waits where the gate and the calls wait. The orders left take at most twice their memory, so what is made of those before has room there.
 pub fn answer_all<D: Disk, N: Name + Start, R: Wait, G: Gate, C: Collector>(
     rt: &R,
     alloc: Global,
@@ -29,7 +41,9 @@ pub fn answer_all<D: Disk, N: Name + Start, R: Wait, G: Gate, C: Collector>(
     ensures { Answers C.holds system.now session.old session.new orders.items result }
 {
     let mut replies = C::new(alloc);
-    for order in orders {
+    let mut left = orders;
+    left.reverse();
+    while let Some(order) = take_last(&mut left) {
         let Order {
             session: number,
             line,
