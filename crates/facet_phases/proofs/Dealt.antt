@@ -1,8 +1,8 @@
 -- Orders that are given to their sessions.
 use Rattle.std.proofs.Common.{◌≡◌, ◌≢◌, ℕ, ◌+◌, ◌<◌, List, [], ◌∷◌, ◌++◌, length, get_or, refl, ap, sym, ◌∙◌, arith, eqb, eq-eqb, ne_eqb, append_assoc, append-nil}
-use Rattle.std.specs.Prelude.{set}
+use Rattle.std.specs.Prelude.{set, All}
 use Rattle.std.proofs.lemmas.List.{get_or-set_same, get_or-set_other}
-use Rattle.std.proofs.lemmas.List.Elements.{at_read, filter-append}
+use Rattle.std.proofs.lemmas.List.Elements.{at_read, filter-append, All-head, All-tail}
 use native.Mathlib.Decide.{ℕ_discrete}
 use mathlib.Core.Logic.{dite}
 use Rattle.facet_phases.specs.Lanes.{Each, IsDealt, AreNumbered}
@@ -17,7 +17,21 @@ own_order session o is = rw (eq-eqb o.session session is) refl
 other_order : (session : ℕ) (o : Order) → o.session ≢ session → orders_of session (o ∷ []) ≡ []
 other_order session o is = rw (ne_eqb o.session session is) refl
 
+-- orders of one session are all its own
+own_orders : (session : ℕ) (os : List Order) → All (λ o. o.session ≡ session) os → orders_of session os ≡ os
+own_orders session [] own = refl
+own_orders session (o ∷ os) own = filter-append (λ (p : Order). eqb p.session session) (o ∷ []) os ∙ (λ i. own_order session o (All-head (λ o. o.session ≡ session) o os own) i ++ own_orders session os (All-tail (λ o. o.session ≡ session) o os own) i)
+
 module _ {C : Type 0} where
+  -- the session whose they are is given them all
+  pub dealt_all : (lane given : Lane C) (orders : List Order) → All (λ o. o.session ≡ lane.session.number) orders → lane.orders.items ≡ [] → given.session ≡ lane.session → given.replies ≡ lane.replies
+      → given.orders.items ≡ orders → IsDealt orders lane given
+  dealt_all lane given orders own idle session replies is = record {
+    session = session;
+    replies = replies;
+    orders = is ∙ sym (own_orders lane.session.number orders own) ∙ ap (λ os. os ++ orders_of lane.session.number orders) (sym idle);
+  }
+
   pub session_kept : (lanes : List (Lane C)) (at : ℕ) (item pushed : Lane C) → at < length lanes → item ≡ get_or lanes at item → pushed.session ≡ item.session → Each (λ old new. new.session ≡ old.session) lanes (set lanes at pushed)
   session_kept lanes at item pushed in' is same i d lt =
       dite (ℕ_discrete i at)

@@ -1,6 +1,6 @@
 use Rattle.std.proofs.Common.{◌∙◌, ap, arith}
 use Rattle.facet_phases.proofs.Dealt.{dealt_then}
-use Rattle.facet_phases.proofs.dealing.deal.Goals as goal
+use Rattle.facet_phases.proofs.dealing.deal_each.Goals as goal
 
 pub loop-order-preserved : goal.loop-order-preserved
 loop-order-preserved g c = record {

@@ -1,6 +1,6 @@
 use Rattle.std.proofs.Common.{◌≡◌}
 use Rattle.facet_phases.specs.Lanes.{AreNumbered, Each, IsDealt}
-use Rattle.facet_phases.proofs.dealing.deal.Given as goal
+use Rattle.facet_phases.proofs.dealing.deal_each.Given as goal
 
 abbrev pub invariant-loop-order : goal.invariant-loop-order
 invariant-loop-order g l = record {
