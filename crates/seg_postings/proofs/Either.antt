@@ -1,10 +1,9 @@
 -- The union of rising lists.
-use Rattle.std.proofs.Common.{◌≡◌, ℕ, ◌+◌, ◌<◌, ◌≤◌, List, [], ◌∷◌, Option, Some, None, refl, sym, ap, subst, ◌∙◌, arith, inl, inr}
+use Rattle.std.proofs.Common.{◌≡◌, ℕ, ◌+◌, ◌<◌, ◌≤◌, List, [], ◌∷◌, Option, Some, refl, sym, ap, ◌∙◌, arith, inl, inr}
 use Rattle.std.proofs.lemmas.Bool.{le-leb, lt-leb, le-ltb, lt-ltb, ne_eqb, eq-eqb, cases_lt}
-use Rattle.seg_postings.specs.Rising.{IsBelowAll, IsRising, from_place, first_of}
+use Rattle.seg_postings.specs.Rising.{IsBelowAll, IsRising, from_place}
 use Rattle.seg_postings.specs.Sets.{put_in, either}
-use Rattle.seg_postings.specs.Steps.{least_of}
-use Rattle.seg_postings.proofs.Order.{IsFrom, below_weaker, from_all, from_below, rising_from}
+use Rattle.seg_postings.proofs.Order.{IsFrom, below_weaker, from_all}
 
 pub put_less : (x y : ℕ) (ys : List ℕ) → x < y → put_in x (y ∷ ys) ≡ x ∷ y ∷ ys
 unfolding put_in

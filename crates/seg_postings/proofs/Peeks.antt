@@ -1,10 +1,10 @@
 -- Places, the first of which was looked at.
-use Rattle.std.proofs.Common.{◌≡◌, ℕ, ◌+◌, ◌<◌, ◌≤◌, List, [], ◌∷◌, ◌++◌, Option, Some, None, sym, ap, subst, ◌∙◌, arith}
+use Rattle.std.proofs.Common.{◌≡◌, ℕ, ◌<◌, ◌≤◌, List, [], ◌∷◌, ◌++◌, Option, Some, None, sym, ap, ◌∙◌, arith}
 use Rattle.std.specs.Option.{option_to_list}
 use Rattle.seg_postings.specs.Rising.{IsRising, IsNext, from_place}
 use Rattle.seg_postings.specs.Steps.{IsPeeked}
 use Rattle.seg_postings.proofs.Order.{from_all, from_below, from_later}
-use Rattle.seg_postings.proofs.Either.{from_none, after_head}
+use Rattle.seg_postings.proofs.Either.{from_none}
 
 abbrev pub peeked : Option ℕ → List ℕ → List ℕ
 peeked head xs = option_to_list head ++ xs

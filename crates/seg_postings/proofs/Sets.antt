@@ -1,10 +1,9 @@
 -- What is picked from a rising list.
-use Rattle.std.proofs.Common.{◌≡◌, ℕ, ◌<◌, ◌≤◌, Bool, true, false, not, cond, leb, eqb, ◌||◌, List, [], ◌∷◌, refl, sym, ap, ◌∙◌, arith, inl, inr}
-use Rattle.std.specs.List.{filter}
-use Rattle.std.proofs.lemmas.Bool.{le-leb, lt-leb, ne_eqb, eq-eqb, cases_lt}
+use Rattle.std.proofs.Common.{◌≡◌, ℕ, ◌<◌, ◌≤◌, Bool, false, not, cond, eqb, ◌||◌, List, [], ◌∷◌, refl, ap, arith, inl, inr}
+use Rattle.std.proofs.lemmas.Bool.{le-leb, lt-leb, ne_eqb, cases_lt}
 use Rattle.seg_postings.specs.Rising.{IsBelowAll, IsRising, is_in, from_place}
 use Rattle.seg_postings.specs.Sets.{picked, without}
-use Rattle.seg_postings.proofs.Order.{IsFrom, below_weaker, from_below, rising_filter, rising_from}
+use Rattle.seg_postings.proofs.Order.{IsFrom, rising_filter}
 
 pub is_in_below : (q : ℕ) (xs : List ℕ) → IsBelowAll q xs → is_in q xs ≡ false
 is_in_below q [] h = refl
