@@ -2,6 +2,7 @@
 #![tactic(auto)]
 
 mod records;
+mod sizes;
 mod terms;
 mod writing;
 

@@ -8,6 +8,7 @@ ghost use Rattle.seg_terms.specs.Places.{term_view, IsShortTerm};
 ghost use Rattle.seg_terms.specs.Entries.{segment_of};
 
 use crate::records::put_records;
+use crate::sizes::segment_size;
 use crate::terms::put_terms;
 use facet_codec::put_u32;
 use facet_names::NoMemory;
@@ -50,7 +51,7 @@ fn write(
     if terms.len() > u32::MAX as usize {
         return Err(facet_codec::NoMemory);
     }
-    let mut bytes = Vec::new(alloc);
+    let mut bytes = Vec::with_capacity(alloc, segment_size(entries, terms))?;
     put_head(&mut bytes, entries.len() as u32)?;
     let (records, counted) = put_records(alloc, &mut bytes, entries)?;
     put_u32(&mut bytes, terms.len() as u32)?;
@@ -65,7 +66,7 @@ fn write(
     })
 }
 
-/// The segment of documents and their terms. It goes over both once.
+/// The segment of documents and their terms. It goes over both once, and once before for the memory that it takes.
 ///
 /// Beside a refused allocation, there is no memory for 2^32 terms or more.
 pub fn write_segment(

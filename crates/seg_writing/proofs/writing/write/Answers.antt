@@ -34,7 +34,7 @@ returns-clause-segment c =
     let terms : length c.args.terms.now ≡ length ts = sym (length-map c.args.terms.now term_view) ∙ ap length c.requires.terms in
     record {
       spelled = whole_put (be32 0x46534547) (be32 1) (be32 (length rs)) (flat_map record_bytes rs) (be32 (length ts)) (flat_map term_bytes ts) c.put_head.new.out.items c.put_records.new.out.items c.put_u32.new.out.items c.put_terms.new.out.items
-          (c.in_ok-put_head.ensures ∙ (λ i. c.new-bytes.ensures.items i ++ (be32 0x46534547 ++ (be32 1 ++ be32 (sizes i)))))
+          (c.in_ok-put_head.ensures ∙ (λ i. c.in_ok-bytes.ensures.items i ++ (be32 0x46534547 ++ (be32 1 ++ be32 (sizes i)))))
           c.in_ok-records.ensures.bytes
           (c.in_ok-put_u32.ensures ∙ ap (λ n. c.put_records.new.out.items ++ be32 n) terms)
           (c.in_ok-terms.ensures.bytes ∙ ap (λ us. c.put_u32.new.out.items ++ flat_map term_bytes us) c.requires.terms);
