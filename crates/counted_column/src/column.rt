@@ -10,8 +10,9 @@ use std::alloc::{AllocError, Global};
 use std::marker::Model;
 
 /// The counted ordinals of a segment's documents, in the documents' order. An ordinal below a million that at least one document in 64 has is dense, and
-/// has a bit for each document, set where the document has it. Of the others 4 bytes are kept for each document that has one, and where there are any,
-/// 4 bytes more a document. So the sets take at most 8 bytes a document for each ordinal that a document has.
+/// has a bit for each document, set where the document has it; none is where there are fewer than 64 documents, nor one as great as 64 times the number of
+/// all ordinals that documents have. Of the others 4 bytes are kept for each document that has one, and where there are any, 4 bytes more a document. So the
+/// sets take at most 8 bytes a document for each ordinal that a document has.
 #[derive(Drop)]
 pub struct Column {
     docs: u32,
