@@ -6,6 +6,7 @@ use Rattle.std.proofs.lemmas.List.Sums.{sum_by-cons}
 use Rattle.facet_model.specs.Stored.{Records}
 use Rattle.commit_file.specs.Commits.{documents_of}
 use Rattle.seg_decoding.specs.Decoding.{records_in}
+use Rattle.seg_decoding.proofs.Live.{records_first_live}
 use Rattle.commit_store.specs.Committed.{Kept, Committed, IsKept, IsOwn, segments_in, parts_in}
 use Rattle.commit_store.specs.Drafts.{Drafted, placed}
 use Rattle.commit_store.proofs.Keeping.{AreReadOnce, AreNamed, name_more, numbers_taken}
@@ -15,13 +16,13 @@ documents_counted [] are = refl
 documents_counted (k ∷ ks) are =
     let first = sum_by-cons documents_of k.part (parts_in ks) in
     let others = documents_counted ks are.1 in
-    let all = length-append k.segment.records (records_in (segments_in ks)) in
+    let all : length (records_in (segments_in (k ∷ ks))) ≡ length k.segment.records + length (records_in (segments_in ks)) = ap length (records_first_live k.segment (segments_in ks) are.0.segment.live) ∙ length-append k.segment.records (records_in (segments_in ks)) in
     let one = are.0.documents in
     omega (arith, first, others, all, one)
 
 pub few_segments : (ss : List Records) → AllByRecursion IsOwn ss → length ss ≤ length (records_in ss)
 few_segments [] own = omega arith
-few_segments (s ∷ ss) own = omega (arith, few_segments ss own.1, own.0.some, length-append s.records (records_in ss))
+few_segments (s ∷ ss) own = omega (arith, few_segments ss own.1, own.0.some, ap length (records_first_live s ss own.0.live), length-append s.records (records_in ss))
 
 pub as_many : (ks : List Kept) (ss : List Records) → segments_in ks ≡ ss → length (parts_in ks) ≡ length ss
 as_many ks ss is = length-map ks (λ k. k.part) ∙ sym (length-map ks (λ (k : Kept). k.segment)) ∙ ap (λ (xs : List Records). length xs) is

@@ -1,5 +1,5 @@
 -- What was read of a disk is what its directories hold.
-use Rattle.std.proofs.Common.{◌≡◌, ◌≤◌, ◌<◌, ◌^◌, ℕ, List, [], ◌∷◌, length, map, Option, Some, None, Result, Ok, refl, sym, ap, ◌∙◌, subst, arith, length-append}
+use Rattle.std.proofs.Common.{◌≡◌, ◌+◌, ◌≤◌, ◌<◌, ◌^◌, ℕ, List, [], ◌∷◌, length, map, Option, Some, None, Result, Ok, refl, sym, ap, ◌∙◌, subst, arith, length-append}
 use Rattle.std.specs.Option.{option_map}
 use Rattle.std.proofs.lemmas.List.{length-map}
 use Rattle.std.specs.List.{AllByRecursion, AllZip}
@@ -21,6 +21,7 @@ use Rattle.commit_file.specs.declared.index.DocumentPart.{DocumentPart}
 use Rattle.seg_decoding.specs.Decoding.{doc_in, docs_in, records_in}
 use Rattle.seg_decoding.specs.Opening.{stored_segment, opened, documents_fit, unless_at, first_difference, counted_anew, rebuilt}
 use Rattle.seg_decoding.proofs.Differences.{same_from_none}
+use Rattle.seg_decoding.proofs.Live.{records_first_live}
 use Rattle.seg_grammar.specs.Spelling.{seg_bytes}
 use Rattle.store_opening.specs.declared.fault.OpenFault.{OpenFault}
 use Rattle.store_opening.specs.declared.fault.OpenFault.TheVariants.{Malformed}
@@ -72,16 +73,16 @@ module _ (config : Config) (labels : Labels) where
   counted_same [] are = refl
   counted_same (r ∷ rs) are = λ i. (record { id = r.id; text = r.text; leaves = r.leaves; counted = sym are.0.counted i }) ∷ counted_same rs are.1 i
 
-  rebuilt_same : (s : Records) → IsSegmentOf labels config s (map (doc_in labels) s.records) → rebuilt config labels s.records ≡ s
-  rebuilt_same s is = λ i. record { records = counted_same s.records is.records i; terms = sym is.terms i }
+  rebuilt_same : (s : Records) → s.dead ≡ [] → IsSegmentOf labels config s (map (doc_in labels) s.records) → rebuilt config labels s.records ≡ s
+  rebuilt_same s live is = λ i. record { records = counted_same s.records is.records i; terms = sym is.terms i; dead = sym live i }
 
-  read_bytes : (needs documents : ℕ) (bytes : List ℕ) (s : Records) → stored_segment config labels needs documents bytes ≡ Ok s → IsSegmentOf labels config s (map (doc_in labels) s.records) → bytes ≡ seg_bytes s
+  read_bytes : (needs documents : ℕ) (bytes : List ℕ) (s : Records) → stored_segment config labels needs documents bytes ≡ Ok s → s.dead ≡ [] → IsSegmentOf labels config s (map (doc_in labels) s.records) → bytes ≡ seg_bytes s
   unfolding stored_segment
-  read_bytes needs documents bytes s e is =
+  read_bytes needs documents bytes s e live is =
       let a = bind_ok (opened documents bytes) (λ r. documents_fit config labels needs 12 r.records >>= λ fit. unless_at r (first_difference bytes (seg_bytes (rebuilt config labels r.records)))) s e in
       let b = bind_ok (documents_fit config labels needs 12 a.0.records) (λ fit. unless_at a.0 (first_difference bytes (seg_bytes (rebuilt config labels a.0.records)))) s a.2 in
       let d = whole a.0 (first_difference bytes (seg_bytes (rebuilt config labels a.0.records))) b.2 in
-      same_from_none bytes (seg_bytes (rebuilt config labels a.0.records)) 0 d.1 ∙ ap (λ (r : Records). seg_bytes (rebuilt config labels r.records)) d.0 ∙ ap seg_bytes (rebuilt_same s is)
+      same_from_none bytes (seg_bytes (rebuilt config labels a.0.records)) 0 d.1 ∙ ap (λ (r : Records). seg_bytes (rebuilt config labels r.records)) d.0 ∙ ap seg_bytes (rebuilt_same s live is)
     where
       whole : (r : Records) (o : Option ℕ) → unless_at r o ≡ Ok s → (r ≡ s) × (o ≡ None)
       whole r None e = (cc e, refl)
@@ -92,7 +93,7 @@ module _ (config : Config) (labels : Labels) where
   one_there needs g p s named e =
       let a = bind_ok (segment_bytes (file Index Segment p.number) p.digest (g p.number)) (λ bytes. told_as (Malformed (file Index Segment p.number)) (stored_segment config labels needs p.documents bytes)) s e in
       let reads = told_ok (Malformed (file Index Segment p.number)) (stored_segment config labels needs p.documents a.0) s a.2 in
-      segment_there (file Index Segment p.number) p.digest (g p.number) a.0 a.1 ∙ ap (λ b. Some b) (read_bytes needs p.documents a.0 s reads named.decodes)
+      segment_there (file Index Segment p.number) p.digest (g p.number) a.0 a.1 ∙ ap (λ b. Some b) (read_bytes needs p.documents a.0 s reads named.own.live named.decodes)
 
   all_there : (needs : ℕ) (g : Segments) (parts : List DocumentPart) (ss : List Records) → AllZip (IsNamedAs config labels) parts ss → segments_of config labels needs g parts ≡ Ok ss → there g (map (λ part. part.number) parts) ≡ map pair (kept_by parts ss)
   unfolding segments_of
@@ -187,5 +188,5 @@ at_unchanged disk next t i old new quiet at c left =
 pub none_left : (labels : Labels) (ss : List Records) → AllByRecursion IsOwn ss → docs_in labels ss ≡ [] → ss ≡ []
 none_left labels [] own none = refl
 none_left labels (s ∷ ss) own none =
-    let long : length (docs_in labels (s ∷ ss)) ≡ length (records_in (s ∷ ss)) = length-map (records_in (s ∷ ss)) (doc_in labels) in
-    absurd (omega (arith, own.0.some, long, ap (λ (docs : List Doc). length docs) none, length-append s.records (records_in ss)))
+    let long : length (docs_in labels (s ∷ ss)) ≡ length s.records + length (records_in ss) = length-map (records_in (s ∷ ss)) (doc_in labels) ∙ ap length (records_first_live s ss own.0.live) ∙ length-append s.records (records_in ss) in
+    absurd (omega (arith, own.0.some, long, ap (λ (docs : List Doc). length docs) none))

@@ -2,10 +2,12 @@ ghost use Rattle.std.specs.Prelude.{◌≡◌};
 ghost use Rattle.facet_config.specs.Faults.{fault_view};
 ghost use Rattle.facet_output.specs.Replies.{broken, refused};
 ghost use Rattle.facet_replies.specs.ReplyViews.{refusal_view, reply_view};
+ghost use Rattle.facet_words.specs.CommandViews.{search_view as line_view};
 ghost use Rattle.facet_words.specs.Sessions.CommandViews.{command_view};
 ghost use Rattle.facet_engine.specs.Calls.{IsCarriedOut};
 ghost use Rattle.facet_engine.specs.Names.{name_in};
 ghost use Rattle.facet_engine.specs.Replies.{add_reply, commit_reply, document_reply, hold_reply, refresh_reply, release_reply, search_reply, stats_reply};
+ghost use Rattle.facet_engine.specs.Searches.{search_view};
 ghost use Rattle.facet_engine.specs.Systems.{BelongsTo};
 
 use crate::adding::AddFault;
@@ -21,6 +23,7 @@ use facet_disk::Disk;
 use facet_model::Word;
 use facet_names::NoMemory;
 use facet_replies::{Refusal, Reply};
+use facet_words::SearchLine;
 use facet_words::sessions::Command;
 use pair_manager::Stats;
 use sideways::SearchAsk;
@@ -150,6 +153,19 @@ fn text_of(name: &Option<Word>) -> Option<&str>
     }
 }
 
+// What a search's line asks.
+fn ask_of(line: SearchLine) -> SearchAsk
+    ensures { search_view result ≡ line_view line }
+{
+    SearchAsk {
+        query: line.query,
+        drill: line.drill,
+        asks: line.asks,
+        hits: line.hits,
+        sideways: line.sideways,
+    }
+}
+
 /// Carries out one command of a session, and answers it. It is one step of the session, after which that holds what it then has to hold.
 pub fn carry_out<D: Disk, N: Name + Start, R: Wait>(
     rt: &R,
@@ -165,21 +181,8 @@ pub fn carry_out<D: Disk, N: Name + Start, R: Wait>(
         Command::Refresh => refreshed(system.refresh(rt, session)),
         Command::Hold { name } => held(system.hold(rt, session, name.text())),
         Command::Release { name } => released(system.release(session, name.text())),
-        Command::Search {
-            on,
-            query,
-            drill,
-            sideways,
-            asks,
-            hits,
-        } => {
-            let ask = SearchAsk {
-                query,
-                drill,
-                asks,
-                hits,
-                sideways,
-            };
+        Command::Search { on, line } => {
+            let ask = ask_of(Box::into_inner(line));
             found(system.search(rt, session, text_of(&on), &ask))
         }
         Command::Document { on, at } => shown(at, system.document(rt, session, text_of(&on), at)),

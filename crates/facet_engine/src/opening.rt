@@ -104,14 +104,14 @@ fn without_memory<D: Disk>(disk: D) -> NotOpened<D>
     }
 }
 
-// How many documents these segments have.
+// How many documents these segments have, those that are not live left out.
 fn count_documents(segments: &[Arc<Segment>]) -> u64
     requires { length (records_in (map arc_value segments.now)) ≤ 1000000 }
     ensures { result ≡ length (records_in (map arc_value segments.now)) }
 {
     let mut count = 0;
     for segment in segments {
-        count += segment.docs() as u64;
+        count += segment.live() as u64;
     }
     count
 }

@@ -42,18 +42,19 @@ pub enum DocumentFault {
     NoMemory,
 }
 
-/// The segment that has the document at a place, with the document's place in it. It goes from segment to segment, and takes no memory.
+/// The segment that has the document at a place, of those that are live, with its place in the segment. It goes from segment to segment, and takes no
+/// memory.
 pub(crate) fn find(segments: &[Arc<Segment>], at: usize) -> Option<(&Segment, u32)>
     ensures { MatchOption result (slice_get (records_in (map arc_value segments.now)) at ≡ None) (λ p. (p.1 < length p.0.now.records)
         × (slice_get (records_in (map arc_value segments.now)) at ≡ Some (record_of p.0.now p.1))) }
 {
     let mut at = at;
     for segment in segments {
-        let docs = segment.docs();
-        if at < docs as usize {
-            return Some((segment, at as u32));
+        let live = segment.live() as usize;
+        if at < live {
+            return Some((segment, segment.live_at(at as u32)));
         }
-        at -= docs as usize;
+        at -= live;
     }
     None
 }

@@ -3,3 +3,4 @@ pub mod Tops
 pub mod Cut
 pub mod Fronts
 pub mod ConfigTexts
+pub mod Drills

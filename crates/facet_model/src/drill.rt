@@ -1,4 +1,5 @@
-ghost use Rattle.std.specs.Prelude.{◌≡◌, ◌≤◌, IfOk, length};
+ghost use Rattle.std.specs.Prelude.{◌≡◌, ◌<◌, ◌≤◌, List, ℕ, Some, IfOk, length, map, slice_get, string_bytes};
+ghost use Rattle.facet_model.specs.Terms.{path_term};
 
 use crate::document::copied;
 use facet_names::{NoMemory, Path};
@@ -6,29 +7,54 @@ use std::alloc::Global;
 use std::marker::Model;
 
 /// The paths that a search is drilled down to, as Lucene's `DrillDownQuery`: at most 256. Paths of one dimension are alternatives, and each
-/// dimension is required.
+/// dimension is required. The drill-down term of each path is kept beside it.
 #[derive(Debug, Drop)]
 pub struct Drill {
     paths: Vec<Path>,
+    terms: Vec<String>,
 }
 
 impl Model for Drill {
-    ghost use Rattle.std.specs.Prelude.{◌≤◌, List, ℕ, length};
+    ghost use Rattle.std.specs.Prelude.{List, ℕ, string_bytes};
+    ghost use Rattle.facet_model.specs.Terms.{IsDrill};
 
     ghost Value = { List (List (List ℕ)) };
 
     ghost view = { λ d. d.paths.items };
 
-    ghost invariant = { λ d. length d.paths.items ≤ 256 };
+    ghost invariant = { λ d. IsDrill d.paths.items d.terms.items };
+}
+
+/// The drill-down term of a path: an `f` and the path's term text.
+pub fn path_term(alloc: Global, path: &Path) -> Result<String, NoMemory>
+    ensures term { IfOk result (λ t. string_bytes t ≡ path_term path.now) }
+    ensures some { 0 < length path.now }
+{
+    let text = path.term_text(alloc)?;
+    let mut term = String::from_str(alloc, "f")?;
+    term.push_str(text.as_str())?;
+    Ok(term)
+}
+
+// The terms of paths.
+fn terms_of(alloc: Global, paths: &[Path]) -> Result<Vec<String>, NoMemory>
+    ensures { IfOk result (λ v. map string_bytes v.items ≡ map path_term paths.now) }
+{
+    let mut terms = Vec::with_capacity(alloc, paths.len())?;
+    for path in paths {
+        terms.push(path_term(alloc, path)?)?;
+    }
+    Ok(terms)
 }
 
 impl Drill {
-    /// Takes the paths in their order.
-    pub fn new(paths: Vec<Path>) -> Drill
+    /// Takes the paths in their order. It takes memory for the terms.
+    pub fn new(alloc: Global, paths: Vec<Path>) -> Result<Drill, NoMemory>
         requires { length paths.items ≤ 256 }
-        ensures { result ≡ paths.items }
+        ensures { IfOk result (λ d. d ≡ paths.items) }
     {
-        Drill { paths }
+        let terms = terms_of(alloc, &paths)?;
+        Ok(Drill { paths, terms })
     }
 
     /// The paths in the order given.
@@ -39,11 +65,19 @@ impl Drill {
         &self.paths
     }
 
+    /// The drill-down term of the path at a place.
+    pub fn term(&self, at: usize) -> &str
+        requires { at < length self.now }
+        ensures { (path : List (List ℕ)) → slice_get self.now at ≡ Some path → result.now ≡ path_term path }
+    {
+        self.terms[at].as_str()
+    }
+
     /// An equal drill with memory of its own.
     pub fn dup(&self, alloc: Global) -> Result<Drill, NoMemory>
         ensures { IfOk result (λ d. d ≡ self.now) }
     {
         let paths = copied(alloc, &self.paths)?;
-        Ok(Drill { paths })
+        Drill::new(alloc, paths)
     }
 }

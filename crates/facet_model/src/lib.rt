@@ -15,7 +15,7 @@ mod word_list;
 pub use ask::Ask;
 pub use counted::{Counted, Resolved};
 pub use document::{DocShape, Document};
-pub use drill::Drill;
+pub use drill::{Drill, path_term};
 pub use flags::DimFlags;
 pub use laws::{one_config, one_listing, one_top};
 pub use query::Query;

@@ -17,4 +17,5 @@ pub use facet_replies::{
     Detail, HitLine, Refusal, Reply, ScriptFault, write_fault, write_named_fault, write_reply,
 };
 pub use laws::levels_are_counted;
+pub use parts::SearchLine;
 pub use settings::Settings;

@@ -15,7 +15,7 @@ use serde_json::Value;
 use std::alloc::Global;
 
 /// A search, whatever documents it sees.
-#[derive(Drop)]
+#[derive(Debug, Drop)]
 pub struct SearchLine {
     pub query: Query,
     pub drill: Drill,
@@ -104,9 +104,10 @@ pub fn searched_in(
         return Ok(None);
     };
     if keys_among(value, keys) {
+        let drill = Drill::new(alloc, paths)?;
         Ok(Some(SearchLine {
             query,
-            drill: Drill::new(paths),
+            drill,
             sideways,
             asks,
             hits: hits as u32,

@@ -103,7 +103,7 @@ fn each_in<T: Shaped>(alloc: Global, list: &[Value]) -> Result<Option<Vec<T>>, N
     ensures each { IfOk result (λ o. option_map (λ v. map T.plain v.items) o ≡ all_some (map (λ v. T.shape (view v)) list.now)) }
     ensures count { IfOk result (λ o. IfSome o (λ v. length v.items ≡ length list.now)) }
 {
-    let mut out = Vec::new(alloc);
+    let mut out = Vec::with_capacity(alloc, list.len())?;
     for value in list {
         let Some(item) = T::read(alloc, value)? else {
             return Ok(None);

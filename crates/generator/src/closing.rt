@@ -9,6 +9,7 @@ ghost use Rattle.generator.specs.Generated.{closing_orders, first_ten, generated
 use crate::labels::path_of;
 use facet_model::{Ask, Drill, Query, Word};
 use facet_names::{NoMemory, Path, PathFault};
+use facet_words::SearchLine;
 use facet_words::sessions::{Command, Order};
 use std::alloc::Global;
 
@@ -27,7 +28,7 @@ fn drill(alloc: Global) -> Result<Drill, NoMemory>
     let dim = String::from_str(alloc, "Date")?;
     let year = String::from_str(alloc, "2000")?;
     let path = path_of(alloc, &vec![in alloc; dim, year]?)?;
-    Ok(Drill::new(vec![in alloc; path]?))
+    Drill::new(alloc, vec![in alloc; path]?)
 }
 
 fn ask(alloc: Global, dim: &str) -> Result<Ask, NoMemory>
@@ -56,13 +57,16 @@ fn search(alloc: Global) -> Result<Command, NoMemory>
     let query = query(alloc)?;
     let drill = drill(alloc)?;
     let asks = asks(alloc)?;
-    Ok(Command::Search {
-        on: None,
+    let line = SearchLine {
         query,
         drill,
         sideways: true,
         asks,
         hits: 10,
+    };
+    Ok(Command::Search {
+        on: None,
+        line: Box::new(alloc, line)?,
     })
 }
 

@@ -46,14 +46,14 @@ pub fn shared(alloc: Global, segments: &[Arc<Segment>]) -> Result<Vec<Arc<Segmen
     Ok(again)
 }
 
-/// How many documents these segments have.
+/// How many documents these segments have, those that are not live left out.
 pub fn count(segments: &[Arc<Segment>]) -> usize
     requires { length (records_in (map arc_value segments.now)) ≤ 1000000 }
     ensures { result ≡ length (records_in (map arc_value segments.now)) }
 {
     let mut count = 0;
     for segment in segments {
-        count += segment.docs() as usize;
+        count += segment.live() as usize;
     }
     count
 }

@@ -117,7 +117,7 @@ fn drill_is_copied(alloc: Global) -> Result<bool, Fail> {
     if paths.len() > 256 {
         return Ok(false);
     }
-    let drill = Drill::new(paths);
+    let drill = Drill::new(alloc, paths)?;
     let copy = drill.dup(alloc)?;
     Ok(copy.paths().len() == 2 && copy.paths() == drill.paths())
 }

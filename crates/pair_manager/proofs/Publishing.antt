@@ -1,10 +1,9 @@
 -- Publications, where labels and operations go on, and one more is published.
-use Rattle.std.proofs.Common.{◌≡◌, ℕ, ◌≤◌, true, List, [], ◌∷◌, ◌++◌, length, take, map, get_or, refl, sym, ap, subst, ◌∙◌, arith}
-use Rattle.std.specs.Prelude.{◌&&◌, nat_le, flat_map}
+use Rattle.std.proofs.Common.{◌≡◌, ℕ, ◌+◌, ◌≤◌, Bool, true, false, if◌then◌else◌, List, [], ◌∷◌, ◌++◌, length, take, map, get_or, refl, sym, ap, subst, ◌∙◌, arith}
+use Rattle.std.specs.Prelude.{◌&&◌, nat_le}
 use Rattle.std.specs.List.{list_all, AllZip}
 use Rattle.std.proofs.lemmas.Bool.{and_parts, and_from, leb-true, le-leb}
 use Rattle.std.proofs.lemmas.List.{length-append, length-map, get_or-map, map-append, take-take, take_all}
-use Rattle.std.proofs.lemmas.List.Concat.{flat_map-cons}
 use Rattle.std.proofs.lemmas.List.Folds.{list_all-append}
 use Rattle.std.proofs.lemmas.List.Sums.{AllPass-from_list_all}
 use mathlib.Core.List.{IsPrefix}
@@ -13,7 +12,7 @@ use Rattle.facet_names.proofs.LabelLists.{Labels}
 use Rattle.facet_model.specs.Documents.{Doc}
 use Rattle.facet_model.specs.Flags.{Config}
 use Rattle.facet_model.specs.Histories.{Operation, docs, knows, covers, never_falls, is_pair, are_publications}
-use Rattle.facet_model.specs.Stored.{Stored, Records, IsRecordOf, IsSegmentOf, Decodes}
+use Rattle.facet_model.specs.Stored.{Stored, Records, alive, alive_from, is_dead, live_docs, IsRecordOf, IsSegmentOf, Decodes}
 use Rattle.facet_model.proofs.Fronts.{weaker, take_front}
 use Rattle.seg_decoding.specs.Decoding.{doc_in, docs_in, records_in}
 use Rattle.seg_decoding.proofs.Decoded.{decoded}
@@ -33,13 +32,23 @@ records_known known config [] (d ∷ ds) all = absurd all
 records_known known config (r ∷ rs) [] all = absurd all
 records_known known config (r ∷ rs) (d ∷ ds) all = and_from (knows known d) (list_all (knows known) ds) all.0.prefixes (records_known known config rs ds all.1)
 
-pieces_known : (known : Labels) (config : Config) (ss : List Records) (ps : List (List Doc)) → AllZip (IsSegmentOf known config) ss ps → list_all (knows known) (flat_map (λ p. p) ps) ≡ true
+alive_passes : (test : Doc → Bool) (dead : List ℕ) (place : ℕ) (ds : List Doc) → list_all test ds ≡ true → list_all test (alive_from dead place ds) ≡ true
+alive_passes test dead place [] all = refl
+alive_passes test dead place (d ∷ ds) all =
+    let both = and_parts (test d) (list_all test ds) all in
+    by (is_dead dead place) both.0 (alive_passes test dead (place + 1) ds both.1)
+  where
+    by : (b : Bool) → test d ≡ true → list_all test (alive_from dead (place + 1) ds) ≡ true → list_all test (if b then alive_from dead (place + 1) ds else d ∷ alive_from dead (place + 1) ds) ≡ true
+    by true first rest = rest
+    by false first rest = and_from (test d) (list_all test (alive_from dead (place + 1) ds)) first rest
+
+pieces_known : (known : Labels) (config : Config) (ss : List Records) (ps : List (List Doc)) → AllZip (IsSegmentOf known config) ss ps → list_all (knows known) (live_docs ss ps) ≡ true
 pieces_known known config [] [] all = refl
 pieces_known known config [] (p ∷ ps) all = absurd all
 pieces_known known config (s ∷ ss) [] all = absurd all
 pieces_known known config (s ∷ ss) (p ∷ ps) all =
-    ap (list_all (knows known)) (flat_map-cons (λ (x : List Doc). x) p ps) ∙ list_all-append (knows known) p (flat_map (λ x. x) ps)
-    ∙ and_from (list_all (knows known) p) (list_all (knows known) (flat_map (λ x. x) ps)) (records_known known config s.records p all.0.records) (pieces_known known config ss ps all.1)
+    list_all-append (knows known) (alive s.dead p) (live_docs ss ps)
+    ∙ and_from (list_all (knows known) (alive s.dead p)) (list_all (knows known) (live_docs ss ps)) (alive_passes (knows known) s.dead 0 p (records_known known config s.records p all.0.records)) (pieces_known known config ss ps all.1)
 
 pub decoded_known : (known : Labels) (config : Config) (segments : List Records) (ds : List Doc) → Decodes known config segments ds → list_all (knows known) ds ≡ true
 decoded_known known config segments ds d = ap (list_all (knows known)) d.2 ∙ pieces_known known config segments d.0 d.1

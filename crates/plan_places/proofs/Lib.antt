@@ -1,4 +1,5 @@
 pub mod Ranges
+mod Lists
 pub mod Walks
 pub mod Unions
 pub mod Choices

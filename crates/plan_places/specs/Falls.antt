@@ -15,5 +15,6 @@ most_nodes (p ∷ ps) = omega (arith, most_nodes ps)
 pub falls : (k : Kind) → max (deep-Kind k) 0 ≤ (planned k).nodes
 falls (kinds.Range r) = omega arith
 falls (kinds.Term leaf) = omega arith
+falls (kinds.Listed l) = omega arith
 falls (kinds.Any children) = omega (arith, most_nodes children.items)
 falls (kinds.All c) = omega (arith, most_nodes c.others.items, most_nodes c.excluded.items)

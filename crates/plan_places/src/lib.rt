@@ -3,6 +3,7 @@
 
 mod conjunction;
 mod leaf;
+mod listed;
 mod node;
 mod places;
 mod range;

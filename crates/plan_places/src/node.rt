@@ -7,6 +7,7 @@ ghost use Rattle.plan_places.specs.Planned.{moved_to, any_of, all_have};
 
 use crate::conjunction::Conjunction;
 use crate::leaf::Leaf;
+use crate::listed::Listed;
 use crate::places::PlanPlaces;
 use crate::range::Range;
 use crate::union::any_at_least;
@@ -33,6 +34,8 @@ pub(crate) enum Kind<'a> {
     Range(Range),
     /// The places of a list.
     Term(Leaf<'a>),
+    /// The places of a lent list of numbers.
+    Listed(Listed<'a>),
     /// The places of any child.
     Any(Vec<PlanNode<'a>>),
     /// The places of all of some children and of none of others.
@@ -77,6 +80,17 @@ impl<'a> PlanNode<'a> {
         PlanNode {
             kind: Kind::Term(Leaf { head, cursor }),
             at_most: postings.len() as u64,
+        }
+    }
+
+    /// The places of a lent list of numbers. It looks at none of them.
+    pub fn listed(places: &'a [u32]) -> PlanNode<'a>
+        requires { IsRising places.now }
+        ensures { result.left ≡ places.now }
+    {
+        PlanNode {
+            kind: Kind::Listed(Listed { places }),
+            at_most: places.len() as u64,
         }
     }
 
@@ -181,6 +195,7 @@ impl<'a> PlanNode<'a> {
         match &mut self.kind {
             Kind::Range(range) => range.at_least(place),
             Kind::Term(leaf) => leaf.at_least(place),
+            Kind::Listed(listed) => listed.at_least(place),
             Kind::Any(children) => any_at_least(children, place),
             Kind::All(conjunction) => conjunction.at_least(place),
         }

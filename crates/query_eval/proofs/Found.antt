@@ -1,6 +1,6 @@
 -- A term's places among the terms of documents are those of the documents that have it.
-use Rattle.std.proofs.Common.{◌≡◌, ℕ, Bool, true, false, List, [], ◌∷◌, length, map, Some, None, refl, sym, ap, ◌∙◌}
-use Rattle.std.specs.Prelude.{◌||◌, cond, option_map, flat_map, fold, nat_lt, count_by}
+use Rattle.std.proofs.Common.{◌≡◌, ℕ, Bool, true, false, List, [], ◌∷◌, map, Option, Some, None, refl, sym, ap, ◌∙◌}
+use Rattle.std.specs.Prelude.{◌||◌, cond, option_map, flat_map, fold, unwrap_or}
 use Rattle.std.specs.List.{find, list_any}
 use Rattle.std.specs.Ordering.{nat_cmp, match_ordering}
 use Rattle.std.specs.declared.cmp.Ordering.{Ordering}
@@ -14,7 +14,7 @@ use Rattle.facet_model.specs.CountedPaths.{places}
 use Rattle.facet_model.specs.Terms.{doc_terms, put_term, terms_of}
 use Rattle.seg_grammar.specs.Lookups.{places_of_term}
 use Rattle.seg_terms.specs.Laws.{has_term}
-use Rattle.query_eval.proofs.Marks.{none_from_place, length_from_place}
+use Rattle.query_eval.proofs.Marks.{none_from_place}
 
 or_again : (b r : Bool) → (b || r) ≡ (b || (b || r))
 or_again true r = refl
@@ -86,9 +86,7 @@ found_none terms term docs are found = by (list_any (has_term term) docs) (found
     by true h = absurd cc
     by false h = refl
 
--- whether a document has the term
-pub some_found : (terms : List (List ℕ × List ℕ)) (term : List ℕ) (docs : List Doc) (ps : List ℕ) → terms ≡ terms_of docs → Some ps ≡ places_of_term terms term → nat_lt 0 (length ps) ≡ nat_lt 0 (count_by (has_term term) docs)
-some_found terms term docs ps are found = ap (λ (xs : List ℕ). nat_lt 0 (length xs)) (found_some terms term docs ps are found).1 ∙ ap (nat_lt 0) (length_from_place 0 (has_term term) docs)
-
-pub none_found : (terms : List (List ℕ × List ℕ)) (term : List ℕ) (docs : List Doc) → terms ≡ terms_of docs → None ≡ places_of_term terms term → false ≡ nat_lt 0 (count_by (has_term term) docs)
-none_found terms term docs are found = ap (nat_lt 0) (ap length (sym (none_from_place 0 (has_term term) docs (found_none terms term docs are found))) ∙ length_from_place 0 (has_term term) docs)
+-- what a look-up found, or none
+pub found_places : (terms : List (List ℕ × List ℕ)) (term : List ℕ) (docs : List Doc) (found : Option (List ℕ)) → terms ≡ terms_of docs → found ≡ places_of_term terms term → unwrap_or found [] ≡ places (has_term term) docs
+found_places terms term docs (Some ps) are found = (found_some terms term docs ps are found).1
+found_places terms term docs None are found = sym (none_from_place 0 (has_term term) docs (found_none terms term docs are found))

@@ -1,4 +1,5 @@
 pub mod Marks
+pub mod Living
 pub mod Found
 pub mod Chosen
 pub mod Trees

@@ -1,13 +1,10 @@
 -- The places of the documents that pass a test.
-use Rattle.std.proofs.Common.{◌≡◌, ℕ, ◌+◌, ◌≤◌, Bool, true, false, List, [], ◌∷◌, length, map, Some, refl, sym, ap, ◌∙◌, arith}
-use Rattle.std.specs.Prelude.{cond, filter, slice_get, count_by}
+use Rattle.std.proofs.Common.{◌≡◌, ℕ, ◌+◌, Bool, true, false, List, [], ◌∷◌, length, map, refl, sym, ap, ◌∙◌, arith}
+use Rattle.std.specs.Prelude.{cond, filter, count_by}
 use Rattle.std.specs.List.{list_any, enumerate_from, range_with_len}
-use Rattle.std.specs.Option.{option_map_or}
 use Rattle.std.proofs.lemmas.Bool.{or_parts}
 use Rattle.std.proofs.lemmas.List.Sums.{sum_by-cons}
 use Rattle.facet_model.specs.CountedPaths.{places}
-use Rattle.plan_places.proofs.Walks.{is_in_from}
-use Rattle.seg_postings.specs.Rising.{is_in, from_place}
 pub use Rattle.seg_file.proofs.PlacesOf.{at, places_from, rising_places, is_in_places, are_places}
 
 -- every document passes
@@ -32,7 +29,3 @@ length_from_place k test (x ∷ xs) = by (test x) (length_from_place (k + 1) tes
 -- equal tests
 pub same_places : {A : Type 0} (f g : A → Bool) (xs : List A) → ((x : A) → f x ≡ g x) → places f xs ≡ places g xs
 same_places f g xs same = ap (λ (t : _ → Bool). places t xs) (λ i x. same x i)
-
--- a place that was not passed is left exactly where its document passes
-pub left_at : {A : Type 0} (test : A → Bool) (docs : List A) (first n : ℕ) (d : A) (left : List ℕ) → left ≡ from_place first (places test docs) → first ≤ n → slice_get docs n ≡ Some d → is_in n left ≡ test d
-left_at test docs first n d left are le there = ap (is_in n) are ∙ is_in_from n first (places test docs) le ∙ is_in_places n test docs ∙ ap (λ o. option_map_or test o false) there

@@ -1,6 +1,6 @@
 -- Paths as terms: a document has the term of a path exactly where it has the path.
 use Rattle.std.proofs.Common.{◌≡◌, ℕ, zero, suc, ◌+◌, ◌<◌, Bool, true, false, List, [], ◌∷◌, ◌++◌, length, take, get_or, map, refl, sym, ap, ◌∙◌, arith, add-one}
-use Rattle.std.specs.Prelude.{◌||◌, ◌&&◌, cond, codes, flat_map, filter, count_by, slice_get, unwrap_or, Some}
+use Rattle.std.specs.Prelude.{◌||◌, ◌&&◌, cond, codes, flat_map, filter, slice_get, unwrap_or, Some}
 use Rattle.std.specs.List.{list_any, range_with_len}
 use Rattle.std.specs.Str.{bytes_eq}
 use Rattle.std.proofs.lemmas.List.Folds.{list_any-append}
@@ -11,7 +11,7 @@ use Rattle.facet_names.specs.Paths.{path_eq, is_under}
 use Rattle.facet_names.specs.Labels.{prefixes}
 use Rattle.facet_names.specs.Terms.{term_text}
 use Rattle.facet_names.proofs.TermTexts.{joined_once}
-use Rattle.facet_model.specs.Documents.{Doc, has, dim_of, count}
+use Rattle.facet_model.specs.Documents.{Doc, has, dim_of}
 use Rattle.facet_model.specs.Words.{words}
 use Rattle.facet_model.specs.Hits.{passes}
 use Rattle.facet_model.specs.CountedPaths.{places}
@@ -129,9 +129,6 @@ paths_same drill dim i path lt here fails =
 -- the places of a path's term are those of the documents that have the path
 pub has_places : (path : List (List ℕ)) (docs : List Doc) → 0 < length path → (t : List ℕ) → t ≡ codes "f" ++ term_text path → places (has_term t) docs ≡ places (λ doc. has doc path) docs
 has_places path docs some t is = ap (λ u. places (has_term u) docs) is ∙ same_places (has_term (codes "f" ++ term_text path)) (λ doc. has doc path) docs (λ doc. path_is path doc some)
-
-pub has_count : (path : List (List ℕ)) (docs : List Doc) → 0 < length path → (t : List ℕ) → t ≡ codes "f" ++ term_text path → count_by (has_term t) docs ≡ count docs path
-has_count path docs some t is = ap (λ u. count_by (has_term u) docs) is ∙ ap (λ (f : Doc → Bool). count_by f docs) (λ i doc. path_is path doc some i)
 
 pub passes_places : (drill : List (List (List ℕ))) (dim : List ℕ) (docs : List Doc) → places (some_of (has_tests (filter (is_of dim) drill))) docs ≡ places (λ doc. passes doc drill dim) docs
 passes_places drill dim docs = same_places (some_of (has_tests (filter (is_of dim) drill))) (λ doc. passes doc drill dim) docs (passes_is drill dim)

@@ -1,5 +1,5 @@
 -- The documents of a segment, as its terms tell them apart.
-use Rattle.std.specs.Prelude.{◌≡◌, ℕ, Bool, List, length, map}
+use Rattle.std.specs.Prelude.{◌≡◌, Bool, List, length, map}
 use Rattle.facet_model.specs.Documents.{Doc}
 use Rattle.facet_model.specs.CountedPaths.{places}
 use Rattle.facet_model.specs.Stored.{Records}

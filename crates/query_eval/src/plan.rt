@@ -1,11 +1,14 @@
-ghost use Rattle.std.specs.Prelude.{◌≡◌, ◌≤◌, List, ℕ, Some, IfOk, slice_get};
+ghost use Rattle.std.specs.Prelude.{◌≡◌, ◌≤◌, ◌&&◌, not, List, ℕ, Some, IfOk, slice_get};
 ghost use Rattle.facet_model.specs.Documents.{Doc};
 ghost use Rattle.facet_model.specs.CountedPaths.{places};
 ghost use Rattle.facet_model.specs.Queries.{QueryTree, matches};
 ghost use Rattle.facet_model.specs.QueryViews.{query_view};
+ghost use Rattle.facet_model.specs.Stored.{is_dead};
 ghost use Rattle.seg_postings.specs.Rising.{IsRising, IsNext, is_in, from_place};
+ghost use Rattle.seg_postings.specs.Sets.{without};
 ghost use Rattle.query_eval.specs.Segments.{HasTermsOf};
 
+use crate::live::live_node;
 use crate::query::query_node;
 use facet_model::Query;
 use facet_names::NoMemory;
@@ -15,7 +18,7 @@ use seg_postings::Places;
 use std::alloc::Global;
 use std::marker::Model;
 
-/// The documents of one segment that match a query, place by place, as Lucene's `Scorer`.
+/// The documents of one segment that match a query and whose records are live, place by place, as Lucene's `Scorer`.
 ///
 /// It takes memory when it is made, for each part of the query, and none afterwards. A list of places is walked from left to right once.
 #[derive(Drop)]
@@ -32,11 +35,13 @@ impl<'a> Model for Plan<'a> {
 }
 
 impl<'a> Plan<'a> {
-    /// The places of all documents that match.
+    /// The places of all documents that match and whose records are live.
     pub fn new(alloc: Global, segment: &'a Segment, query: &Query) -> Result<Plan<'a>, NoMemory>
-        ensures { IfOk result (λ p. (docs : List Doc) → HasTermsOf segment.now docs → p ≡ places (matches (query_view query.now)) docs) }
+        ensures { IfOk result (λ p. (docs : List Doc) → HasTermsOf segment.now docs
+            → p ≡ without (places (matches (query_view query.now)) docs) segment.now.dead) }
     {
         let node = query_node(alloc, segment, query)?;
+        let node = live_node(alloc, segment, node)?;
         Ok(Plan {
             places: PlanPlaces::new(node),
         })
@@ -50,12 +55,13 @@ impl<'a> Plan<'a> {
         self.places.next()
     }
 
-    /// Whether the document at a place matches, where no place behind it was asked for before. All before it are passed, and it is not.
+    /// Whether the record at a place is live and its document matches, where no place behind it was asked for before. All before it are passed, and it is not.
     pub fn matches(&mut self, doc: u32) -> bool
         ensures has { result ≡ is_in doc self.old }
         ensures left { self.new ≡ from_place doc self.old }
-        ensures matches { (query : QueryTree) (docs : List Doc) (first : ℕ) (at : Doc) → self.old ≡ from_place first (places (matches query) docs)
-            → first ≤ doc → slice_get docs doc ≡ Some at → result ≡ matches query at }
+        ensures matches { (query : QueryTree) (docs : List Doc) (dead : List ℕ) (first : ℕ) (at : Doc)
+            → self.old ≡ from_place first (without (places (matches query) docs) dead)
+            → first ≤ doc → slice_get docs doc ≡ Some at → result ≡ (matches query at && not (is_dead dead doc)) }
     {
         self.places.has(doc)
     }

@@ -7,7 +7,7 @@ ghost use Rattle.facet_model.specs.QueryViews.{query_view};
 ghost use Rattle.query_eval.specs.Segments.{HasTermsOf, AreTests};
 
 use crate::sets::{all_without, any_without};
-use crate::terms::{term_node, word_term};
+use crate::terms::found_node;
 use facet_model::{Query, Word};
 use facet_names::NoMemory;
 use plan_places::PlanNode;
@@ -15,11 +15,10 @@ use seg_file::Segment;
 use std::alloc::Global;
 
 // The documents that have a word.
-fn word_node<'a>(alloc: Global, segment: &'a Segment, word: &Word) -> Result<PlanNode<'a>, NoMemory>
-    ensures { IfOk result (λ node. (docs : List Doc) → HasTermsOf segment.now docs → node.left ≡ places (matches (term word.now)) docs) }
+fn word_node<'a>(segment: &'a Segment, word: &Word) -> PlanNode<'a>
+    ensures { (docs : List Doc) → HasTermsOf segment.now docs → result.left ≡ places (matches (term word.now)) docs }
 {
-    let term = word_term(alloc, word.text())?;
-    Ok(term_node(segment, term.as_str()))
+    found_node(segment.word_postings(word.text()))
 }
 
 /// The documents of a segment that match a query. It takes memory for each part of the query, and none for documents.
@@ -33,7 +32,7 @@ pub fn query_node<'a>(
 {
     match query {
         Query::All => Ok(PlanNode::below(segment.docs())),
-        Query::Term(word) => word_node(alloc, segment, word),
+        Query::Term(word) => Ok(word_node(segment, word)),
         Query::Bool {
             must,
             should,

@@ -13,6 +13,8 @@ mod gates;
 #[cfg(test)]
 mod lines;
 #[cfg(test)]
+mod near_misses;
+#[cfg(test)]
 mod runs;
 #[cfg(test)]
 mod scripts;

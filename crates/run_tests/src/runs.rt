@@ -1,5 +1,8 @@
 //! Runs over disks, for the tests.
-ghost use Rattle.std.specs.Prelude.{◌≤◌};
+ghost use Rattle.std.specs.Prelude.{◌≤◌, length, map, IfOk};
+ghost use Rattle.std.specs.Arc.{arc_value};
+ghost use Rattle.facet_model.specs.Stored.{Decodes};
+ghost use Rattle.seg_decoding.specs.Decoding.{docs_in};
 
 use commit_store::{Committer, Opened};
 use facet_config::FacetsConfig;
@@ -136,6 +139,21 @@ pub fn disk_with<R: AllocGlobal + Threads + Wait + Sync>(
     Ok(ended.disk)
 }
 
+/// Opens a disk.
+pub fn opened(
+    alloc: Global,
+    disk: MemoryDisk,
+    config: FacetsConfig,
+) -> Result<Opened<MemoryDisk>, Fail>
+    ensures decodes { IfOk result (λ o. Decodes o.labels config (map arc_value o.segments.items) (docs_in o.labels (map arc_value o.segments.items))) }
+    ensures few { IfOk result (λ o. length (docs_in o.labels (map arc_value o.segments.items)) ≤ 1000000) }
+{
+    match Committer::open(alloc, disk, config) {
+        Ok(opened) => Ok(opened),
+        Err(_) => Err("a disk that is opened".into()),
+    }
+}
+
 /// The names of all files of a disk.
 pub fn listing(alloc: Global, disk: &mut MemoryDisk) -> Result<String, Fail> {
     let mut text = String::new(alloc);
@@ -155,14 +173,11 @@ pub type Counts = (u32, u32);
 
 /// The counts of a disk with no declared dimension.
 pub fn counts(alloc: Global, disk: MemoryDisk) -> Result<Counts, Fail> {
-    let Ok(opened) = Committer::open(alloc, disk, FacetsConfig::new(alloc)) else {
-        return Err("a disk that is opened".into());
-    };
     let Opened {
         labels,
         segments,
         ..
-    } = opened;
+    } = opened(alloc, disk, FacetsConfig::new(alloc))?;
     let mut documents = 0u32;
     for segment in &segments {
         documents = documents.saturating_add(segment.docs());

@@ -26,19 +26,12 @@ type Summary = (Option<(usize, usize, usize)>, usize, bool, usize, u32);
 
 fn summary(command: &Command) -> Summary {
     match command {
-        Command::Search {
-            on: _,
-            query,
-            drill,
-            sideways,
-            asks,
-            hits,
-        } => (
-            lists(query),
-            drill.paths().len(),
-            *sideways,
-            asks.len(),
-            *hits,
+        Command::Search { on: _, line } => (
+            lists(&line.query),
+            line.drill.paths().len(),
+            line.sideways,
+            line.asks.len(),
+            line.hits,
         ),
         Command::Document { on: _, at } => (None, 0, false, 0, *at),
         Command::Stats { on: _ } => (None, 1, false, 0, 0),

@@ -1,31 +1,21 @@
-ghost use Rattle.std.specs.Prelude.{◌≡◌, ◌≤◌, [], length, map, IfOk};
+ghost use Rattle.std.specs.Prelude.{◌≤◌, length, map};
 ghost use Rattle.std.specs.Arc.{arc_value};
 ghost use Rattle.facet_model.specs.Stored.{Decodes};
 ghost use Rattle.seg_decoding.specs.Decoding.{docs_in};
 
-use crate::runs::{BOB, COMMIT, CONFIG, LISA, disk_with};
-use commit_store::{Committer, Opened};
+use crate::near_misses::are_alike_in_stores;
+use crate::runs::{BOB, COMMIT, CONFIG, LISA, disk_with, opened};
+use commit_store::Opened;
 use facet_config::FacetsConfig;
-use facet_disk::MemoryDisk;
 use facet_model::{Drill, Query};
 use facet_names::Path;
+use live_records::laws::{of_alive, of_made};
 use seg_file::Segment;
 use sideways::{DrillPlan, SearchAsk};
 use std::alloc::Global;
 use std::sync::Arc;
 use std::test::Fail;
 use taxo_list::{Labelled, TaxoView};
-
-// Opens a disk with no declared dimension.
-fn opened(alloc: Global, disk: MemoryDisk) -> Result<Opened<MemoryDisk>, Fail>
-    ensures decodes { IfOk result (λ o. Decodes o.labels [] (map arc_value o.segments.items) (docs_in o.labels (map arc_value o.segments.items))) }
-    ensures few { IfOk result (λ o. length (docs_in o.labels (map arc_value o.segments.items)) ≤ 1000000) }
-{
-    match Committer::open(alloc, disk, FacetsConfig::new(alloc)) {
-        Ok(opened) => Ok(opened),
-        Err(_) => Err("a disk that is opened".into()),
-    }
-}
 
 // A search for all documents, drilled down to one author.
 fn drilled(alloc: Global, sideways: bool) -> Result<SearchAsk, Fail> {
@@ -39,7 +29,7 @@ fn drilled(alloc: Global, sideways: bool) -> Result<SearchAsk, Fail> {
     }
     Ok(SearchAsk {
         query: Query::All,
-        drill: Drill::new(paths),
+        drill: Drill::new(alloc, paths)?,
         asks: Vec::new(alloc),
         hits: 10,
         sideways,
@@ -70,17 +60,20 @@ fn counted(
 }
 
 #[test]
-fn counts_of_an_answer(rt: HostRuntime) -> Result<(), Fail> {
+fn counts_of_answers(rt: HostRuntime) -> Result<(), Fail> {
     let alloc = rt.alloc();
     let disk = disk_with(&rt, &[CONFIG, BOB, LISA, LISA, COMMIT])?;
     let Opened {
         labels,
         segments,
         ..
-    } = opened(alloc, disk)?;
+    } = opened(alloc, disk, FacetsConfig::new(alloc))?;
     let view = labels.view()?;
     let config = FacetsConfig::new(alloc);
     assert!(rt; counted(alloc, &view, &config, &segments, true)? == (1, 2));
     assert!(rt; counted(alloc, &view, &config, &segments, false)? == (1, 0));
+    assert!(rt; are_alike_in_stores(&rt)?);
+    of_alive::<u32>();
+    of_made::<u32, u32>();
     Ok(())
 }

@@ -1,20 +1,19 @@
 -- Segments that decode, under a list of labels that goes on, and with one segment more.
 use Rattle.std.proofs.Common.{◌≡◌, ℕ, zero, suc, ◌+◌, ◌-◌, take, ◌<◌, length, arith, List, [], ◌∷◌, ◌++◌, map, get_or, slice_get, Some, refl, sym, ap, subst, ◌∙◌}
-use Rattle.std.specs.Prelude.{flat_map}
 use Rattle.std.specs.List.{AllZip}
-use Rattle.std.proofs.lemmas.List.{append-nil, map-append, map_push, take_more, flat_map_more}
-use Rattle.std.proofs.lemmas.List.Concat.{flat_map-cons}
+use Rattle.std.proofs.lemmas.List.{append-nil, append_assoc, map-append, map_push, take_more}
 use Rattle.std.proofs.lemmas.Option.{get_or_from_slice_get, slice_get-get_or}
 use Rattle.facet_names.specs.Labels.{GoesOn, IsLabelList}
 use Rattle.facet_names.proofs.LabelLists.{Labels}
 use Rattle.facet_model.specs.Documents.{Doc}
 use Rattle.facet_model.specs.Flags.{Config}
-use Rattle.facet_model.specs.Stored.{Stored, Records, AreLabelsAt, IsRecordOf, IsSegmentOf, Decodes}
+use Rattle.facet_model.specs.Stored.{Stored, Records, AreLabelsAt, IsRecordOf, IsSegmentOf, Decodes, alive, live_docs}
 use Rattle.facet_config.proofs.Staying.{counted_stay, known_stay}
 use Rattle.seg_terms.specs.Entries.{stored_of, segment_of}
 use Rattle.seg_terms.specs.declared.entry.Entry.{Entry}
 use Rattle.seg_decoding.specs.Decoding.{doc_in, records_in, docs_in, flushed}
 use Rattle.seg_decoding.specs.Entries.{AreEntries, docs_of}
+use Rattle.seg_decoding.proofs.Live.{map_alive, alive_none, records_first}
 use Rattle.seg_decoding.proofs.Ordinals.{all_stay, all_zip_push}
 
 -- ---- lists side by side
@@ -81,13 +80,14 @@ module _ (config : Config) (a b : Labels) (list_a : IsLabelList a) (list_b : IsL
 
 -- ---- the documents of segments
 
-pieces_are : (known : Labels) (config : Config) (segments : List Records) (pieces : List (List Doc)) → AllZip (IsSegmentOf known config) segments pieces → docs_in known segments ≡ flat_map (λ p. p) pieces
+pieces_are : (known : Labels) (config : Config) (segments : List Records) (pieces : List (List Doc)) → AllZip (IsSegmentOf known config) segments pieces → docs_in known segments ≡ live_docs segments pieces
 pieces_are known config [] [] all = refl
 pieces_are known config [] (p ∷ ps) all = absurd all
 pieces_are known config (s ∷ ss) [] all = absurd all
 pieces_are known config (s ∷ ss) (p ∷ ps) all =
     let one : map (doc_in known) s.records ≡ p = all_zip_is (IsRecordOf known config) (doc_in known) (record_is known config) s.records p all.0.records in
-    ap (map (doc_in known)) (flat_map-cons (λ (x : Records). x.records) s ss) ∙ map-append (doc_in known) s.records (records_in ss) ∙ (λ i. one i ++ pieces_are known config ss ps all.1 i) ∙ sym (flat_map-cons (λ (x : List Doc). x) p ps)
+    let first : map (doc_in known) (alive s.dead s.records) ≡ alive s.dead p = map_alive (doc_in known) s.dead s.records ∙ ap (λ (docs : List Doc). alive s.dead docs) one in
+    ap (map (doc_in known)) (records_first s ss) ∙ map-append (doc_in known) (alive s.dead s.records) (records_in ss) ∙ (λ i. first i ++ pieces_are known config ss ps all.1 i)
 
 -- the documents are determined
 pub decoded : (known : Labels) (config : Config) (segments : List Records) (docs : List Doc) → Decodes known config segments docs → docs_in known segments ≡ docs
@@ -99,19 +99,27 @@ entries_zip : (config : Config) (labels : Labels) (entries : List Entry) → Are
 entries_zip config labels [] are = tt
 entries_zip config labels (e ∷ es) are = (are.0.stored, entries_zip config labels es are.1)
 
+live_docs_push : (R : Records → List Doc → Type 0) (segments : List Records) (pieces : List (List Doc)) (s : Records) (piece : List Doc) → AllZip R segments pieces → live_docs segments pieces ++ alive s.dead piece ≡ live_docs (segments ++ s ∷ []) (pieces ++ piece ∷ [])
+live_docs_push R [] [] s piece all = sym (append-nil (alive s.dead piece))
+live_docs_push R [] (p ∷ ps) s piece all = absurd all
+live_docs_push R (x ∷ xs) [] s piece all = absurd all
+live_docs_push R (x ∷ xs) (p ∷ ps) s piece all = append_assoc (alive x.dead p) (live_docs xs ps) (alive s.dead piece) ∙ ap (λ (docs : List Doc). alive x.dead p ++ docs) (live_docs_push R xs ps s piece all.1)
+
 -- one segment more decodes
-pub decodes_push : (known : Labels) (config : Config) (segments : List Records) (docs : List Doc) (s : Records) (piece : List Doc) → Decodes known config segments docs → IsSegmentOf known config s piece → Decodes known config (segments ++ s ∷ []) (docs ++ piece)
+pub decodes_push : (known : Labels) (config : Config) (segments : List Records) (docs : List Doc) (s : Records) (piece : List Doc) → Decodes known config segments docs → IsSegmentOf known config s piece → Decodes known config (segments ++ s ∷ []) (docs ++ alive s.dead piece)
 decodes_push known config segments docs s piece d one = (
   d.0 ++ piece ∷ [],
   all_zip_push (IsSegmentOf known config) segments d.0 s piece d.1 one,
-  ap (λ (ds : List Doc). ds ++ piece) d.2 ∙ flat_map_more (λ (x : List Doc). x) [] d.0 piece,
+  ap (λ (ds : List Doc). ds ++ alive s.dead piece) d.2 ∙ live_docs_push (IsSegmentOf known config) segments d.0 s piece d.1,
 )
 
 -- the entries become a segment
 pub flushed_decodes : (config : Config) (known : Labels) (segments : List Records) (docs : List Doc) (entries : List Entry) → Decodes known config segments docs → AreEntries config known entries → Decodes known config (flushed segments entries) (docs ++ docs_of entries)
 flushed_decodes config known segments docs [] d are = subst (Decodes known config segments) (sym (append-nil docs)) d
 flushed_decodes config known segments docs (e ∷ es) d are =
-    decodes_push known config segments docs (segment_of (e ∷ es)) (docs_of (e ∷ es)) d (record { records = entries_zip config known (e ∷ es) are; terms = refl })
+    let s = segment_of (e ∷ es) in
+    let more = decodes_push known config segments docs s (docs_of (e ∷ es)) d (record { records = entries_zip config known (e ∷ es) are; terms = refl }) in
+    subst (λ (piece : List Doc). Decodes known config (segments ++ s ∷ []) (docs ++ piece)) (alive_none [] (docs_of (e ∷ es)) refl) more
 
 -- a label behind the root stands one place before its ordinal among the others
 pub label_behind : (labels paths : Labels) (ord : ℕ) (path : List (List ℕ)) → labels ≡ [] ∷ paths → 0 < ord → path ≡ get_or paths (ord - 1) [] → ord - 1 < length paths → slice_get labels ord ≡ Some path

@@ -1,4 +1,5 @@
 pub mod Ordinals
+pub mod Live
 pub mod Decoded
 pub mod Stored
 pub mod Differences

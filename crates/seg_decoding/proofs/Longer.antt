@@ -72,7 +72,7 @@ module _ (config : Config) (a b : Labels) (list_a : IsLabelList a) (list_b : IsL
     all_docs (r ∷ rs) fits = λ i. doc_stays r fits.0.leaves i ∷ all_docs rs fits.1 i
 
     rebuilt_stays : (rs : List Stored) → AllByRecursion (Fits config a needs) rs → rebuilt config b rs ≡ rebuilt config a rs
-    rebuilt_stays rs fits = λ i. record { records = all_anew rs fits i; terms = ap terms_of (all_docs rs fits) i }
+    rebuilt_stays rs fits = λ i. record { records = all_anew rs fits i; terms = ap terms_of (all_docs rs fits) i; dead = [] }
 
     -- the bytes are opened as they were
     pub opened_longer : (documents : ℕ) (bytes : List ℕ) → stored_segment config b needs documents bytes ≡ stored_segment config a needs documents bytes

@@ -74,10 +74,10 @@ module _ (config : Config) (known : Labels) (needs : ℕ) where
   all_anew (r ∷ rs) [] all = absurd all
   all_anew (r ∷ rs) (d ∷ ds) all = λ i. anew r d all.0 i ∷ all_anew rs ds all.1 i
 
-  pub rebuilt_is : (s : Records) (docs : List Doc) → IsSegmentOf known config s docs → rebuilt config known s.records ≡ s
-  rebuilt_is s docs of =
+  pub rebuilt_is : (s : Records) (docs : List Doc) → s.dead ≡ [] → IsSegmentOf known config s docs → rebuilt config known s.records ≡ s
+  rebuilt_is s docs live of =
       let same : map (doc_in known) s.records ≡ docs = all_zip_is (IsRecordOf known config) (doc_in known) (record_is known config) s.records docs of.records in
-      λ i. record { records = all_anew s.records docs of.records i; terms = (ap terms_of same ∙ sym of.terms) i }
+      λ i. record { records = all_anew s.records docs of.records i; terms = (ap terms_of same ∙ sym of.terms) i; dead = sym live i }
 
   fit : IsLabelList known → (rs : List Stored) (docs : List Doc) → AllZip (IsRecordOf known config) rs docs → AllByRecursion (λ r. AllByRecursion (λ leaf. leaf < needs) r.leaves) rs → AllByRecursion (Fits config known needs) rs
   fit list [] [] all low = tt
@@ -100,5 +100,5 @@ module _ (config : Config) (known : Labels) (needs : ℕ) where
   opened_again list s docs of is low =
       let few : length s.records < 2 ^ 32 = omega (arith, is.few) in
       let fits = documents_fit_where config known needs 12 s.records (fit list s.records docs of.records low) in
-      let same : first_difference (seg_bytes s) (seg_bytes (rebuilt config known s.records)) ≡ None = ap (λ (x : Records). first_difference (seg_bytes s) (seg_bytes x)) (rebuilt_is s docs of) ∙ none_from_same (seg_bytes s) 0 in
+      let same : first_difference (seg_bytes s) (seg_bytes (rebuilt config known s.records)) ≡ None = ap (λ (x : Records). first_difference (seg_bytes s) (seg_bytes x)) (rebuilt_is s docs is.live of) ∙ none_from_same (seg_bytes s) 0 in
       rw (head_of (length s.records) s few, eq-eqb (length s.records) (length s.records) refl, segment_again (seg_bytes s) s is, fits, same) refl

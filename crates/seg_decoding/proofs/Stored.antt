@@ -2,15 +2,15 @@
 use Rattle.std.proofs.Common.{◌≡◌, ℕ, zero, suc, ◌<◌, List, [], ◌∷◌, ◌++◌, length, map, get_or, slice_get, Some, option_map, refl, sym, ap, subst, ◌∙◌, arith}
 use Rattle.std.specs.Prelude.{All}
 use Rattle.std.specs.List.{AllZip, AllByRecursion}
-use Rattle.std.proofs.lemmas.List.Concat.{flat_map-cons}
 use Rattle.std.proofs.lemmas.Option.{get_or_from_slice_get, slice_get_within}
 use Rattle.facet_names.specs.Labels.{IsLabelList, place}
 use Rattle.facet_names.proofs.LabelLists.{Labels, place_at, root_first}
 use Rattle.facet_model.specs.Documents.{Doc}
 use Rattle.facet_model.specs.Flags.{Config}
-use Rattle.facet_model.specs.Stored.{Stored, Records, AreLabelsAt, IsRecordOf, IsSegmentOf, Decodes}
+use Rattle.facet_model.specs.Stored.{Stored, Records, AreLabelsAt, IsRecordOf, IsSegmentOf, Decodes, alive}
 use Rattle.facet_counts.proofs.Documents.{each_unbroken}
 use Rattle.seg_decoding.specs.Decoding.{records_in}
+use Rattle.seg_decoding.proofs.Live.{each_alive, records_first}
 
 -- the record is a document's
 abbrev pub IsOfDoc : Labels → Config → Stored → Type 0
@@ -30,8 +30,8 @@ pieces_each : (known : Labels) (config : Config) (segments : List Records) (piec
 pieces_each known config [] [] all = tt
 pieces_each known config [] (p ∷ ps) all = absurd all
 pieces_each known config (s ∷ ss) [] all = absurd all
-pieces_each known config (s ∷ ss) (p ∷ ps) all = subst (AllByRecursion (IsOfDoc known config)) (sym (flat_map-cons (λ (x : Records). x.records) s ss))
-    (all_append (IsOfDoc known config) s.records (records_in ss) (zip_each known config s.records p all.0.records) (pieces_each known config ss ps all.1))
+pieces_each known config (s ∷ ss) (p ∷ ps) all = subst (AllByRecursion (IsOfDoc known config)) (sym (records_first s ss))
+    (all_append (IsOfDoc known config) (alive s.dead s.records) (records_in ss) (each_alive (IsOfDoc known config) s.dead s.records (zip_each known config s.records p all.0.records)) (pieces_each known config ss ps all.1))
 
 pub each_at : {A : Type 0} (P : A → Type 0) (xs : List A) → AllByRecursion P xs → All P xs
 each_at P [] all k d lt = absurd (omega arith)

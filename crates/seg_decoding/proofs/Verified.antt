@@ -37,7 +37,7 @@ module _ (config : Config) (known : Labels) (needs : ℕ) where
     own_records = each_anew s.records right
 
     own_rebuilt : s ≡ rebuilt config known s.records
-    own_rebuilt = λ i. record { records = sym own_records i; terms = own_terms i }
+    own_rebuilt = λ i. record { records = sym own_records i; terms = own_terms i; dead = is.live i }
 
     spelled_own : IsSegment (seg_bytes s) s
     spelled_own = subst (λ (bs : List ℕ). IsSegment bs s) is.spelled is

@@ -1,7 +1,7 @@
 -- The documents that segments stand for, under a list of labels.
 use Rattle.std.specs.Prelude.{ℕ, List, [], ◌∷◌, ◌++◌, map, flat_map, slice_index_or}
 use Rattle.facet_model.specs.Documents.{Doc}
-use Rattle.facet_model.specs.Stored.{Stored, Records}
+use Rattle.facet_model.specs.Stored.{Stored, Records, alive}
 use Rattle.seg_terms.specs.Entries.{segment_of}
 use Rattle.seg_terms.specs.declared.entry.Entry.{Entry}
 
@@ -9,15 +9,15 @@ use Rattle.seg_terms.specs.declared.entry.Entry.{Entry}
 abbrev pub doc_in : List (List (List ℕ)) → Stored → Doc
 doc_in known r = record { id = r.id; text = r.text; labels = map (λ leaf. slice_index_or known leaf []) r.leaves }
 
--- all records, in order
+-- all live records, in order
 abbrev pub records_in : List Records → List Stored
-records_in segments = flat_map (λ s. s.records) segments
+records_in segments = flat_map (λ s. alive s.dead s.records) segments
 
--- the record at a place, which is there
+-- the live record at a place, which is there
 abbrev pub record_at : List Records → ℕ → Stored
 record_at segments at = slice_index_or (records_in segments) at (record { id = []; text = []; leaves = []; counted = [] })
 
--- the documents of all records, in order
+-- the documents of all live records, in order
 abbrev pub docs_in : List (List (List ℕ)) → List Records → List Doc
 docs_in known segments = map (doc_in known) (records_in segments)
 

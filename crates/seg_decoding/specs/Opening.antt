@@ -79,7 +79,7 @@ counted_anew config known r = record { id = r.id; text = r.text; leaves = r.leav
 
 -- the segment of the documents that records stand for
 abbrev pub rebuilt : Config → List (List (List ℕ)) → List Stored → Records
-rebuilt config known rs = record { records = map (counted_anew config known) rs; terms = terms_of (map (doc_in known) rs) }
+rebuilt config known rs = record { records = map (counted_anew config known) rs; terms = terms_of (map (doc_in known) rs); dead = [] }
 
 -- the first place where two lists of bytes differ that begin at `at`; where one is longer, its first byte more
 unfoldable pub first_difference_from : ℕ → List ℕ → List ℕ → Option ℕ

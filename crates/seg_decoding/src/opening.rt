@@ -79,6 +79,7 @@ pub fn open_stored(
     ensures number { IfOk result (λ s. length s.records ≡ documents) }
     ensures some { IfOk result (λ s. 0 < length s.records) }
     ensures few { IfOk result (λ s. length s.records ≤ 1000000) }
+    ensures own { IfOk result (λ s. IsSegment (seg_bytes s) s) }
 {
     let segment = opened(alloc, documents, bytes)?;
     match verify(alloc, config, labels, needs, &segment) {

@@ -5,3 +5,4 @@ pub mod Search
 pub mod Opened
 pub mod PlacesOf
 pub mod Columns
+pub mod Live

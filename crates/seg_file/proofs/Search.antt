@@ -4,10 +4,11 @@ use Rattle.std.specs.declared.cmp.Ordering.{Ordering}
 use Rattle.std.specs.declared.cmp.Ordering.TheVariants.{Less, Equal, Greater}
 use Rattle.std.specs.List.{find}
 use Rattle.std.specs.Option.{option_map}
-use Rattle.std.specs.Ordering.{is_lt, is_eq, nat_cmp, ordering_reverse}
+use Rattle.std.specs.Ordering.{is_lt, is_eq, is_ne, nat_cmp, ordering_reverse, ordering_then}
+use Rattle.std.specs.Prelude.{◌≢◌, ◌==◌, Bool, cond, nat_lt}
 use Rattle.std.specs.Cmp.Lexicographic.{slice_cmp}
 use Rattle.std.specs.Str.{bytes_eq}
-use Rattle.std.proofs.lemmas.Bool.{cases_lt}
+use Rattle.std.proofs.lemmas.Bool.{cases_lt, eqb-true}
 use Rattle.std.proofs.lemmas.Cmp.{nat_list_cmp_total}
 use Rattle.std.proofs.lemmas.Map.Text.{is_eq-slice_cmp}
 use Rattle.seg_grammar.specs.Spelling.{TermsRise}
@@ -50,6 +51,23 @@ reversed Greater = refl
 swapped : (a b : List ℕ) → bytes_eq a b ≡ true → bytes_eq b a ≡ true
 swapped a b e = sym (is_eq-slice_cmp b a) ∙ ap is_eq (nat_list_cmp_total.antisymm b a) ∙ reversed (order a b) ∙ is_eq-slice_cmp a b ∙ e
 
+-- two texts differ exactly where one comes before the other
+ne_is : (o : Ordering) → true ≡ is_ne o → is_eq o ≡ false
+ne_is Less e = refl
+ne_is Equal e = absurd cc
+ne_is Greater e = refl
+
+eq_is : (o : Ordering) → false ≡ is_ne o → is_eq o ≡ true
+eq_is Less e = absurd cc
+eq_is Equal e = refl
+eq_is Greater e = absurd cc
+
+pub differs : (a b : List ℕ) (o : Ordering) → o ≡ order a b → true ≡ is_ne o → bytes_eq a b ≡ false
+differs a b o is e = sym (is_eq-slice_cmp a b) ∙ ap is_eq (sym is) ∙ ne_is o e
+
+pub agrees : (a b : List ℕ) (o : Ordering) → o ≡ order a b → false ≡ is_ne o → bytes_eq a b ≡ true
+agrees a b o is e = sym (is_eq-slice_cmp a b) ∙ ap is_eq (sym is) ∙ eq_is o e
+
 -- ---- terms that rise
 
 after_all : (u : List ℕ) (ts : List (List ℕ × List ℕ)) (j : ℕ) → TermsRise (Some u) ts → j < length ts → order u (term_of ts j).0 ≡ Less
@@ -62,6 +80,18 @@ rising_between previous [] i j h le lt = absurd (omega arith)
 rising_between previous (t ∷ ts) i zero h le lt = absurd (omega arith)
 rising_between previous (t ∷ ts) zero (suc j) h le lt = after_all t.0 ts j h.1 (omega arith)
 rising_between previous (t ∷ ts) (suc i) (suc j) h le lt = rising_between (Some t.0) ts i j h.1 (omega arith) (omega arith)
+
+-- ---- the term of a word
+
+-- a text that begins with another byte stands to a word's term as it stands to the first byte
+pub other_first : (t word : List ℕ) → ((rest : List ℕ) → t ≢ 119 ∷ rest) → order t (119 ∷ []) ≡ order t (119 ∷ word)
+other_first [] word other = refl
+other_first (x ∷ xs) word other = by (nat_lt x 119) (x == 119) (λ e. other xs (ap (λ y. y ∷ xs) (eqb-true x 119 e)))
+  where
+    by : (a b : Bool) → (b ≡ true → ⊥) → ordering_then (cond a Less (cond b Equal Greater)) (order xs []) ≡ ordering_then (cond a Less (cond b Equal Greater)) (order xs word)
+    by true b differs = refl
+    by false true differs = absurd (differs refl)
+    by false false differs = refl
 
 -- ---- the bounds of a search
 

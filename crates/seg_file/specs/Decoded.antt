@@ -10,7 +10,7 @@ use Rattle.seg_grammar.specs.Index.{IsIndexOf}
 -- what was read, or nothing
 abbrev pub read_or_none : Result Records SegFault → Records
 read_or_none (Ok r) = r
-read_or_none (Err e) = record { records = []; terms = [] }
+read_or_none (Err e) = record { records = []; terms = []; dead = [] }
 
 -- the records and terms of a segment's bytes
 unfoldable pub decoded : List ℕ → Records

@@ -1,3 +1,4 @@
 pub mod Decoded
 pub mod Fronts
 pub mod Search
+pub mod Live

@@ -2,6 +2,7 @@
 #![tactic(auto)]
 
 mod fronts;
+mod key;
 mod segment;
 mod segment_bytes;
 

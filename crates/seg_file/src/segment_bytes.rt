@@ -1,15 +1,15 @@
 ghost use Rattle.std.specs.Prelude.{◌≡◌, ◌≤◌, ◌<◌, ℕ, List, map, length, IfOk, IfErr, MatchResult, None};
 ghost use Rattle.facet_model.specs.Stored.{Records};
-ghost use Rattle.facet_model.specs.Terms.{terms_of};
-ghost use Rattle.seg_terms.specs.Entries.{stored_of};
+ghost use Rattle.seg_terms.specs.Entries.{segment_of};
 ghost use Rattle.seg_grammar.specs.declared.fault.SegFault.TheVariants.{NoMemory as Memory};
 ghost use Rattle.seg_grammar.specs.Spelling.{IsRecord, IsSegment, seg_bytes, TermsRise};
 ghost use Rattle.seg_grammar.specs.Reading.{Fails, segment_at};
 ghost use Rattle.seg_grammar.specs.Lookups.{record_of, places_of_term};
 ghost use Rattle.seg_file.specs.Fronts.{BeginsRecord, BeginsCounted, BeginsTerm};
-ghost use Rattle.seg_file.specs.Search.{term_of, IsFirstFrom};
+ghost use Rattle.seg_file.specs.Search.{term_of, text_of, IsFirstFrom};
 
 use crate::fronts::{cursor_at, list_front, places_front, text_front};
+use crate::key::Key;
 use facet_codec::Cursor;
 use facet_names::NoMemory;
 use seg_grammar::{Index, SegFault, read_index};
@@ -44,7 +44,7 @@ impl SegmentBytes {
     pub(crate) fn build(alloc: Global, entries: &[Entry]) -> Result<SegmentBytes, NoMemory>
         requires some { 0 < length entries.now }
         requires few { length entries.now ≤ 1000000 }
-        ensures { IfOk result (λ s. s ≡ record { records = map stored_of entries.now; terms = terms_of (map (λ e. e.doc) entries.now) }) }
+        ensures { IfOk result (λ s. s ≡ segment_of entries.now) }
     {
         let terms = terms_of(alloc, entries)?;
         let written = write_segment(alloc, entries, &terms)?;
@@ -122,14 +122,14 @@ impl SegmentBytes {
 
     /// The documents that have a term, rising, or None exactly where there is no such term. It bisects, so it looks at about the logarithm of the number
     /// of terms.
-    pub(crate) fn postings(&self, term: &str) -> Option<Postings<'_>>
-        ensures { result ≡ places_of_term self.now.terms term.now }
+    pub(crate) fn postings(&self, key: &Key<'_>) -> Option<Postings<'_>>
+        ensures { result ≡ places_of_term self.now.terms (text_of key.now) }
     {
-        let at = self.first_from(term);
+        let at = self.first_from(key);
         if at == self.terms() {
             return None;
         }
-        if self.term_text(at) != term {
+        if key.order(self.term_text(at)).is_ne() {
             return None;
         }
         Some(self.places(at))
@@ -143,9 +143,9 @@ impl SegmentBytes {
         self.index.terms.len()
     }
 
-    /// How many terms come before the text. It bisects.
-    pub(crate) fn first_from(&self, text: &str) -> usize
-        ensures first { IsFirstFrom text.now self.now.terms result result }
+    /// How many terms come before the one that is looked for. It bisects.
+    pub(crate) fn first_from(&self, key: &Key<'_>) -> usize
+        ensures first { IsFirstFrom (text_of key.now) self.now.terms result result }
         ensures within { result ≤ length self.now.terms }
         ensures rise { TermsRise None self.now.terms }
     {
@@ -153,7 +153,7 @@ impl SegmentBytes {
         let mut high = self.terms();
         while low < high {
             let middle = low + (high - low) / 2;
-            if self.term_text(middle) < text {
+            if key.order(self.term_text(middle)).is_lt() {
                 low = middle + 1;
             } else {
                 high = middle;

@@ -150,7 +150,7 @@ segment_again bytes r h =
     let e4 = list_read_back record_at record_bytes IsRecord record_again (length r.records) 12 r.records t4 (record { count = refl; fit = h.records }) in
     let e5 = number_again behind (length r.terms) t5 h.terms_count in
     let e6 = terms_again None (length r.records) (behind + 4) r.terms [] docs h.terms h.rise in
-    rw (whole, e1, e2, e3, ne_eqb (length r.records) 0 (λ e. omega (arith, h.some)), le-ltb 1000000 (length r.records) h.few, e4, e5, e6) refl
+    rw (whole, e1, e2, e3, ne_eqb (length r.records) 0 (λ e. omega (arith, h.some)), le-ltb 1000000 (length r.records) h.few, e4, e5, e6) (ap (λ (dead : List ℕ). Ok (record { records = r.records; terms = r.terms; dead = dead })) (sym h.live))
 
 -- reading meets no fault in a segment
 pub segment_no_fault : (bytes : List ℕ) (r : Records) (e : SegFault) → IsSegment bytes r → Fails e (segment_at bytes) → e ≡ NoMemory

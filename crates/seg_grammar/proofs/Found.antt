@@ -243,12 +243,12 @@ pub segment_found : (bytes : List ℕ) (r : Records) → IsBytes bytes → segme
 unfolding segment_at seg_bytes
 segment_found bytes r fits e =
     let p : Place = record { at = 0; rest = bytes } in
-    let a = bind_ok (head_at p) (λ start. docs_at start >>= λ docs. list_at record_at docs.0 docs.1 >>= λ records. number_at records.1 >>= λ n. terms_at n.0 None docs.0 n.1 >>= λ terms. cond (eqb (length terms.1.rest) 0) (done (record { records = records.0; terms = terms.0 })) (Err (Disorder terms.1.at))) r e in
-    let b = bind_ok (docs_at a.0) (λ docs. list_at record_at docs.0 docs.1 >>= λ records. number_at records.1 >>= λ n. terms_at n.0 None docs.0 n.1 >>= λ terms. cond (eqb (length terms.1.rest) 0) (done (record { records = records.0; terms = terms.0 })) (Err (Disorder terms.1.at))) r a.2 in
-    let c = bind_ok (list_at record_at b.0.0 b.0.1) (λ records. number_at records.1 >>= λ n. terms_at n.0 None b.0.0 n.1 >>= λ terms. cond (eqb (length terms.1.rest) 0) (done (record { records = records.0; terms = terms.0 })) (Err (Disorder terms.1.at))) r b.2 in
-    let d = bind_ok (number_at c.0.1) (λ n. terms_at n.0 None b.0.0 n.1 >>= λ terms. cond (eqb (length terms.1.rest) 0) (done (record { records = c.0.0; terms = terms.0 })) (Err (Disorder terms.1.at))) r c.2 in
-    let f = bind_ok (terms_at d.0.0 None b.0.0 d.0.1) (λ terms. cond (eqb (length terms.1.rest) 0) (done (record { records = c.0.0; terms = terms.0 })) (Err (Disorder terms.1.at))) r d.2 in
-    let made : Records = record { records = c.0.0; terms = f.0.0 } in
+    let a = bind_ok (head_at p) (λ start. docs_at start >>= λ docs. list_at record_at docs.0 docs.1 >>= λ records. number_at records.1 >>= λ n. terms_at n.0 None docs.0 n.1 >>= λ terms. cond (eqb (length terms.1.rest) 0) (done (record { records = records.0; terms = terms.0; dead = [] })) (Err (Disorder terms.1.at))) r e in
+    let b = bind_ok (docs_at a.0) (λ docs. list_at record_at docs.0 docs.1 >>= λ records. number_at records.1 >>= λ n. terms_at n.0 None docs.0 n.1 >>= λ terms. cond (eqb (length terms.1.rest) 0) (done (record { records = records.0; terms = terms.0; dead = [] })) (Err (Disorder terms.1.at))) r a.2 in
+    let c = bind_ok (list_at record_at b.0.0 b.0.1) (λ records. number_at records.1 >>= λ n. terms_at n.0 None b.0.0 n.1 >>= λ terms. cond (eqb (length terms.1.rest) 0) (done (record { records = records.0; terms = terms.0; dead = [] })) (Err (Disorder terms.1.at))) r b.2 in
+    let d = bind_ok (number_at c.0.1) (λ n. terms_at n.0 None b.0.0 n.1 >>= λ terms. cond (eqb (length terms.1.rest) 0) (done (record { records = c.0.0; terms = terms.0; dead = [] })) (Err (Disorder terms.1.at))) r c.2 in
+    let f = bind_ok (terms_at d.0.0 None b.0.0 d.0.1) (λ terms. cond (eqb (length terms.1.rest) 0) (done (record { records = c.0.0; terms = terms.0; dead = [] })) (Err (Disorder terms.1.at))) r d.2 in
+    let made : Records = record { records = c.0.0; terms = f.0.0; dead = [] } in
     let g = guard_yes (eqb (length f.0.1.rest) 0) (Disorder f.0.1.at) made r f.2 in
     let ta = head_taken p a.0 fits a.1 in
     let tb = docs_spelled a.0 b.0.0 b.0.1 ta.bytes b.1 in
@@ -272,6 +272,7 @@ segment_found bytes r fits e =
       terms_count = omega (arith, tf.1.count, td.1);
       terms = subst (λ (n : ℕ). AllByRecursion (IsTerm n) f.0.0) (sym tc.1.count) tf.1.fit;
       rise = tf.1.rise;
+      live = refl;
     })
 
 -- where records and terms begin

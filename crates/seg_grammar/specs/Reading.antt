@@ -161,4 +161,4 @@ segment_at bytes = do
   records ← list_at record_at docs.0 docs.1
   n ← number_at records.1
   terms ← terms_at n.0 None docs.0 n.1
-  if length terms.1.rest == 0 then Ok (record { records = records.0; terms = terms.0 }) else Err (Disorder terms.1.at)
+  if length terms.1.rest == 0 then Ok (record { records = records.0; terms = terms.0; dead = [] }) else Err (Disorder terms.1.at)

@@ -81,7 +81,7 @@ abbrev pub TermsRise : Option (List ℕ) → List (List ℕ × List ℕ) → Typ
 TermsRise previous [] = Unit {0}
 TermsRise previous (t ∷ ts) = (comes_after previous t.0 ≡ true) × TermsRise (Some t.0) ts
 
--- The bytes are the segment of these records and terms, which are within every limit of the format.
+-- The bytes are the segment of these records and terms, which are within every limit of the format. All records are live.
 pub record IsSegment (bytes : List ℕ) (r : Records) : Type 0 where
   pub spelled : bytes ≡ seg_bytes r
   pub some : 1 ≤ length r.records
@@ -90,3 +90,8 @@ pub record IsSegment (bytes : List ℕ) (r : Records) : Type 0 where
   pub terms_count : length r.terms < 2 ^ 32
   pub terms : AllByRecursion (IsTerm (length r.records)) r.terms
   pub rise : TermsRise None r.terms
+  pub live : r.dead ≡ []
+
+-- the same records and terms, and all records are live
+abbrev pub all_live : Records → Records
+all_live r = record { records = r.records; terms = r.terms; dead = [] }

@@ -1,5 +1,5 @@
 -- The terms of documents are short: their words and the texts of their labels are.
-use Rattle.std.proofs.Common.{◌≡◌, ℕ, zero, suc, ◌+◌, ◌≤◌, ◌<◌, Bool, true, false, cond, ◌||◌, List, [], ◌∷◌, ◌++◌, length, take, map, refl, sym, subst, arith, inl, inr, length-drop, length-take-le}
+use Rattle.std.proofs.Common.{◌≡◌, ℕ, zero, suc, ◌+◌, ◌≤◌, Bool, true, false, cond, ◌||◌, List, [], ◌∷◌, ◌++◌, length, take, map, refl, sym, subst, arith, inl, inr, length-drop, length-take-le}
 use Rattle.std.specs.Prelude.{codes, filter, flat_map}
 use Rattle.std.specs.List.{AllByRecursion, after_first, list_any, position_or_len, range_with_len, slice_split}
 use Rattle.std.specs.Str.{bytes_eq, str_to_ascii_lowercase}

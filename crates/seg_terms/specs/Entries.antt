@@ -1,5 +1,5 @@
 -- What is stored of documents.
-use Rattle.std.specs.Prelude.{List, map}
+use Rattle.std.specs.Prelude.{List, [], map}
 use Rattle.facet_model.specs.Stored.{Stored, Records}
 use Rattle.facet_model.specs.Terms.{terms_of}
 use Rattle.seg_terms.specs.declared.entry.Entry.{Entry}
@@ -8,6 +8,6 @@ use Rattle.seg_terms.specs.declared.entry.Entry.{Entry}
 abbrev pub stored_of : Entry → Stored
 stored_of e = record { id = e.doc.id; text = e.doc.text; leaves = e.leaves.items; counted = e.counted }
 
--- the segment of documents: what is stored of each, in their order, and their terms
+-- the segment of documents, all of them live: what is stored of each, in their order, and their terms
 abbrev pub segment_of : List Entry → Records
-segment_of entries = record { records = map stored_of entries; terms = terms_of (map (λ e. e.doc) entries) }
+segment_of entries = record { records = map stored_of entries; terms = terms_of (map (λ e. e.doc) entries); dead = [] }

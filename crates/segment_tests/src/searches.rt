@@ -1,5 +1,5 @@
 use crate::making::{entry, path};
-use facet_model::Query;
+use facet_model::{Drill, Query};
 use plan_places::PlanPlaces;
 use query_eval::{Plan, has_path, paths_node};
 use seg_file::Segment;
@@ -20,16 +20,21 @@ fn books(alloc: Global) -> Result<Segment, Fail> {
 fn drilled_down(rt: HostRuntime) -> Result<(), Fail> {
     let alloc = rt.alloc();
     let segment = books(alloc)?;
-    let mut drill = Vec::new(alloc);
-    drill.push(path(alloc, "Author/Lisa")?)?;
-    drill.push(path(alloc, "Year")?)?;
-    drill.push(path(alloc, "Author/Zoe")?)?;
+    let paths = vec![in alloc;
+        path(alloc, "Author/Lisa")?,
+        path(alloc, "Year")?,
+        path(alloc, "Author/Zoe")?,
+    ]?;
+    if paths.len() != 3 {
+        return Err("three paths".into());
+    }
+    let drill = Drill::new(alloc, paths)?;
     let mut places = PlanPlaces::new(paths_node(alloc, &segment, &drill, "Author")?);
     assert!(rt; places.next() == Some(1) && places.next().is_none());
     let mut plan = Plan::new(alloc, &segment, &Query::All)?;
     assert!(rt; plan.matches(2) && !plan.matches(3));
-    let year = has_path(alloc, &segment, &drill[1])?;
-    let zoe = has_path(alloc, &segment, &drill[2])?;
+    let year = has_path(alloc, &segment, drill.term(1))?;
+    let zoe = has_path(alloc, &segment, drill.term(2))?;
     assert!(rt; year && !zoe);
     Ok(())
 }

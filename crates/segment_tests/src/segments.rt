@@ -87,6 +87,22 @@ fn has_one(alloc: Global, segment: &Segment) -> Result<bool, Fail> {
     Ok(ords && segment.id(0) == "b1" && segment.text(0) == "Rust")
 }
 
+// Whether a record that is left out is no longer live, and the one behind it is the first.
+fn is_thinned(alloc: Global) -> Result<bool, Fail> {
+    let both = built(alloc, true)?;
+    if both.docs() < 2 {
+        return Ok(false);
+    }
+    let one = both.without(alloc, &[0])?;
+    let none = one.without(alloc, &[1])?;
+    let counts = both.live() == 2 && one.live() == 1 && none.live() == 0;
+    if one.docs() < 2 || one.live() == 0 {
+        return Ok(false);
+    }
+    let second = !one.is_live(0) && one.is_live(1) && one.rank(1) == 0 && one.live_at(0) == 1;
+    Ok(counts && second && one.bytes() == both.bytes() && one.dead() == [0].as_slice())
+}
+
 #[test]
 fn built_and_opened_segments(rt: HostRuntime) -> Result<(), Fail> {
     let alloc = rt.alloc();
@@ -94,6 +110,7 @@ fn built_and_opened_segments(rt: HostRuntime) -> Result<(), Fail> {
         return Err("a segment".into());
     };
     assert!(rt; may_be_shared(&segment) && has_one(alloc, &segment)? && are_built(alloc)?);
+    assert!(rt; is_thinned(alloc)?);
     let rows = [
         ("fAuthor", true),
         ("fAuthor\u{1f}Bob", true),

@@ -9,13 +9,13 @@ use Rattle.std.proofs.lemmas.List.Folds.{list_any_at}
 use Rattle.std.proofs.lemmas.List.Sums.{sum_by-cons}
 use Rattle.facet_model.specs.Documents.{Doc, dim_of, has, count}
 use Rattle.facet_model.specs.Hits.{hits, lifted}
-use Rattle.facet_model.specs.Stored.{Records, IsSegmentOf}
+use Rattle.facet_model.specs.Stored.{Records, IsSegmentOf, alive, live_docs}
 use Rattle.facet_counts.specs.Tallies.{Totals, AreCounts}
 use Rattle.query_eval.specs.Segments.{HasTermsOf}
 use Rattle.sideways.specs.Kept.{AreCountsOf}
 use Rattle.sideways.specs.Questions.{Question, HasDocs, counted_of, docs_of}
 use Rattle.sideways.specs.declared.pass.LiftedCounts.{LiftedCounts}
-use Rattle.sideways.proofs.Decoded.{joined, terms_are}
+use Rattle.sideways.proofs.Decoded.{terms_are}
 use Rattle.sideways.proofs.Ready.{lifts_nothing}
 
 all_at : {A : Type 0} (P : A → Type 0) (xs : List A) (i : ℕ) (d : A) → AllByRecursion P xs → i < length xs → P (get_or xs i d)
@@ -57,17 +57,17 @@ count_join : (path : List (List ℕ)) (xs ys : List Doc) → count (xs ++ ys) pa
 count_join path [] ys = omega arith
 count_join path (x ∷ xs) ys = omega (arith, sum_by-cons (λ doc. cond (has doc path) 1 0) x (xs ++ ys), sum_by-cons (λ doc. cond (has doc path) 1 0) x xs, count_join path xs ys)
 
--- none of the segments so far has the path
+-- no live record of the segment has the path
 abbrev pub HasNone : List (List ℕ) → Records → Type 0
-HasNone path segment = (docs : List Doc) → HasTermsOf segment docs → false ≡ nat_lt 0 (count docs path)
+HasNone path segment = (docs : List Doc) → HasTermsOf segment docs → false ≡ nat_lt 0 (count (alive segment.dead docs) path)
 
-none_before : (known : List (List (List ℕ))) (q : Question) (path : List (List ℕ)) (segments : List Records) (pieces : List (List Doc)) → AllZip (IsSegmentOf q.labels q.config) segments pieces → AllByRecursion (HasNone path) segments → count (joined pieces) path ≡ 0
+none_before : (known : List (List (List ℕ))) (q : Question) (path : List (List ℕ)) (segments : List Records) (pieces : List (List Doc)) → AllZip (IsSegmentOf q.labels q.config) segments pieces → AllByRecursion (HasNone path) segments → count (live_docs segments pieces) path ≡ 0
 none_before known q path [] [] are none = refl
 none_before known q path [] (d ∷ ds) are none = absurd are
 none_before known q path (s ∷ ss) [] are none = absurd are
 none_before known q path (s ∷ ss) (d ∷ ds) are none =
-    let here : count d path ≡ 0 = zero_of (count d path) (none.0 d (terms_are q.labels q.config s d are.0)) in
-    omega (arith, count_join path d (joined ds), here, none_before known q path ss ds are.1 none.1)
+    let here : count (alive s.dead d) path ≡ 0 = zero_of (count (alive s.dead d) path) (none.0 d (terms_are q.labels q.config s d are.0)) in
+    omega (arith, count_join path (alive s.dead d) (live_docs ss ds), here, none_before known q path ss ds are.1 none.1)
   where
     zero_of : (n : ℕ) → false ≡ nat_lt 0 n → n ≡ 0
     zero_of zero h = refl
@@ -76,15 +76,15 @@ none_before known q path (s ∷ ss) (d ∷ ds) are none =
 pub none_has : (q : Question) (path : List (List ℕ)) → AllByRecursion (HasNone path) q.segments → (docs : List Doc) → HasDocs q docs → false ≡ nat_lt 0 (count docs path)
 none_has q path none docs has = ap (nat_lt 0) (sym (ap (λ ds. count ds path) has.2 ∙ none_before q.labels q path q.segments has.0 has.1 none))
 
-one_of_them : (q : Question) (path : List (List ℕ)) (segments : List Records) (pieces : List (List Doc)) (i : ℕ) (d : Records) → AllZip (IsSegmentOf q.labels q.config) segments pieces → i < length segments → ((docs : List Doc) → HasTermsOf (get_or segments i d) docs → true ≡ nat_lt 0 (count docs path)) → 0 < count (joined pieces) path
+one_of_them : (q : Question) (path : List (List ℕ)) (segments : List Records) (pieces : List (List Doc)) (i : ℕ) (d : Records) → AllZip (IsSegmentOf q.labels q.config) segments pieces → i < length segments → ((docs : List Doc) → HasTermsOf (get_or segments i d) docs → true ≡ nat_lt 0 (count (alive (get_or segments i d).dead docs) path)) → 0 < count (live_docs segments pieces) path
 one_of_them q path [] pieces i d are lt some = absurd (omega arith)
 one_of_them q path (s ∷ ss) [] i d are lt some = absurd are
-one_of_them q path (s ∷ ss) (p ∷ ps) zero d are lt some = omega (arith, count_join path p (joined ps), above (count p path) (some p (terms_are q.labels q.config s p are.0)))
+one_of_them q path (s ∷ ss) (p ∷ ps) zero d are lt some = omega (arith, count_join path (alive s.dead p) (live_docs ss ps), above (count (alive s.dead p) path) (some p (terms_are q.labels q.config s p are.0)))
   where
     above : (n : ℕ) → true ≡ nat_lt 0 n → 0 < n
     above zero h = absurd cc
     above (suc n) h = omega arith
-one_of_them q path (s ∷ ss) (p ∷ ps) (suc i) d are lt some = omega (arith, count_join path p (joined ps), one_of_them q path ss ps i d are.1 (omega arith) some)
+one_of_them q path (s ∷ ss) (p ∷ ps) (suc i) d are lt some = omega (arith, count_join path (alive s.dead p) (live_docs ss ps), one_of_them q path ss ps i d are.1 (omega arith) some)
 
-pub one_has : (q : Question) (path : List (List ℕ)) (i : ℕ) (d : Records) → i < length q.segments → ((docs : List Doc) → HasTermsOf (get_or q.segments i d) docs → true ≡ nat_lt 0 (count docs path)) → (docs : List Doc) → HasDocs q docs → true ≡ nat_lt 0 (count docs path)
+pub one_has : (q : Question) (path : List (List ℕ)) (i : ℕ) (d : Records) → i < length q.segments → ((docs : List Doc) → HasTermsOf (get_or q.segments i d) docs → true ≡ nat_lt 0 (count (alive (get_or q.segments i d).dead docs) path)) → (docs : List Doc) → HasDocs q docs → true ≡ nat_lt 0 (count docs path)
 one_has q path i d lt some docs has = sym (lt-ltb 0 (count docs path) (omega (arith, ap (λ ds. count ds path) has.2, one_of_them q path q.segments has.0 i d has.1 lt some)))

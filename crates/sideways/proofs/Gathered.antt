@@ -183,3 +183,17 @@ lifted_are_of q segments (o ∷ os) (n ∷ ns) each are = (
   },
   lifted_are_of q segments os ns each.1 are.1,
 )
+
+-- ---- a pass that has all its parts from the first
+
+pub pass_starts : (q : Question) (test : Doc → Bool) (pass : Pass) → pass.parts.items ≡ [] → HasAdded pass.counter [] → pass.counter.labels ≡ q.labels → pass.counter.config ≡ q.config → IsPassOf q test [] pass
+pass_starts q test pass none fresh labels config = record { parts = subst (ArePartsOf test []) (sym none) tt; fresh = fresh; labels = labels; config = config }
+
+pub pass_more : {A : Type 0} (q : Question) (test : Doc → Bool) (f : A → Records) (xs : List A) (i : ℕ) (x : A) (now new : Pass) (part : PartLeft) → i < length xs → x ≡ get_or xs i x → IsPassOf q test (map f (take i xs)) now → IsPartOf test (f x) part
+    → new.parts.items ≡ now.parts.items ++ part ∷ [] → new.counter ≡ now.counter → IsPassOf q test (map f (take (i + 1) xs)) new
+pass_more q test f xs i x now new part lt is so_far next parts counter = record {
+  parts = subst (ArePartsOf test (map f (take (i + 1) xs))) (sym parts) (zip_more (IsPartOf test) f xs i x now.parts.items part lt is so_far.parts next);
+  fresh = subst (λ (t : Tally). HasAdded t []) (sym counter) so_far.fresh;
+  labels = ap (λ (t : Tally). t.labels) counter ∙ so_far.labels;
+  config = ap (λ (t : Tally). t.config) counter ∙ so_far.config;
+}

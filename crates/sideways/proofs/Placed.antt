@@ -1,6 +1,6 @@
 -- The parts of a pass, one after the other.
-use Rattle.std.proofs.Common.{◌≡◌, ℕ, zero, suc, ◌+◌, ◌<◌, ◌≤◌, ◌⊎◌, inl, inr, List, [], ◌∷◌, ◌++◌, length, take, map, min, get_or, set, refl, sym, ap, subst, ◌∙◌, arith, append_assoc}
-use Rattle.std.specs.Prelude.{sum_by}
+use Rattle.std.proofs.Common.{◌≡◌, ℕ, zero, suc, ◌+◌, ◌<◌, ◌≤◌, ◌⊎◌, inl, inr, Bool, true, false, List, [], ◌∷◌, ◌++◌, length, take, min, get_or, set, refl, sym, ap, subst, ◌∙◌, arith, append_assoc}
+use Rattle.std.specs.Prelude.{cond, sum_by}
 use Rattle.std.specs.List.{AllByRecursion}
 use Rattle.std.proofs.lemmas.Bool.{cases_lt}
 use Rattle.std.proofs.lemmas.Grind.{flat_map-append}
@@ -8,7 +8,8 @@ use Rattle.std.proofs.lemmas.List.{append-nil, get_or_default, get_or-set_other,
 use Rattle.seg_grammar.specs.Lookups.{record_of}
 use Rattle.std.proofs.lemmas.List.Sums.{sum_by-cons}
 use Rattle.facet_counts.specs.Tallies.{Tally}
-use Rattle.sideways.specs.Counted.{PartLeft, AreCountable, IsGrown, IsNoting, IsReady, IsTaking, lists_at, lists_of, placed}
+use Rattle.facet_model.specs.Stored.{is_dead, live_before}
+use Rattle.sideways.specs.Counted.{PartLeft, AreCountable, IsGrown, IsNoting, IsReady, IsTaking, lists_at, lists_of, live_in, placed, ranks_from}
 use Rattle.sideways.proofs.Walked.{grown_more}
 
 sum_to : {A : Type 0} (f : A → ℕ) (xs : List A) (i : ℕ) (d : A) → i < length xs → sum_by f (take i xs) + f (get_or xs i d) ≤ sum_by f xs
@@ -20,12 +21,12 @@ sum_push : {A : Type 0} (f : A → ℕ) (xs : List A) (y : A) → sum_by f (xs +
 sum_push f [] y = sum_by-cons f y [] ∙ omega arith
 sum_push f (x ∷ xs) y = omega (arith, sum_by-cons f x (xs ++ y ∷ []), sum_by-cons f x xs, sum_push f xs y)
 
--- how many records a part has left, and how many its segment has
+-- how many records a part has left, and how many of its segment are live
 abbrev pub left_in : PartLeft → ℕ
 left_in p = length p.left
 
-abbrev pub records_in : PartLeft → ℕ
-records_in p = length p.segment.records
+abbrev pub alive_in : PartLeft → ℕ
+alive_in p = live_in p.segment
 
 pub lists_length : (parts : List PartLeft) → length (lists_of parts) ≡ sum_by left_in parts
 lists_length [] = refl
@@ -37,12 +38,12 @@ lists_to parts i p lt here =
     ∙ flat_map-append (λ (q : PartLeft). lists_at q.segment q.left) (take i parts) (p ∷ [])
     ∙ ap (λ l. lists_of (take i parts) ++ l) (append-nil (lists_at p.segment p.left))
 
-placed_more : (base : ℕ) (ps : List PartLeft) (p : PartLeft) → placed base (ps ++ p ∷ []) ≡ placed base ps ++ map (λ n. (base + sum_by records_in ps) + n) p.left
-placed_more base [] p = append-nil (map (λ n. base + n) p.left) ∙ ap (λ b. map (λ n. b + n) p.left) (omega arith)
+placed_more : (base : ℕ) (ps : List PartLeft) (p : PartLeft) → placed base (ps ++ p ∷ []) ≡ placed base ps ++ ranks_from (base + sum_by alive_in ps) p.segment p.left
+placed_more base [] p = append-nil (ranks_from base p.segment p.left) ∙ ap (λ b. ranks_from b p.segment p.left) (omega arith)
 placed_more base (q ∷ qs) p =
-    let sum : (base + length q.segment.records) + sum_by records_in qs ≡ base + sum_by records_in (q ∷ qs) = omega (arith, sum_by-cons records_in q qs) in
-    ap (λ l. map (λ n. base + n) q.left ++ l) (placed_more (base + length q.segment.records) qs p ∙ ap (λ b. placed (base + length q.segment.records) qs ++ map (λ n. b + n) p.left) sum)
-    ∙ sym (append_assoc (map (λ n. base + n) q.left) (placed (base + length q.segment.records) qs) (map (λ n. (base + sum_by records_in (q ∷ qs)) + n) p.left))
+    let sum : (base + live_in q.segment) + sum_by alive_in qs ≡ base + sum_by alive_in (q ∷ qs) = omega (arith, sum_by-cons alive_in q qs) in
+    ap (λ l. ranks_from base q.segment q.left ++ l) (placed_more (base + live_in q.segment) qs p ∙ ap (λ b. placed (base + live_in q.segment) qs ++ ranks_from b p.segment p.left) sum)
+    ∙ sym (append_assoc (ranks_from base q.segment q.left) (placed (base + live_in q.segment) qs) (ranks_from (base + sum_by alive_in (q ∷ qs)) p.segment p.left))
 
 take_first : {A : Type 0} (limit : ℕ) (ps first : List A) → length (take limit ps ++ first) ≤ limit → take limit (ps ++ first) ≡ take limit ps ++ first
 take_first zero ps [] le = sym (append-nil (take 0 ps))
@@ -107,40 +108,40 @@ next_part i now all before mid p counted ready lt here =
       room = omega (arith, counted.grown.number, ready.fresh.number, lists_length (take i all), sum_to left_in all i p lt, ap left_in there, ready.room);
     }
 
-pub base_room : (i : ℕ) (now all : List PartLeft) (before mid : Tally) (p : PartLeft) (base : ℕ) → AreCountedTo i now all before mid → IsReady all before → i < length all → p ≡ get_or now i p → base ≡ sum_by records_in (take i all) → base + length p.segment.records ≤ 1000000
+pub base_room : (i : ℕ) (now all : List PartLeft) (before mid : Tally) (p : PartLeft) (base : ℕ) → AreCountedTo i now all before mid → IsReady all before → i < length all → p ≡ get_or now i p → base ≡ sum_by alive_in (take i all) → base + live_in p.segment ≤ 1000000
 base_room i now all before mid p base counted ready lt here is =
     let there : get_or all i p ≡ p = sym (counted.same i p (omega arith)) ∙ sym here in
-    omega (arith, is, sum_to records_in all i p lt, ap records_in there, ready.few)
+    omega (arith, is, sum_to alive_in all i p lt, ap alive_in there, ready.few)
 
 -- ---- the hits
 
-pub base_more : (i : ℕ) (now all : List PartLeft) (before mid : Tally) (p : PartLeft) (base : ℕ) → AreCountedTo i now all before mid → i < length all → p ≡ get_or now i p → base ≡ sum_by records_in (take i all) → base + length p.segment.records ≡ sum_by records_in (take (i + 1) all)
+pub base_more : (i : ℕ) (now all : List PartLeft) (before mid : Tally) (p : PartLeft) (base : ℕ) → AreCountedTo i now all before mid → i < length all → p ≡ get_or now i p → base ≡ sum_by alive_in (take i all) → base + live_in p.segment ≡ sum_by alive_in (take (i + 1) all)
 base_more i now all before mid p base counted lt here is =
     let there : get_or all i p ≡ p = sym (counted.same i p (omega arith)) ∙ sym here in
-    ap (λ n. n + records_in p) is ∙ sym (ap (sum_by records_in) (take_more all i p lt ∙ ap (λ x. take i all ++ x ∷ []) there) ∙ sum_push records_in (take i all) p)
+    ap (λ n. n + alive_in p) is ∙ sym (ap (sum_by alive_in) (take_more all i p lt ∙ ap (λ x. take i all ++ x ∷ []) there) ∙ sum_push alive_in (take i all) p)
 
 pub number_more : (i : ℕ) (now all : List PartLeft) (before mid : Tally) (p : PartLeft) (number more : ℕ) → AreCountedTo i now all before mid → i < length all → p ≡ get_or now i p → number ≡ length (lists_of (take i all)) → more ≡ number + length p.left → more ≡ length (lists_of (take (i + 1) all))
 number_more i now all before mid p number more counted lt here is sum =
     let there : get_or all i p ≡ p = sym (counted.same i p (omega arith)) ∙ sym here in
     omega (arith, is, sum, ap length (lists_to all i p lt there), length-append (lists_of (take i all)) (lists_at p.segment p.left), length-map p.left (λ place. (record_of p.segment place).counted))
 
-pub places_more : (i : ℕ) (now all : List PartLeft) (before mid : Tally) (p : PartLeft) (base limit : ℕ) (hits new : List ℕ) → AreCountedTo i now all before mid → i < length all → p ≡ get_or now i p → base ≡ sum_by records_in (take i all)
+pub places_more : (i : ℕ) (now all : List PartLeft) (before mid : Tally) (p : PartLeft) (base limit : ℕ) (hits new : List ℕ) → AreCountedTo i now all before mid → i < length all → p ≡ get_or now i p → base ≡ sum_by alive_in (take i all)
     → hits ≡ take limit (placed 0 (take i all)) → IsNoting p base limit hits new → new ≡ take limit (placed 0 (take (i + 1) all))
 places_more i now all before mid p base limit hits new counted lt here is so_far noting =
     let there : get_or all i p ≡ p = sym (counted.same i p (omega arith)) ∙ sym here in
-    let zero_base : base ≡ 0 + sum_by records_in (take i all) = omega (arith, is) in
-    let all_placed : placed 0 (take (i + 1) all) ≡ placed 0 (take i all) ++ map (λ n. base + n) p.left = ap (placed 0) (take_more all i p lt ∙ ap (λ x. take i all ++ x ∷ []) there) ∙ placed_more 0 (take i all) p ∙ ap (λ b. placed 0 (take i all) ++ map (λ n. b + n) p.left) (sym zero_base) in
+    let zero_base : base ≡ 0 + sum_by alive_in (take i all) = omega (arith, is) in
+    let all_placed : placed 0 (take (i + 1) all) ≡ placed 0 (take i all) ++ ranks_from base p.segment p.left = ap (placed 0) (take_more all i p lt ∙ ap (λ x. take i all ++ x ∷ []) there) ∙ placed_more 0 (take i all) p ∙ ap (λ b. placed 0 (take i all) ++ ranks_from b p.segment p.left) (sym zero_base) in
     noting (placed 0 (take i all)) so_far ∙ ap (take limit) (sym all_placed)
 
 -- the places of a part are noted, where enough were taken or all
-pub noted_more : (old : PartLeft) (base limit : ℕ) (hits new first rest : List ℕ) → old.left ≡ first ++ rest → new ≡ hits ++ map (λ n. base + n) first → length new ≤ limit → (limit ≤ length new) ⊎ (rest ≡ []) → IsNoting old base limit hits new
+pub noted_more : (old : PartLeft) (base limit : ℕ) (hits new first rest : List ℕ) → old.left ≡ first ++ rest → new ≡ hits ++ ranks_from base old.segment first → length new ≤ limit → (limit ≤ length new) ⊎ (rest ≡ []) → IsNoting old base limit hits new
 noted_more old base limit hits new first rest left noted few enough before so_far =
-    first_taken limit before (map (λ n. base + n) first) (map (λ n. base + n) rest) new (noted ∙ ap (λ h. h ++ map (λ n. base + n) first) so_far) few (over enough)
-    ∙ ap (λ l. take limit (before ++ l)) (sym (ap (map (λ n. base + n)) left ∙ map-append (λ n. base + n) first rest))
+    first_taken limit before (ranks_from base old.segment first) (ranks_from base old.segment rest) new (noted ∙ ap (λ h. h ++ ranks_from base old.segment first) so_far) few (over enough)
+    ∙ ap (λ l. take limit (before ++ l)) (sym (ap (ranks_from base old.segment) left ∙ map-append (λ n. base + live_before old.segment.dead n) first rest))
   where
-    over : (limit ≤ length new) ⊎ (rest ≡ []) → (limit ≤ length new) ⊎ (map (λ n. base + n) rest ≡ [])
+    over : (limit ≤ length new) ⊎ (rest ≡ []) → (limit ≤ length new) ⊎ (ranks_from base old.segment rest ≡ [])
     over (inl h) = inl h
-    over (inr h) = inr (ap (map (λ n. base + n)) h)
+    over (inr h) = inr (ap (ranks_from base old.segment) h)
 
 -- ---- after the last part
 
@@ -155,16 +156,30 @@ all_noted i limit all hits is le = is ∙ ap (λ ps. take limit (placed 0 ps)) (
 
 -- ---- taking hits
 
-pub taking_more : (old now next : PartLeft) (c0 c1 c2 : Tally) (base limit : ℕ) (h0 h1 h2 : List ℕ) (n place : ℕ) → IsTaking old now c0 c1 base limit h0 h1 n → now.left ≡ place ∷ next.left → next.segment ≡ now.segment → IsGrown c1 c2 (lists_at now.segment (place ∷ [])) → h2 ≡ h1 ++ (base + place) ∷ [] → length h1 < limit
+-- no later place has a lower rank
+pub rank_most : (dead : List ℕ) (n m : ℕ) → n ≤ m → live_before dead n ≤ live_before dead m
+rank_most dead n zero le = let e : n ≡ 0 = omega arith in omega (arith, ap (live_before dead) e)
+rank_most dead n (suc m) le = by (λ h. rank_most dead n m h) (cases_lt n (suc m))
+  where
+    more : (b : Bool) → live_before dead n ≤ live_before dead m → live_before dead n ≤ cond b (live_before dead m) (live_before dead m + 1)
+    more true h = h
+    more false h = omega (arith, h)
+
+    by : (n ≤ m → live_before dead n ≤ live_before dead m) → (n < suc m) ⊎ (suc m ≤ n) → live_before dead n ≤ live_before dead (suc m)
+    by rest (inl lt) = more (is_dead dead m) (rest (omega arith))
+    by rest (inr ge) = let e : n ≡ suc m = omega arith in omega (arith, ap (live_before dead) e)
+
+pub taking_more : (old now next : PartLeft) (c0 c1 c2 : Tally) (base limit : ℕ) (h0 h1 h2 : List ℕ) (n place rank : ℕ) → IsTaking old now c0 c1 base limit h0 h1 n → now.left ≡ place ∷ next.left → next.segment ≡ now.segment → IsGrown c1 c2 (lists_at now.segment (place ∷ [])) → rank ≡ live_before old.segment.dead place → h2 ≡ h1 ++ (base + rank) ∷ [] → length h1 < limit
     → IsTaking old next c0 c2 base limit h0 h2 (n + 1)
-taking_more old now next c0 c1 c2 base limit h0 h1 h2 n place taking left segment grown pushed few = record {
+taking_more old now next c0 c1 c2 base limit h0 h1 h2 n place rank taking left segment grown ranked pushed few = record {
   first = taking.first ++ place ∷ [];
   left = taking.left ∙ ap (λ xs. taking.first ++ xs) left ∙ sym (append_assoc taking.first (place ∷ []) next.left);
   segment = segment ∙ taking.segment;
   grown = subst (IsGrown c0 c2) (sym (map_push (λ p. (record_of old.segment p).counted) taking.first place)) (grown_more c0 c1 c2 (lists_at old.segment taking.first) (lists_at old.segment (place ∷ [])) taking.grown (subst (λ s. IsGrown c1 c2 (lists_at s (place ∷ []))) taking.segment grown));
-  noted = pushed ∙ ap (λ h. h ++ (base + place) ∷ []) taking.noted ∙ append_assoc h0 (map (λ p. base + p) taking.first) ((base + place) ∷ []) ∙ ap (λ l. h0 ++ l) (sym (map_push (λ p. base + p) taking.first place));
+  noted = pushed ∙ (λ i. taking.noted i ++ (base + ranked i) ∷ []) ∙ append_assoc h0 (ranks_from base old.segment taking.first) ((base + live_before old.segment.dead place) ∷ [])
+      ∙ ap (λ l. h0 ++ l) (sym (map_push (λ p. base + live_before old.segment.dead p) taking.first place));
   as_many = omega (arith, taking.as_many, length-append taking.first (place ∷ []));
-  few = omega (arith, ap length pushed, length-append h1 ((base + place) ∷ []), few);
+  few = omega (arith, ap length pushed, length-append h1 ((base + rank) ∷ []), few);
 }
 
 -- a hit that is taken may be counted
@@ -196,7 +211,7 @@ take_at_most limit xs ys is = omega (arith, ap length is, short_front limit xs)
 
 pub placed_length : (base : ℕ) (parts : List PartLeft) → length (placed base parts) ≡ sum_by left_in parts
 placed_length base [] = refl
-placed_length base (p ∷ ps) = omega (arith, length-append (map (λ n. base + n) p.left) (placed (base + length p.segment.records) ps), length-map p.left (λ n. base + n), placed_length (base + length p.segment.records) ps, sum_by-cons left_in p ps)
+placed_length base (p ∷ ps) = omega (arith, length-append (ranks_from base p.segment p.left) (placed (base + live_in p.segment) ps), length-map p.left (λ n. base + live_before p.segment.dead n), placed_length (base + live_in p.segment) ps, sum_by-cons left_in p ps)
 
 -- where there are no more than the bound, it leaves the first as they are
 pub take_few : {A : Type 0} (n bound : ℕ) (xs : List A) → length xs ≤ bound → take (min n bound) xs ≡ take n xs

@@ -1,5 +1,5 @@
 -- What the passes of a plan find.
-use Rattle.std.proofs.Common.{◌≡◌, ℕ, ◌≤◌, Bool, true, false, List, [], ◌∷◌, ◌++◌, length, Some, None, refl, sym, ap, subst, ◌∙◌, arith}
+use Rattle.std.proofs.Common.{◌≡◌, ℕ, ◌+◌, ◌≤◌, Bool, true, false, List, [], ◌∷◌, ◌++◌, length, Some, None, refl, sym, ap, subst, ◌∙◌, arith}
 use Rattle.std.specs.Prelude.{cond, count_by, filter, sum_by, ◌||◌, ◌&&◌}
 use Rattle.std.specs.List.{list_all, list_any, AllByRecursion, AllZip}
 use Rattle.std.specs.Str.{bytes_eq}
@@ -11,21 +11,22 @@ use Rattle.facet_model.specs.CountedPaths.{places, counted_ordinals}
 use Rattle.facet_model.specs.Documents.{Doc, dim_of}
 use Rattle.facet_model.specs.Hits.{hits, is_hit, lifted, passes}
 use Rattle.facet_model.specs.Queries.{matches}
-use Rattle.facet_model.specs.Stored.{Stored, Records, IsRecordOf, IsSegmentOf}
+use Rattle.facet_model.specs.Stored.{Stored, Records, IsRecordOf, IsSegmentOf, alive, alive_from, is_dead, live_before, live_docs}
 use Rattle.facet_counts.specs.Laws.{MayBeCounted}
 use Rattle.facet_counts.specs.Lists.{IsListOf}
 use Rattle.facet_counts.specs.Tallies.{Tally, Totals, AreCounts, HasAdded}
 use Rattle.query_eval.specs.Segments.{HasTermsOf}
-use Rattle.query_eval.proofs.Marks.{length_from_place}
+use Rattle.query_eval.proofs.Living.{live_number}
+use Rattle.live_records.proofs.Alive.{length_alive}
 use Rattle.facet_counts.specs.Lists.{counts_for}
-use Rattle.sideways.specs.Counted.{AreCountable, ArePartsOf, HasRoomFor, IsReady, PartLeft, is_near, lists_of, passes_all, placed}
+use Rattle.sideways.specs.Counted.{AreCountable, ArePartsOf, HasRoomFor, IsReady, PartLeft, is_near, lists_of, live_in, passes_all, placed}
 use Rattle.sideways.specs.Kept.{AreCountsOf, AreHitsIn, IsLiftedOf, IsPassOf}
 use Rattle.sideways.specs.Questions.{Question, HasDocs, counted_of, docs_of}
 use Rattle.sideways.specs.declared.pass.Pass.{Pass}
 use Rattle.sideways.specs.declared.pass.LiftedPass.{LiftedPass}
-use Rattle.sideways.proofs.Decoded.{all_lists, all_placed, all_records, countable_of, joined, list_is, terms_are}
+use Rattle.sideways.proofs.Decoded.{all_lists, all_placed, all_records, countable_of, list_is, terms_are}
 use Rattle.sideways.proofs.Misses.{near_not_hit, near_or_hit, one_each, short_filter, sums_joined}
-use Rattle.sideways.proofs.Placed.{left_in, lists_length, records_in}
+use Rattle.sideways.proofs.Placed.{left_in, lists_length, alive_in}
 
 -- each segment has documents
 pub each_has : (q : Question) (segments : List Records) (pieces : List (List Doc)) → AllZip (IsSegmentOf q.labels q.config) segments pieces → AllByRecursion (λ s. (docs : List Doc) × HasTermsOf s docs) segments
@@ -42,16 +43,16 @@ count_most test (d ∷ ds) = omega (arith, sum_by-cons (λ doc. cond (test doc) 
     one false = omega arith
 
 module _ (q : Question) (test : Doc → Bool) where
-  left_most : (segments : List Records) (parts : List PartLeft) (pieces : List (List Doc)) → ArePartsOf test segments parts → AllZip (IsSegmentOf q.labels q.config) segments pieces → sum_by left_in parts ≤ sum_by records_in parts
+  left_most : (segments : List Records) (parts : List PartLeft) (pieces : List (List Doc)) → ArePartsOf test segments parts → AllZip (IsSegmentOf q.labels q.config) segments pieces → sum_by left_in parts ≤ sum_by alive_in parts
   left_most [] [] pieces parts are = omega arith
   left_most [] (p ∷ ps) pieces parts are = absurd parts
   left_most (s ∷ ss) [] pieces parts are = absurd parts
   left_most (s ∷ ss) (p ∷ ps) [] parts are = absurd are
   left_most (s ∷ ss) (p ∷ ps) (d ∷ ds) parts are =
       let terms = terms_are q.labels q.config s d are.0 in
-      let number : length p.left ≡ count_by test d = ap length (parts.0.left d terms) ∙ length_from_place 0 test d in
-      let long : records_in p ≡ length d = ap (λ (r : Records). length r.records) parts.0.same ∙ terms.records in
-      omega (arith, sum_by-cons left_in p ps, sum_by-cons records_in p ps, left_most ss ps ds parts.1 are.1, number, long, count_most test d)
+      let number : length p.left ≡ count_by test (alive s.dead d) = ap length (parts.0.left d terms) ∙ live_number s.dead test d in
+      let long : alive_in p ≡ length (alive s.dead d) = ap live_in parts.0.same ∙ ap (live_before s.dead) terms.records ∙ sym (length_alive s.dead d) in
+      omega (arith, sum_by-cons left_in p ps, sum_by-cons alive_in p ps, left_most ss ps ds parts.1 are.1, number, long, count_most test (alive s.dead d))
 
   each_countable : MayBeCounted → IsLabelList q.labels → (segments : List Records) (parts : List PartLeft) (pieces : List (List Doc)) → ArePartsOf test segments parts → AllZip (IsSegmentOf q.labels q.config) segments pieces → AllByRecursion (λ p. AreCountable q.config q.labels p.segment) parts
   each_countable may list [] [] pieces parts are = tt
@@ -63,8 +64,8 @@ module _ (q : Question) (test : Doc → Bool) where
   pub ready : MayBeCounted → IsLabelList q.labels → (docs : List Doc) × HasDocs q docs × (length docs ≤ 1000000) → (pass : Pass) → IsPassOf q test q.segments pass → IsReady pass.parts.items pass.counter
   ready may list has pass is =
       let pieces = has.1.0 in
-      let records : sum_by records_in pass.parts.items ≡ length (joined pieces) = all_records q.labels q.config test q.segments pass.parts.items pieces is.parts has.1.1 in
-      let few : sum_by records_in pass.parts.items ≤ 1000000 = omega (arith, records, ap length has.1.2, has.2) in
+      let records : sum_by alive_in pass.parts.items ≡ length (live_docs q.segments pieces) = all_records q.labels q.config test q.segments pass.parts.items pieces is.parts has.1.1 in
+      let few : sum_by alive_in pass.parts.items ≤ 1000000 = omega (arith, records, ap length has.1.2, has.2) in
       record {
         fresh = is.fresh;
         countable = subst (λ c. AllByRecursion (λ p. AreCountable c pass.counter.labels p.segment) pass.parts.items) (sym is.config) (subst (λ l. AllByRecursion (λ p. AreCountable q.config l p.segment) pass.parts.items) (sym is.labels) (each_countable may list q.segments pass.parts.items pieces is.parts has.1.1));
@@ -153,11 +154,19 @@ join_all : (P : Doc → Type 0) (xs ys : List Doc) → AllByRecursion P xs → A
 join_all P [] ys xall yall = yall
 join_all P (x ∷ xs) ys xall yall = (xall.0, join_all P xs ys xall.1 yall)
 
-all_listed : (q : Question) → IsLabelList q.labels → (segments : List Records) (pieces : List (List Doc)) → AllZip (IsSegmentOf q.labels q.config) segments pieces → AllByRecursion (λ doc. IsListOf q.config q.labels (counted_ordinals q.labels q.config doc.labels) doc) (joined pieces)
+all_alive : (P : Doc → Type 0) (dead : List ℕ) (k : ℕ) (xs : List Doc) → AllByRecursion P xs → AllByRecursion P (alive_from dead k xs)
+all_alive P dead k [] all = tt
+all_alive P dead k (x ∷ xs) all = by (is_dead dead k) (all_alive P dead (k + 1) xs all.1)
+  where
+    by : (b : Bool) → AllByRecursion P (alive_from dead (k + 1) xs) → AllByRecursion P (cond b (alive_from dead (k + 1) xs) (x ∷ alive_from dead (k + 1) xs))
+    by true rest = rest
+    by false rest = (all.0, rest)
+
+all_listed : (q : Question) → IsLabelList q.labels → (segments : List Records) (pieces : List (List Doc)) → AllZip (IsSegmentOf q.labels q.config) segments pieces → AllByRecursion (λ doc. IsListOf q.config q.labels (counted_ordinals q.labels q.config doc.labels) doc) (live_docs segments pieces)
 all_listed q list [] [] are = tt
 all_listed q list [] (d ∷ ds) are = absurd are
 all_listed q list (s ∷ ss) [] are = absurd are
-all_listed q list (s ∷ ss) (d ∷ ds) are = join_all (λ doc. IsListOf q.config q.labels (counted_ordinals q.labels q.config doc.labels) doc) d (joined ds) (each_listed q list s.records d are.0.records) (all_listed q list ss ds are.1)
+all_listed q list (s ∷ ss) (d ∷ ds) are = join_all (λ doc. IsListOf q.config q.labels (counted_ordinals q.labels q.config doc.labels) doc) (alive s.dead d) (live_docs ss ds) (all_alive (λ doc. IsListOf q.config q.labels (counted_ordinals q.labels q.config doc.labels) doc) s.dead 0 d (each_listed q list s.records d are.0.records)) (all_listed q list ss ds are.1)
 
 some_listed : (q : Question) (test : Doc → Bool) (docs : List Doc) → AllByRecursion (λ doc. IsListOf q.config q.labels (counted_ordinals q.labels q.config doc.labels) doc) docs → AllZip (IsListOf q.config q.labels) (counted_of q (filter test docs)) (filter test docs)
 some_listed q test [] all = tt

@@ -15,10 +15,13 @@ use Rattle.facet_model.specs.Stored.{Records}
 use Rattle.place_bits.specs.Misses.{HaveWords, IsNear, fails}
 use Rattle.place_bits.specs.Words.{Marked}
 use Rattle.plan_places.specs.Planned.{Planned}
-use Rattle.query_eval.proofs.Marks.{at, is_in_places, are_places, same_places}
+use Rattle.query_eval.proofs.Living.{are_live}
+use Rattle.query_eval.proofs.Marks.{at, is_in_places, same_places}
 use Rattle.query_eval.specs.Segments.{HasTermsOf}
 use Rattle.seg_postings.specs.Rising.{IsRising, is_in}
-use Rattle.sideways.specs.Counted.{AreNodesFor, IsMarkedBy, IsSetWithin, fails_alone, is_drilled, passes_tests}
+use Rattle.seg_postings.specs.Sets.{without}
+use Rattle.seg_postings.proofs.Members.{is_in-without}
+use Rattle.sideways.specs.Counted.{AreNodesFor, IsMarkedBy, IsSetWithin, fails_alone, is_drilled, is_near, passes_tests}
 use Rattle.sideways.specs.Kept.{AreDistinct, HasNear, IsGivenSet, IsGivenSets, dim_in}
 use Rattle.sideways.specs.declared.pass.LiftedPass.{LiftedPass}
 use Rattle.sideways.proofs.Misses.{near_test, test_of}
@@ -71,29 +74,38 @@ module _ (among : List Doc) where
       by true h = h
       by false h = ne_eqb (suc (length (filter (λ (x : Doc → Bool). not (x doc)) ts))) 0 (λ e. omega arith)
 
-  module _ (test : Doc → Bool) (base : List ℕ) (is : base ≡ places test among) (tests : List (Doc → Bool)) (sets : List Marked) (are : AllZip IsSetOf tests sets) where
-    base_at : (n : ℕ) (o : Option Doc) → slice_get among n ≡ o → is_in n base ≡ option_map_or test o false
-    base_at n o e = ap (is_in n) is ∙ is_in_places n test among ∙ ap (λ x. option_map_or test x false) e
+  module _ (test : Doc → Bool) (base dead : List ℕ) (is : base ≡ without (places test among) dead) (tests : List (Doc → Bool)) (sets : List Marked) (are : AllZip IsSetOf tests sets) where
+    base_at : (n : ℕ) (o : Option Doc) → slice_get among n ≡ o → is_in n base ≡ (option_map_or test o false && not (is_in n dead))
+    base_at n o e = ap (is_in n) is ∙ is_in-without n (places test among) dead ∙ ap (λ b. b && not (is_in n dead)) (is_in_places n test among ∙ ap (λ x. option_map_or test x false) e)
 
-    pub hits_are : (hits : List ℕ) → IsRising hits → ((n : ℕ) → is_in n hits ≡ (is_in n base && nat_eq (fails sets n) 0)) → hits ≡ places (λ doc. test doc && passes_tests tests doc) among
-    hits_are hits rising members = are_places (λ doc. test doc && passes_tests tests doc) among hits rising (λ n. members n ∙ by n (slice_get among n) refl)
+    turned : (a b c : Bool) → ((a && b) && c) ≡ ((a && c) && b)
+    turned false b c = refl
+    turned true true true = refl
+    turned true true false = refl
+    turned true false true = refl
+    turned true false false = refl
+
+    pub hits_are : (hits : List ℕ) → IsRising hits → ((n : ℕ) → is_in n hits ≡ (is_in n base && nat_eq (fails sets n) 0)) → hits ≡ without (places (λ doc. test doc && passes_tests tests doc) among) dead
+    hits_are hits rising members = are_live (λ doc. test doc && passes_tests tests doc) among dead hits rising (λ n. members n ∙ by n (slice_get among n) refl)
       where
-        by : (n : ℕ) (o : Option Doc) → slice_get among n ≡ o → (is_in n base && nat_eq (fails sets n) 0) ≡ at (λ doc. test doc && passes_tests tests doc) among n
-        by n None e = ap (λ b. b && nat_eq (fails sets n) 0) (base_at n None e) ∙ sym (ap (λ o. option_map_or (λ doc. test doc && passes_tests tests doc) o false) e)
+        by : (n : ℕ) (o : Option Doc) → slice_get among n ≡ o → (is_in n base && nat_eq (fails sets n) 0) ≡ (at (λ doc. test doc && passes_tests tests doc) among n && not (is_in n dead))
+        by n None e = ap (λ b. b && nat_eq (fails sets n) 0) (base_at n None e) ∙ sym (ap (λ o. option_map_or (λ doc. test doc && passes_tests tests doc) o false && not (is_in n dead)) e)
         by n (Some doc) e =
             (λ i. base_at n (Some doc) e i && (ap (λ m. nat_eq m 0) (fails_are n doc e tests sets are) ∙ none_failed doc tests) i)
-            ∙ sym (ap (λ o. option_map_or (λ d. test d && passes_tests tests d) o false) e)
+            ∙ turned (test doc) (not (is_in n dead)) (passes_tests tests doc)
+            ∙ sym (ap (λ o. option_map_or (λ d. test d && passes_tests tests d) o false && not (is_in n dead)) e)
 
-    near_is : (t : Doc → Bool) (old new : Marked) → IsSetOf t old → IsNear base sets old new → new.places ≡ places (λ doc. test doc && fails_alone tests t doc) among
-    near_is t old new own near = are_places (λ doc. test doc && fails_alone tests t doc) among new.places near.rising (λ n. near.members n ∙ by n (slice_get among n) refl)
+    near_is : (t : Doc → Bool) (old new : Marked) → IsSetOf t old → IsNear base sets old new → new.places ≡ without (places (λ doc. test doc && fails_alone tests t doc) among) dead
+    near_is t old new own near = are_live (λ doc. test doc && fails_alone tests t doc) among dead new.places near.rising (λ n. near.members n ∙ by n (slice_get among n) refl)
       where
-        by : (n : ℕ) (o : Option Doc) → slice_get among n ≡ o → (is_in n base && (not (is_in n old.places) && nat_le (fails sets n) 1)) ≡ at (λ doc. test doc && fails_alone tests t doc) among n
-        by n None e = ap (λ b. b && (not (is_in n old.places) && nat_le (fails sets n) 1)) (base_at n None e) ∙ sym (ap (λ o. option_map_or (λ doc. test doc && fails_alone tests t doc) o false) e)
+        by : (n : ℕ) (o : Option Doc) → slice_get among n ≡ o → (is_in n base && (not (is_in n old.places) && nat_le (fails sets n) 1)) ≡ (at (λ doc. test doc && fails_alone tests t doc) among n && not (is_in n dead))
+        by n None e = ap (λ b. b && (not (is_in n old.places) && nat_le (fails sets n) 1)) (base_at n None e) ∙ sym (ap (λ o. option_map_or (λ doc. test doc && fails_alone tests t doc) o false && not (is_in n dead)) e)
         by n (Some doc) e =
             (λ i. base_at n (Some doc) e i && (not ((own n ∙ ap (λ o. option_map_or t o false) e) i) && nat_le (fails_are n doc e tests sets are i) 1))
-            ∙ sym (ap (λ o. option_map_or (λ d. test d && fails_alone tests t d) o false) e)
+            ∙ turned (test doc) (not (is_in n dead)) (fails_alone tests t doc)
+            ∙ sym (ap (λ o. option_map_or (λ d. test d && fails_alone tests t d) o false && not (is_in n dead)) e)
 
-    pub nears_are : (ts : List (Doc → Bool)) (olds news : List Marked) → AllZip IsSetOf ts olds → AllZip (IsNear base sets) olds news → AllZip (λ t s. s.places ≡ places (λ doc. test doc && fails_alone tests t doc) among) ts news
+    pub nears_are : (ts : List (Doc → Bool)) (olds news : List Marked) → AllZip IsSetOf ts olds → AllZip (IsNear base sets) olds news → AllZip (λ t s. s.places ≡ without (places (λ doc. test doc && fails_alone tests t doc) among) dead) ts news
     nears_are [] [] [] own near = tt
     nears_are [] [] (n ∷ ns) own near = absurd near
     nears_are [] (o ∷ os) news own near = absurd own
@@ -108,12 +120,12 @@ within_at segment [] i s all lt is = absurd (omega arith)
 within_at segment (x ∷ xs) zero s all lt is = subst (IsSetWithin segment) (sym is) all.0
 within_at segment (x ∷ xs) (suc i) s all lt is = within_at segment xs i s all.1 (omega arith) is
 
-pub each_within : (segment : Records) (docs : List Doc) (f : (Doc → Bool) → Doc → Bool) (ts : List (Doc → Bool)) (sets : List Marked) → length segment.records ≡ length docs → HaveWords ((length segment.records + 63) / 64) sets
-    → AllZip (λ t s. s.places ≡ places (f t) docs) ts sets → AllByRecursion (IsSetWithin segment) sets
-each_within segment docs f [] [] long have are = tt
-each_within segment docs f [] (s ∷ ss) long have are = absurd are
-each_within segment docs f (t ∷ ts) [] long have are = absurd are
-each_within segment docs f (t ∷ ts) (s ∷ ss) long have are = (record { words = have.0; within = within_docs segment docs (f t) s.places long are.0 }, each_within segment docs f ts ss long have.1 are.1)
+pub each_within : (segment : Records) (docs : List Doc) (dead : List ℕ) (f : (Doc → Bool) → Doc → Bool) (ts : List (Doc → Bool)) (sets : List Marked) → length segment.records ≡ length docs → HaveWords ((length segment.records + 63) / 64) sets
+    → AllZip (λ t s. s.places ≡ without (places (f t) docs) dead) ts sets → AllByRecursion (IsSetWithin segment) sets
+each_within segment docs dead f [] [] long have are = tt
+each_within segment docs dead f [] (s ∷ ss) long have are = absurd are
+each_within segment docs dead f (t ∷ ts) [] long have are = absurd are
+each_within segment docs dead f (t ∷ ts) (s ∷ ss) long have are = (record { words = have.0; within = within_docs segment docs (f t) dead s.places long are.0 }, each_within segment docs dead f ts ss long have.1 are.1)
 
 -- ---- a set for each pass
 
@@ -145,7 +157,7 @@ each_in all (l ∷ ls) in_all = (
 
 module _ (query : QueryTree) (drill : List (List (List ℕ))) (segment : Records) (all : List LiftedPass) (covers : (dim : List ℕ) → list_any (λ l. bytes_eq l.dim.now dim) all ≡ is_drilled drill dim) (distinct : AreDistinct (map dim_in all)) where
   pub given_all : (ls : List LiftedPass) (sets : List Marked) (news : List LiftedPass)
-      → ((docs : List Doc) → HasTermsOf segment docs → AllZip (λ t s. s.places ≡ places (λ doc. matches query doc && fails_alone (map (test_of query drill) all) t doc) docs) (map (test_of query drill) ls) sets)
+      → ((docs : List Doc) → HasTermsOf segment docs → AllZip (λ t s. s.places ≡ without (places (λ doc. matches query doc && fails_alone (map (test_of query drill) all) t doc) docs) segment.dead) (map (test_of query drill) ls) sets)
       → length sets ≡ length ls → length news ≡ length ls → ((j : ℕ) (s : Marked) (l : LiftedPass) → j < length ls → IsGivenSet segment (get_or sets j s) (get_or ls j l) (get_or news j l))
       → AllByRecursion (λ l. list_any (λ x. bytes_eq x.dim.now l.dim.now) all ≡ true) ls → AllZip (HasNear query drill segment) ls news
   given_all [] [] [] near len len2 given among = tt
@@ -159,7 +171,7 @@ module _ (query : QueryTree) (drill : List (List (List ℕ))) (segment : Records
           own.dim,
           record {
             part = record { segment = segment; left = s.places };
-            is = record { same = refl; left = λ docs are. (near docs are).0 ∙ same_places _ _ docs (near_test query drill all covers distinct l among.0) };
+            is = record { same = refl; left = λ docs are. (near docs are).0 ∙ ap (λ xs. without xs segment.dead) (same_places (λ doc. matches query doc && fails_alone (map (test_of query drill) all) (test_of query drill l) doc) (is_near query drill l.dim.now) docs (near_test query drill all covers distinct l among.0)) };
             parts = own.parts;
             counter = own.counter;
           },

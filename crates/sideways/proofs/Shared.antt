@@ -1,6 +1,7 @@
 -- What nodes have in common, one node after the other.
 use Rattle.std.proofs.Common.{◌≡◌, ℕ, zero, suc, ◌+◌, ◌/◌, ◌<◌, Bool, true, false, ◌&&◌, ◌||◌, List, [], ◌∷◌, ◌++◌, length, get_or, Option, Some, None, refl, sym, ap, subst, ◌∙◌, arith}
-use Rattle.std.specs.Prelude.{slice_get}
+use Rattle.std.specs.Prelude.{◌==◌, not, slice_get}
+use Rattle.std.proofs.lemmas.Bool.{eqb-true}
 use Rattle.std.specs.List.{range_with_len, AllByRecursion}
 use Rattle.std.specs.Option.{option_map_or}
 use Rattle.std.proofs.lemmas.Option.{slice_get_within}
@@ -10,7 +11,11 @@ use Rattle.place_bits.specs.Words.{Marked, empty_set, with_places}
 use Rattle.plan_places.specs.Marks.{AreMarkedToo, IsMarkable}
 use Rattle.plan_places.specs.Planned.{Planned, all_have}
 use Rattle.query_eval.proofs.Marks.{at, rising_places, is_in_places, are_places, all_from_place}
+use Rattle.facet_codec.specs.Laws.{IsBelow}
 use Rattle.seg_postings.specs.Rising.{IsRising, is_in}
+use Rattle.seg_postings.specs.Sets.{without}
+use Rattle.seg_postings.proofs.Members.{is_in-without, one_rising}
+use Rattle.seg_postings.proofs.Sets.{rising_without}
 use Rattle.sideways.specs.Counted.{AreAllOf, AreNodesFor, IsAmong, IsMarkedBy}
 use Rattle.sideways.proofs.Gathered.{all_front, all_last}
 use Rattle.sideways.proofs.Narrowed.{all_have_more}
@@ -92,6 +97,27 @@ all_common docs all left common so_far end among test same are =
     by n None e = ap (λ b. b && all_have n all) (among_at n ∙ ap (λ (o : Option Doc). option_map_or (λ d. true) o false) e) ∙ sym (ap (λ o. option_map_or test o false) e)
     by n (Some doc) e =
         ap (λ b. b && all_have n all) (among_at n ∙ ap (λ (o : Option Doc). option_map_or (λ d. true) o false) e) ∙ are.have n doc e ∙ sym (ap (λ o. option_map_or test o false) e)
+
+-- ---- without the dead
+
+below_in : (docs : ℕ) (dead : List ℕ) → AllByRecursion (IsBelow docs) dead → (n : ℕ) → is_in n dead ≡ true → n < docs
+below_in docs [] below n there = absurd cc
+below_in docs (d ∷ ds) below n there = by (below_in docs ds below.1 n) (n == d) refl (is_in n ds) refl there
+  where
+    by : (is_in n ds ≡ true → n < docs) → (a : Bool) → (n == d) ≡ a → (b : Bool) → is_in n ds ≡ b → (a || b) ≡ true → n < docs
+    by rest true e b f h = omega (arith, eqb-true n d e, below.0)
+    by rest false e true f h = rest f
+    by rest false e false f h = absurd cc
+
+-- there is room for all of them
+pub dead_room : (docs : ℕ) (dead : List ℕ) (empty : Marked) → AllByRecursion (IsBelow docs) dead → empty ≡ empty_set ((docs + 63) / 64) → IsMarkable empty dead
+dead_room docs dead empty below none n there = omega (arith, ap (λ (m : Marked). m.words) none, below_in docs dead below n there)
+
+pub dead_left : (dead : List ℕ) (empty marked old new : Marked) (words : ℕ) → empty ≡ empty_set words → AreMarkedToo dead marked empty → IsRising old.places → IsRising new.places → ((n : ℕ) → is_in n new.places ≡ (is_in n old.places && not (is_in n marked.places)))
+    → new.places ≡ without old.places dead
+dead_left dead empty marked old new words none too rising after left =
+    one_rising new.places (without old.places dead) after (rising_without old.places dead rising)
+    (λ n. left n ∙ ap (λ b. is_in n old.places && not b) (too.members n ∙ ap (λ (m : Marked). is_in n m.places || is_in n dead) none) ∙ sym (is_in-without n old.places dead))
 
 -- ---- each node for itself
 

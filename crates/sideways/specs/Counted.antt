@@ -8,7 +8,7 @@ use Rattle.facet_model.specs.Documents.{Doc, dim_of}
 use Rattle.facet_model.specs.Flags.{Config}
 use Rattle.facet_model.specs.Hits.{passes}
 use Rattle.facet_model.specs.Queries.{QueryTree, matches}
-use Rattle.facet_model.specs.Stored.{Records}
+use Rattle.facet_model.specs.Stored.{Records, live_before}
 use Rattle.facet_counts.specs.Lists.{IsCounted}
 use Rattle.facet_counts.specs.Tallies.{Tally, HasAdded}
 use Rattle.place_bits.specs.Words.{Marked}
@@ -16,6 +16,7 @@ use Rattle.plan_places.specs.Planned.{Planned, all_have}
 use Rattle.query_eval.specs.Segments.{HasTermsOf}
 use Rattle.seg_grammar.specs.Lookups.{record_of}
 use Rattle.seg_postings.specs.Rising.{IsRising, is_in}
+use Rattle.seg_postings.specs.Sets.{without}
 
 -- ---- the documents of a pass
 
@@ -94,10 +95,10 @@ pub record IsSetWithin (segment : Records) (set : Marked) : Type 0 where
   pub words : set.words ≡ (length segment.records + 63) / 64
   pub within : AreWithin segment set.places
 
--- the part is of this segment, and has the documents that pass
+-- the part is of this segment, and has the live records of the documents that pass
 pub record IsPartOf (test : Doc → Bool) (segment : Records) (part : PartLeft) : Type 0 where
   pub same : part.segment ≡ segment
-  pub left : (docs : List Doc) → HasTermsOf segment docs → part.left ≡ places test docs
+  pub left : (docs : List Doc) → HasTermsOf segment docs → part.left ≡ without (places test docs) segment.dead
 
 -- ---- counting
 
@@ -119,10 +120,18 @@ pub record IsGrown (old new : Tally) (lists : List (List ℕ)) : Type 0 where
   pub labels : new.labels ≡ old.labels
   pub config : new.config ≡ old.config
 
--- the places of all parts, counted on from one segment to the next
+-- how many of the records are live
+abbrev pub live_in : Records → ℕ
+live_in segment = live_before segment.dead (length segment.records)
+
+-- where the records at the places stand among the live ones, counted on from a number
+abbrev pub ranks_from : ℕ → Records → List ℕ → List ℕ
+ranks_from base segment places = map (λ place. base + live_before segment.dead place) places
+
+-- the places of all parts among the live records, counted on from one segment to the next
 abbrev pub placed : ℕ → List PartLeft → List ℕ
 placed base [] = []
-placed base (p ∷ ps) = map (λ place. base + place) p.left ++ placed (base + length p.segment.records) ps
+placed base (p ∷ ps) = ranks_from base p.segment p.left ++ placed (base + live_in p.segment) ps
 
 -- The first places of a part were taken, counted and noted.
 pub record IsTaking (old new : PartLeft) (before after : Tally) (base limit : ℕ) (hits more : List ℕ) (number : ℕ) : Type 0 where
@@ -130,13 +139,13 @@ pub record IsTaking (old new : PartLeft) (before after : Tally) (base limit : �
   pub left : old.left ≡ first ++ new.left
   pub segment : new.segment ≡ old.segment
   pub grown : IsGrown before after (lists_at old.segment first)
-  pub noted : more ≡ hits ++ map (λ place. base + place) first
+  pub noted : more ≡ hits ++ ranks_from base old.segment first
   pub as_many : number ≡ length first
   pub few : length more ≤ limit
 
 -- where the first places so far were noted, they still are with those of the part
 abbrev pub IsNoting : PartLeft → ℕ → ℕ → List ℕ → List ℕ → Type 0
-IsNoting part base limit hits more = (before : List ℕ) → hits ≡ take limit before → more ≡ take limit (before ++ map (λ place. base + place) part.left)
+IsNoting part base limit hits more = (before : List ℕ) → hits ≡ take limit before → more ≡ take limit (before ++ ranks_from base part.segment part.left)
 
 -- ---- one pass over all segments
 
@@ -150,9 +159,9 @@ pub record HasRoomFor (parts : List PartLeft) (tally others : Tally) : Type 0 wh
   pub config : others.config ≡ tally.config
   pub room : sum_by (λ p. length p.left) parts + others.added ≤ 1000000
 
--- The counter is new, every record may be counted, and there are at most a million of them, as of places left.
+-- The counter is new, every record may be counted, and at most a million of them are live, as of places left.
 pub record IsReady (parts : List PartLeft) (tally : Tally) : Type 0 where
   pub fresh : HasAdded tally []
   pub countable : AllByRecursion (λ p. AreCountable tally.config tally.labels p.segment) parts
   pub room : sum_by (λ p. length p.left) parts ≤ 1000000
-  pub few : sum_by (λ p. length p.segment.records) parts ≤ 1000000
+  pub few : sum_by (λ p. live_in p.segment) parts ≤ 1000000

@@ -15,7 +15,7 @@ use crate::ask::SearchAsk;
 use crate::pass::{Found, LiftedCounts};
 use facet_config::FacetsConfig;
 use facet_counts::{Counts, child_of, note_dim, order_dims, sibling_of};
-use facet_model::{Ask, FacetAnswer, FacetResult};
+use facet_model::{Ask, FacetAnswer, FacetResult, path_term};
 use facet_names::{NoMemory, Path};
 use query_eval::has_path;
 use seg_file::Segment;
@@ -74,14 +74,14 @@ fn each_dim(
 }
 
 impl<'a> SidewaysAnswer<'a> {
-    /// How many hits there are, in constant time.
+    /// How many hits there are, of live records, in constant time.
     pub fn hit_count(&self) -> u64
         ensures { (docs : List Doc) → HasDocs (question self.now) docs → result ≡ length (hits docs (question self.now).query (question self.now).drill) }
     {
         self.found.number
     }
 
-    /// The places of the first hits, as many as were wanted, counted over all segments.
+    /// The places of the first hits, as many as were wanted, counted over the live records of all segments.
     pub fn hits(&self) -> &[u32]
         ensures { (docs : List Doc) → HasDocs (question self.now) docs
             → result.now ≡ take (question self.now).hits (places (is_hit (question self.now).query (question self.now).drill) docs) }
@@ -106,12 +106,13 @@ impl<'a> SidewaysAnswer<'a> {
         &self.found.counts
     }
 
-    // Whether a document of the snapshot has a path.
+    // Whether a live document of the snapshot has a path.
     fn exists(&self, alloc: Global, path: &Path) -> Result<bool, NoMemory>
         ensures { IfOk result (λ b. (docs : List Doc) → HasDocs (question self.now) docs → b ≡ nat_lt 0 (count docs path.now)) }
     {
+        let term = path_term(alloc, path)?;
         for segment in self.segments {
-            if has_path(alloc, segment, path)? {
+            if has_path(alloc, segment, term.as_str())? {
                 return Ok(true);
             }
         }

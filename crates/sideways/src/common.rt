@@ -1,8 +1,11 @@
 //! The places that several nodes have in common.
-ghost use Rattle.std.specs.Prelude.{◌≡◌, ◌<◌, ◌+◌, ◌/◌, ℕ, Bool, List, IfOk, length, true};
+ghost use Rattle.std.specs.Prelude.{◌≡◌, ◌+◌, ◌/◌, ℕ, Bool, List, IfOk, length, true};
 ghost use Rattle.std.specs.List.{AllByRecursion, AllZip};
 ghost use Rattle.facet_model.specs.CountedPaths.{places};
 ghost use Rattle.facet_model.specs.Documents.{Doc};
+ghost use Rattle.facet_codec.specs.Laws.{IsBelow};
+ghost use Rattle.seg_postings.specs.Rising.{IsRising};
+ghost use Rattle.seg_postings.specs.Sets.{without};
 ghost use Rattle.sideways.specs.Counted.{AreAllOf, IsAmong, IsMarkedBy};
 
 use facet_names::NoMemory;
@@ -63,16 +66,39 @@ pub(crate) fn marked_each(
     Ok(sets)
 }
 
-/// The places that all nodes have, as bits; of no node, all places. It takes an eighth of a byte a document, and as much again while it looks.
+// The places of a set but for some.
+fn without_dead(alloc: Global, set: Bits, docs: u32, dead: &[u32]) -> Result<Bits, NoMemory>
+    requires words { set.words ≡ (docs + 63) / 64 }
+    requires set { IsRising set.places }
+    requires rise { IsRising dead.now }
+    requires below { AllByRecursion (IsBelow docs) dead.now }
+    ensures words { IfOk result (λ b. b.words ≡ set.words) }
+    ensures places { IfOk result (λ b. b.places ≡ without set.places dead.now) }
+{
+    if dead.is_empty() {
+        return Ok(set);
+    }
+    let mut left = set;
+    let mut marked = Bits::none(alloc, docs)?;
+    PlanNode::listed(dead).mark(&mut marked);
+    left.leave(&marked);
+    Ok(left)
+}
+
+/// The places that all nodes have and that are not dead, as bits; of no node, all places. It takes an eighth of a byte a document, and as much again while
+/// it looks.
 pub(crate) fn in_common(
     alloc: Global,
     nodes: Vec<PlanNode<'_>>,
     docs: u32,
+    dead: &[u32],
 ) -> Result<Bits, NoMemory>
     requires within { (among : List Doc) × (test : Doc → Bool) × AreAllOf among test nodes.items × (docs ≡ length among) }
+    requires rise { IsRising dead.now }
+    requires below { AllByRecursion (IsBelow docs) dead.now }
     ensures words { IfOk result (λ b. b.words ≡ (docs + 63) / 64) }
     ensures places { IfOk result (λ b. (among : List Doc) (test : Doc → Bool) → docs ≡ length among → AreAllOf among test nodes.entry.items
-        → b.places ≡ places test among) }
+        → b.places ≡ without (places test among) dead.now) }
 {
     let mut nodes = nodes;
     let mut common = Bits::none(alloc, docs)?;
@@ -82,5 +108,5 @@ pub(crate) fn in_common(
         node.mark(&mut marked);
         common.keep(&marked);
     }
-    Ok(common)
+    without_dead(alloc, common, docs, dead)
 }

@@ -6,6 +6,7 @@ mod answer;
 mod ask;
 mod common;
 mod count;
+pub mod laws;
 mod near;
 mod node;
 mod part;

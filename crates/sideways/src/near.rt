@@ -1,4 +1,4 @@
-//! The parts of one segment: the hits, and for each drilled dimension the documents that it alone leaves out.
+//! The parts of one segment: the hits, and for each drilled dimension the documents that it alone leaves out. Records that are not live are in none.
 ghost use Rattle.std.specs.Prelude.{◌≡◌, ◌+◌, ◌/◌, ◌&&◌, ◌∷◌, ◌++◌, [], Bool, ℕ, List, None, IfOk, OnOk, length, map, slice_index_or};
 ghost use Rattle.std.specs.List.{AllByRecursion, AllZip, list_any};
 ghost use Rattle.std.specs.Str.{bytes_eq};
@@ -8,6 +8,9 @@ ghost use Rattle.facet_model.specs.Hits.{passes};
 ghost use Rattle.facet_model.specs.QueryViews.{query_view};
 ghost use Rattle.place_bits.specs.Misses.{HaveWords};
 ghost use Rattle.query_eval.specs.Segments.{HasTermsOf};
+ghost use Rattle.facet_codec.specs.Laws.{IsBelow};
+ghost use Rattle.seg_postings.specs.Rising.{IsRising};
+ghost use Rattle.seg_postings.specs.Sets.{without};
 ghost use Rattle.sideways.specs.Counted.{AreAllOf, AreNodesFor, IsSetWithin, fails_alone, is_drilled, passes_all, passes_tests};
 ghost use Rattle.sideways.specs.Kept.{AreDistinct, HasNear, HasPart, IsGivenSet, IsGivenSets, dim_in};
 
@@ -15,15 +18,15 @@ use crate::common::{are_near_many, in_common, marked_each};
 use crate::node::base_nodes;
 use crate::part::Part;
 use crate::pass::{LiftedPass, Pass};
-use facet_model::Query;
-use facet_names::{NoMemory, Path};
+use facet_model::{Drill, Query};
+use facet_names::NoMemory;
 use place_bits::{Bits, near_misses};
 use plan_places::PlanNode;
 use query_eval::paths_node;
 use seg_file::Segment;
 use std::alloc::Global;
 
-/// The hits of a segment, and for each drilled dimension the places that it alone leaves out.
+/// The hits of a segment, and for each drilled dimension the places that it alone leaves out, of live records.
 #[derive(Drop)]
 pub(crate) struct NearSets {
     pub(crate) hits: Bits,
@@ -34,7 +37,7 @@ pub(crate) struct NearSets {
 fn dim_nodes<'a>(
     alloc: Global,
     segment: &'a Segment,
-    drill: &[Path],
+    drill: &Drill,
     lifted: &[LiftedPass<'_>],
 ) -> Result<Vec<PlanNode<'a>>, NoMemory>
     ensures { IfOk result (λ v. (docs : List Doc) → HasTermsOf segment.now docs
@@ -48,25 +51,28 @@ fn dim_nodes<'a>(
     Ok(nodes)
 }
 
-// What all nodes have, and what each dimension alone leaves out, a word for 64 documents at a time.
+// What all nodes have, and what each dimension alone leaves out, a word for 64 documents at a time. Both are without the dead.
 fn near_sets(
     alloc: Global,
     docs: u32,
+    dead: &[u32],
     base: Vec<PlanNode<'_>>,
     dims: Vec<PlanNode<'_>>,
 ) -> Result<NearSets, NoMemory>
-    requires { (among : List Doc) × (test : Doc → Bool) × (tests : List (Doc → Bool)) × AreAllOf among test base.items × AreNodesFor among tests dims.items
-        × (docs ≡ length among) }
+    requires within { (among : List Doc) × (test : Doc → Bool) × (tests : List (Doc → Bool)) × AreAllOf among test base.items
+        × AreNodesFor among tests dims.items × (docs ≡ length among) }
+    requires rise { IsRising dead.now }
+    requires below { AllByRecursion (IsBelow docs) dead.now }
     ensures hits_words { IfOk result (λ s. s.hits.words ≡ (docs + 63) / 64) }
     ensures near_words { IfOk result (λ s. HaveWords ((docs + 63) / 64) s.near.items) }
     ensures hits { IfOk result (λ s. (among : List Doc) (test : Doc → Bool) (tests : List (Doc → Bool)) → docs ≡ length among
         → AreAllOf among test base.entry.items → AreNodesFor among tests dims.entry.items
-        → s.hits.places ≡ places (λ doc. test doc && passes_tests tests doc) among) }
+        → s.hits.places ≡ without (places (λ doc. test doc && passes_tests tests doc) among) dead.now) }
     ensures near { IfOk result (λ s. (among : List Doc) (test : Doc → Bool) (tests : List (Doc → Bool)) → docs ≡ length among
         → AreAllOf among test base.entry.items → AreNodesFor among tests dims.entry.items
-        → AllZip (λ t set. set.places ≡ places (λ doc. test doc && fails_alone tests t doc) among) tests s.near.items) }
+        → AllZip (λ t set. set.places ≡ without (places (λ doc. test doc && fails_alone tests t doc) among) dead.now) tests s.near.items) }
 {
-    let mut hits = in_common(alloc, base, docs)?;
+    let mut hits = in_common(alloc, base, docs, dead)?;
     let mut near = marked_each(alloc, dims, docs)?;
     let mut ones = Bits::none(alloc, docs)?;
     let mut twos = Bits::none(alloc, docs)?;
@@ -97,7 +103,7 @@ fn add_walks<'a>(
     alloc: Global,
     segment: &'a Segment,
     query: &Query,
-    drill: &[Path],
+    drill: &Drill,
     lifted: &mut Vec<LiftedPass<'a>>,
 ) -> Result<(), NoMemory>
     requires { (docs : List Doc) × HasTermsOf segment.now docs }
@@ -115,7 +121,7 @@ pub(crate) fn add_segment<'a>(
     alloc: Global,
     segment: &'a Segment,
     query: &Query,
-    drill: &[Path],
+    drill: &Drill,
     hits: &mut Pass<'a>,
     lifted: &mut Vec<LiftedPass<'a>>,
 ) -> Result<(), NoMemory>
@@ -125,17 +131,21 @@ pub(crate) fn add_segment<'a>(
     ensures hits { OnOk result (HasPart (passes_all (query_view query.now) drill.now None) segment.now hits.old hits.new) }
     ensures lifted { OnOk result (AllZip (HasNear (query_view query.now) drill.now segment.now) lifted.old.items lifted.new.items) }
 {
-    if !lifted.is_empty() {
-        let base = base_nodes(alloc, segment, query)?;
-        let dims = dim_nodes(alloc, segment, drill, lifted)?;
-        if are_near_many(&base, &dims, segment.docs()) {
-            let sets = near_sets(alloc, segment.docs(), base, dims)?;
-            hits.parts.push(Part::marked(segment, sets.hits))?;
-            add_sets(segment, sets.near, lifted)?;
-            return Ok(());
-        }
+    if lifted.is_empty() {
+        let part = Part::new(alloc, segment, query, drill, None)?;
+        hits.parts.push(part)?;
+        return Ok(());
     }
-    let part = Part::new(alloc, segment, query, drill)?;
+    let mut base = base_nodes(alloc, segment, query)?;
+    let mut dims = dim_nodes(alloc, segment, drill, lifted)?;
+    if are_near_many(&base, &dims, segment.docs()) {
+        let sets = near_sets(alloc, segment.docs(), segment.dead(), base, dims)?;
+        hits.parts.push(Part::marked(segment, sets.hits))?;
+        add_sets(segment, sets.near, lifted)?;
+        return Ok(());
+    }
+    base.append(&mut dims)?;
+    let part = Part::of_nodes(alloc, segment, base)?;
     hits.parts.push(part)?;
     add_walks(alloc, segment, query, drill, lifted)
 }

@@ -9,7 +9,7 @@ ghost use Rattle.facet_model.specs.QueryViews.{query_view};
 ghost use Rattle.query_eval.specs.Segments.{HasTermsOf};
 ghost use Rattle.sideways.specs.Counted.{AreAllOf, is_first, is_lifted, lifted_of, passes_all};
 
-use facet_model::Query;
+use facet_model::{Drill, Query};
 use facet_names::{NoMemory, Path};
 use plan_places::PlanNode;
 use query_eval::{paths_node, query_node};
@@ -64,15 +64,16 @@ pub(crate) fn nodes_of<'a>(
     alloc: Global,
     segment: &'a Segment,
     query: &Query,
-    drill: &[Path],
+    drill: &Drill,
     lifted: Option<&str>,
 ) -> Result<Vec<PlanNode<'a>>, NoMemory>
     ensures { IfOk result (λ v. (docs : List Doc) → HasTermsOf segment.now docs
         → AreAllOf docs (passes_all (query_view query.now) drill.now (lifted_of lifted.entry)) v.items) }
 {
     let mut nodes = base_nodes(alloc, segment, query)?;
-    for (at, path) in drill.iter().enumerate() {
-        if is_first(drill, at, lifted) {
+    let paths = drill.paths();
+    for (at, path) in paths.iter().enumerate() {
+        if is_first(paths, at, lifted) {
             let node = paths_node(alloc, segment, drill, path.dim())?;
             nodes.push(node)?;
         }

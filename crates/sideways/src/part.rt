@@ -1,20 +1,21 @@
-ghost use Rattle.std.specs.Prelude.{◌≡◌, ◌+◌, ◌≤◌, ◌<◌, ◌∷◌, [], List, None, length, IfOk, IfSome};
+ghost use Rattle.std.specs.Prelude.{◌≡◌, ◌+◌, ◌≤◌, ◌<◌, ◌∷◌, [], Bool, List, length, IfOk, IfSome};
 ghost use Rattle.facet_model.specs.Documents.{Doc};
 ghost use Rattle.facet_model.specs.QueryViews.{query_view};
+ghost use Rattle.facet_model.specs.Stored.{live_before};
 ghost use Rattle.query_eval.specs.Segments.{HasTermsOf};
 ghost use Rattle.seg_postings.specs.Rising.{IsNext};
-ghost use Rattle.sideways.specs.Counted.{AreCountable, IsGrown, IsPartOf, IsSetWithin, is_near, lists_at, passes_all};
+ghost use Rattle.sideways.specs.Counted.{AreAllOf, AreCountable, IsGrown, IsPartOf, IsSetWithin, is_near, lifted_of, lists_at, live_in, passes_all};
 ghost use Rattle.sideways.specs.Parts.{IsLeft, left_of};
 
 use crate::common::{are_many, in_common};
 use crate::count::{count_marked, count_places};
 use crate::node::{joined, nodes_of, without_one};
 use facet_counts::Counter;
-use facet_model::Query;
-use facet_names::{NoMemory, Path};
+use facet_model::{Drill, Query};
+use facet_names::NoMemory;
 use place_bits::{BitPlaces, Bits};
-use plan_places::PlanPlaces;
-use query_eval::paths_node;
+use plan_places::{PlanNode, PlanPlaces};
+use query_eval::{live_node, paths_node};
 use seg_file::Segment;
 use seg_postings::Places;
 use std::alloc::Global;
@@ -66,32 +67,47 @@ fn count_left(segment: &Segment, left: Left<'_>, counter: &mut Counter<'_>) -> u
 }
 
 impl<'a> Part<'a> {
-    /// The records of the documents that match the query and pass all dimensions of the drill.
+    /// The live records of the documents that match the query and pass all dimensions of the drill but for the one that is lifted.
     pub(crate) fn new(
         alloc: Global,
         segment: &'a Segment,
         query: &Query,
-        drill: &[Path],
+        drill: &Drill,
+        lifted: Option<&str>,
     ) -> Result<Part<'a>, NoMemory>
         requires { (docs : List Doc) × HasTermsOf segment.now docs }
-        ensures { IfOk result (λ p. IsPartOf (passes_all (query_view query.now) drill.now None) segment.now p) }
+        ensures { IfOk result (λ p. IsPartOf (passes_all (query_view query.now) drill.now (lifted_of lifted.entry)) segment.now p) }
     {
-        let nodes = nodes_of(alloc, segment, query, drill, None)?;
+        let nodes = nodes_of(alloc, segment, query, drill, lifted)?;
+        Part::of_nodes(alloc, segment, nodes)
+    }
+
+    /// The live records of the documents that all nodes have.
+    pub(crate) fn of_nodes(
+        alloc: Global,
+        segment: &'a Segment,
+        nodes: Vec<PlanNode<'a>>,
+    ) -> Result<Part<'a>, NoMemory>
+        requires { (docs : List Doc) × (test : Doc → Bool) × AreAllOf docs test nodes.items × HasTermsOf segment.now docs }
+        ensures { IfOk result (λ p. (test : Doc → Bool) → ((docs : List Doc) → HasTermsOf segment.now docs → AreAllOf docs test nodes.entry.items)
+            → IsPartOf test segment.now p) }
+    {
         if nodes.is_empty() || are_many(&nodes, segment.docs()) {
-            let common = in_common(alloc, nodes, segment.docs())?;
+            let common = in_common(alloc, nodes, segment.docs(), segment.dead())?;
             return Ok(Part::marked(segment, common));
         }
         let node = joined(alloc, nodes)?;
+        let node = live_node(alloc, segment, node)?;
         let left = Left::At(PlanPlaces::new(node));
         Ok(Part { segment, left })
     }
 
-    /// The records of the documents that a dimension alone leaves out, which are asked for one after the other.
+    /// The live records of the documents that a dimension alone leaves out, which are asked for one after the other.
     pub(crate) fn near(
         alloc: Global,
         segment: &'a Segment,
         query: &Query,
-        drill: &[Path],
+        drill: &Drill,
         dim: &str,
     ) -> Result<Part<'a>, NoMemory>
         requires { (docs : List Doc) × HasTermsOf segment.now docs }
@@ -100,6 +116,7 @@ impl<'a> Part<'a> {
         let nodes = nodes_of(alloc, segment, query, drill, Some(dim))?;
         let own = paths_node(alloc, segment, drill, dim)?;
         let node = without_one(alloc, segment.docs(), nodes, own)?;
+        let node = live_node(alloc, segment, node)?;
         let left = Left::At(PlanPlaces::new(node));
         Ok(Part { segment, left })
     }
@@ -148,10 +165,18 @@ impl<'a> Part<'a> {
         count_left(self.segment, left, counter)
     }
 
-    /// How many records the segment has.
-    pub(crate) fn docs(&self) -> u32
-        ensures { result ≡ length self.now.segment.records }
+    /// How many live records of the segment stand before the one at a place.
+    pub(crate) fn rank(&self, place: u32) -> u32
+        requires { place < length self.now.segment.records }
+        ensures { result ≡ live_before self.now.segment.dead place }
     {
-        self.segment.docs()
+        self.segment.rank(place)
+    }
+
+    /// How many records of the segment are live.
+    pub(crate) fn live(&self) -> u32
+        ensures { result ≡ live_in self.now.segment }
+    {
+        self.segment.live()
     }
 }

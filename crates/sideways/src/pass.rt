@@ -2,7 +2,7 @@ ghost use Rattle.std.specs.Prelude.{◌≡◌, ◌+◌, ◌≤◌, ◌<◌, ◌�
 ghost use Rattle.std.specs.Vec.{vec_capacity, vec_len};
 ghost use Rattle.facet_names.specs.Labels.{IsLabelList};
 ghost use Rattle.facet_counts.specs.Tallies.{AreCounts, HasAdded};
-ghost use Rattle.sideways.specs.Counted.{AreCountable, HasRoomFor, IsGrown, IsNoting, IsTaking, IsReady, lists_at, lists_of, placed};
+ghost use Rattle.sideways.specs.Counted.{AreCountable, HasRoomFor, IsGrown, IsNoting, IsTaking, IsReady, lists_at, lists_of, live_in, placed};
 
 use crate::part::Part;
 use facet_config::FacetsConfig;
@@ -67,7 +67,7 @@ fn take_hits(
 ) -> u64
     requires countable { AreCountable counter.old.config counter.old.labels part.old.segment }
     requires room { counter.old.added + length part.old.left ≤ 1000000 }
-    requires few { base + length part.old.segment.records ≤ 1000000 }
+    requires few { base + live_in part.old.segment ≤ 1000000 }
     requires limit { length hits.old.items ≤ limit }
     requires capacity { limit ≤ vec_capacity hits.old }
     ensures taking { IsTaking part.old part.new counter.old counter.new base limit hits.old.items hits.new.items result }
@@ -80,7 +80,7 @@ fn take_hits(
             return number;
         };
         part.count_one(place, counter);
-        push_within(hits, base + place);
+        push_within(hits, base + part.rank(place));
         number += 1;
     }
     number
@@ -96,7 +96,7 @@ fn count_part(
 ) -> u64
     requires countable { AreCountable counter.old.config counter.old.labels part.old.segment }
     requires room { counter.old.added + length part.old.left ≤ 1000000 }
-    requires few { base + length part.old.segment.records ≤ 1000000 }
+    requires few { base + live_in part.old.segment ≤ 1000000 }
     requires limit { length hits.old.items ≤ limit }
     requires capacity { limit ≤ vec_capacity hits.old }
     ensures grown { IsGrown counter.old counter.new (lists_at part.old.segment part.old.left) }
@@ -165,9 +165,9 @@ impl<'a> Pass<'a> {
         let mut number = 0;
         let mut base = 0;
         for part in parts.iter_mut() {
-            let docs = part.docs();
+            let live = part.live();
             number += count_part(part, &mut counter, base, limit, &mut places);
-            base += docs;
+            base += live;
         }
         Hits {
             counter,

@@ -62,8 +62,8 @@ impl<'a> Model for DrillPlan<'a> {
         × HasRoom p.ask.now.hits p.lifted.items p.places p.counted };
 }
 
-// How many places of hits are kept: those that are wanted, and no more than there are documents.
-fn limit_of(ask: &SearchAsk) -> u32
+/// How many places of hits are kept: those that are wanted, and no more than there are documents.
+pub(crate) fn limit_of(ask: &SearchAsk) -> u32
     ensures { result ≡ min ask.now.hits 1000000 }
 {
     ask.hits.min(1_000_000)
@@ -111,9 +111,8 @@ fn add_segments<'a>(
     ensures hits { OnOk result (HasParts (passes_all (query_view ask.now.query) ask.now.drill None) (records_of segments.now) hits.old hits.new) }
     ensures lifted { OnOk result (AllZip (HasNears (query_view ask.now.query) ask.now.drill (records_of segments.now)) lifted.old.items lifted.new.items) }
 {
-    let drill = ask.drill.paths();
     for segment in segments {
-        add_segment(alloc, segment, &ask.query, drill, hits, lifted)?;
+        add_segment(alloc, segment, &ask.query, &ask.drill, hits, lifted)?;
     }
     Ok(())
 }

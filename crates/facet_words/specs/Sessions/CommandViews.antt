@@ -1,8 +1,6 @@
 -- The plain data of the commands of several sessions.
-use Rattle.std.specs.Prelude.{map}
-use Rattle.facet_model.specs.AskViews.{ask_view}
-use Rattle.facet_model.specs.QueryViews.{query_view}
-use Rattle.facet_words.specs.CommandViews.{settings_view}
+use Rattle.std.specs.Prelude.{box_value, map}
+use Rattle.facet_words.specs.CommandViews.{search_view, settings_view}
 use Rattle.facet_words.specs.Sessions.Commands as plain
 use Rattle.facet_words.specs.declared.sessions.command.Command.{Command}
 use Rattle.facet_words.specs.declared.sessions.command.Command.TheVariants as commands
@@ -14,8 +12,7 @@ command_view (commands.Add doc) = plain.add doc
 command_view commands.Refresh = plain.refresh
 command_view (commands.Hold name) = plain.hold name
 command_view (commands.Release name) = plain.release name
-command_view (commands.Search on query drill sideways asks hits) = plain.search on
-    (record { query = query_view query; drill = drill; sideways = sideways; asks = map ask_view asks.items; hits = hits })
+command_view (commands.Search on line) = plain.search on (search_view (box_value line))
 command_view (commands.Document on at) = plain.document on at
 command_view (commands.Stats on) = plain.stats on
 command_view commands.Commit = plain.commit

@@ -67,6 +67,8 @@ fn paths_next(alloc: Global, reader: &mut Reader<'_>) -> Result<Option<Vec<Path>
         };
         paths.push(path)?;
     }
+    // They are kept as long as the order.
+    paths.shrink_to_fit();
     Ok(Some(paths))
 }
 

@@ -1,5 +1,6 @@
+use crate::parts::SearchLine;
 use crate::settings::Settings;
-use facet_model::{Ask, Document, Drill, Query, Word};
+use facet_model::{Document, Word};
 
 /// A command of a session. Where it has `on`, it sees the pair that the session holds under this name, and else the pair that was published last.
 #[derive(Debug, Drop)]
@@ -22,11 +23,7 @@ pub enum Command {
     /// `sideways` each dimension is counted as if the drill did not name it, as Lucene's `DrillSideways` does.
     Search {
         on: Option<Word>,
-        query: Query,
-        drill: Drill,
-        sideways: bool,
-        asks: Vec<Ask>,
-        hits: u32,
+        line: Box<SearchLine>,
     },
     /// Shows the document at this place of the pair, from 0.
     Document {

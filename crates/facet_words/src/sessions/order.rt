@@ -48,17 +48,11 @@ fn release_in(alloc: Global, value: &Value) -> Result<Option<Command>, NoMemory>
     }
 }
 
-fn search_command(on: Option<Word>, line: SearchLine) -> Command
-    ensures { command_view result ≡ search on (search_view line) }
+fn search_command(alloc: Global, on: Option<Word>, line: SearchLine) -> Result<Command, NoMemory>
+    ensures { IfOk result (λ c. command_view c ≡ search on (search_view line)) }
 {
-    Command::Search {
-        on,
-        query: line.query,
-        drill: line.drill,
-        sideways: line.sideways,
-        asks: line.asks,
-        hits: line.hits,
-    }
+    let line = Box::new(alloc, line)?;
+    Ok(Command::Search { on, line })
 }
 
 #[tactic(auto, unfolding(crate::specs::Sessions::Orders::search_of))]
@@ -76,7 +70,7 @@ fn search_in(alloc: Global, value: &Value) -> Result<Option<Command>, NoMemory>
         ],
     )?;
     match found {
-        Some(line) => Ok(Some(search_command(on, line))),
+        Some(line) => Ok(Some(search_command(alloc, on, line)?)),
         None => Ok(None),
     }
 }

@@ -1,12 +1,12 @@
 use Rattle.std.proofs.Common.{◌≡◌, List, length, Some, ◌+◌, ◌*◌, ◌<◌, ◌≤◌, ap, sym, subst, ◌∙◌, arith}
 use Rattle.seg_postings.specs.Rising.{IsRising, first_of}
 use Rattle.plan_places.specs.Planned.{Planned, moved_to, all_nodes}
-use Rattle.plan_places.specs.Nodes.{planned, conjunction_nodes}
+use Rattle.plan_places.specs.Nodes.{IsPlanned, planned, conjunction_nodes}
 use Rattle.plan_places.proofs.Unions.{moved_more, kept_nodes, rising_any, leaf_of, any_is, conjunction_is}
 use Rattle.plan_places.proofs.Choices.{ahead_starts, ahead_first, ahead_same, ahead_goes, ahead_left, ahead_nodes, ahead_shorter, found_first, none_first, empty_first, rising_chosen, chosen_excluded, chosen_here, same_itself, same_moved, same_length}
 use Rattle.plan_places.proofs.Choices.{AreMet, met_starts, met_back, met_more, met_none, met_later, met_nodes}
 use Rattle.plan_places.proofs.+at_least.Goals as goal
-use Rattle.plan_places.proofs.+at_least.Goals.{node::PlanNode::at_least-in-Range, node::PlanNode::at_least-in-Term, node::PlanNode::at_least-in-Any, node::PlanNode::at_least-in-All}
+use Rattle.plan_places.proofs.+at_least.Goals.{node::PlanNode::at_least-in-Range, node::PlanNode::at_least-in-Term, node::PlanNode::at_least-in-Listed, node::PlanNode::at_least-in-Any, node::PlanNode::at_least-in-All}
 
 pub conjunction::Conjunction::at_least-returns-in_err-first-clause-rising : goal.conjunction::Conjunction::at_least-returns-in_err-first-clause-rising
 conjunction::Conjunction::at_least-returns-in_err-first-clause-rising t c =
@@ -167,6 +167,7 @@ pub node::PlanNode::at_least-returns-clause-rising : goal.node::PlanNode::at_lea
 node::PlanNode::at_least-returns-clause-rising t c = elim c.match-self.branch [
   | node::PlanNode::at_least-in-Range w ↦ subst (λ (v : Planned). IsRising v.left) (ap planned (sym w.in-Range.is) ∙ c.self.view_is) w.at_least.ensures.rising
   | node::PlanNode::at_least-in-Term w ↦ subst (λ (v : Planned). IsRising v.left) (ap planned (sym w.in-Term.is) ∙ c.self.view_is) w.at_least-in-Term.ensures.rising
+  | node::PlanNode::at_least-in-Listed w ↦ subst (λ (v : Planned). IsRising v.left) (ap planned (sym w.in-Listed.is) ∙ c.self.view_is) (subst IsPlanned w.in-Listed.is c.self.invariant)
   | node::PlanNode::at_least-in-Any w ↦ subst (λ (v : Planned). IsRising v.left) (ap planned (sym w.in-Any.is) ∙ c.self.view_is) (rising_any _ w.any_at_least.ensures.rising)
   | node::PlanNode::at_least-in-All w ↦ subst (λ (v : Planned). IsRising v.left) (ap planned (sym w.in-All.is) ∙ c.self.view_is) w.at_least-in-All.ensures.rising
 ]
@@ -175,6 +176,7 @@ pub node::PlanNode::at_least-returns-clause-moved : goal.node::PlanNode::at_leas
 node::PlanNode::at_least-returns-clause-moved t c = elim c.match-self.branch [
   | node::PlanNode::at_least-in-Range w ↦ rw w.self-inside-is (ap leaf_of w.at_least.ensures.moved ∙ ap (moved_to c.args.place) (ap planned (sym w.in-Range.is) ∙ c.self.view_is))
   | node::PlanNode::at_least-in-Term w ↦ rw w.self-inside-is (ap leaf_of w.at_least-in-Term.ensures.moved ∙ ap (moved_to c.args.place) (ap planned (sym w.in-Term.is) ∙ c.self.view_is))
+  | node::PlanNode::at_least-in-Listed w ↦ rw w.self-inside-is (ap leaf_of w.at_least-in-Listed.ensures.moved ∙ ap (moved_to c.args.place) (ap planned (sym w.in-Listed.is) ∙ c.self.view_is))
   | node::PlanNode::at_least-in-Any w ↦ rw w.self-inside-is (any_is c.args.place _ _ w.any_at_least.ensures.moved ∙ ap (moved_to c.args.place) (ap planned (sym w.in-Any.is) ∙ c.self.view_is))
   | node::PlanNode::at_least-in-All w ↦ rw w.self-inside-is (conjunction_is c.args.place _ _ w.at_least-in-All.ensures.moved ∙ ap (moved_to c.args.place) (ap planned (sym w.in-All.is) ∙ c.self.view_is))
 ]

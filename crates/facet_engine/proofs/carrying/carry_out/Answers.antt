@@ -1,13 +1,14 @@
-use Rattle.std.proofs.Common.{◌∙◌, Option, None, List, ℕ, map, option_map, refl, sym, ap, subst}
+use Rattle.std.proofs.Common.{◌∙◌, Option, None, List, ℕ, option_map, refl, sym, ap, subst}
 use Rattle.pair_manager.specs.declared.pass.Pass.{Pass}
 use Rattle.facet_output.specs.Commands.{Command, add, refresh, hold, release, search, document, stats, commit}
-use Rattle.facet_model.specs.AskViews.{ask_view}
-use Rattle.facet_model.specs.QueryViews.{query_view}
 use Rattle.facet_replies.specs.ReplyViews.{reply_view}
 use Rattle.facet_words.specs.Commands.{Search}
+use Rattle.facet_words.specs.CommandViews.{search_view as line_view}
 use Rattle.facet_words.specs.Sessions.CommandViews.{command_view}
+use Rattle.facet_words.specs.declared.parts.SearchLine.{SearchLine}
 use Rattle.facet_engine.specs.Calls.{IsCall, IsCarriedOut}
 use Rattle.facet_engine.specs.Names.{name_in}
+use Rattle.facet_engine.specs.Searches.{search_view}
 use Rattle.facet_engine.specs.Replies.{add_reply, refresh_reply, hold_reply, release_reply, search_reply, document_reply, stats_reply, commit_reply}
 use Rattle.facet_engine.specs.Steps.{step_of, last_place, refresh_place, hold_took, pair_taken}
 use Rattle.facet_engine.proofs.Carried.{carried, holds_still}
@@ -65,11 +66,12 @@ returns-in-Search g c =
     let new = c.search.new.session in
     let e = c.search.ensures in
     let on = name_in c.text_of.result in
-    let s : Search = record { query = query_view c.in-Search.query; drill = c.in-Search.drill; sideways = c.in-Search.sideways; asks = map ask_view c.in-Search.asks.items; hits = c.in-Search.hits } in
+    let s : Search = search_view c.ask_of-ask.result in
     let reply = search_reply c.search.result in
     let took = pair_taken on reply new.pass in
     let place = option_map (λ pair. last_place new.pass) took in
-    subst (λ (command : Command). IsCarriedOut engine old new command (reply_view c.found.result)) (ap (λ (name : Option (List ℕ)). search name s) c.text_of.ensures ∙ sym (ap command_view c.in-Search.is))
+    subst (λ (command : Command). IsCarriedOut engine old new command (reply_view c.found.result)) (ap (λ (name : Option (List ℕ)). search name s) c.text_of.ensures ∙ ap (search c.in-Search.on) c.ask_of-ask.ensures
+    ∙ ap (λ (line : SearchLine). search c.in-Search.on (line_view line)) c.into_inner.ensures ∙ sym (ap command_view c.in-Search.is))
     (carried engine old new (search on s) took place reply (reply_view c.found.result) c.found.ensures e.same (holds_still engine old new (search on s) took place reply refl e.held) e.step (spends_none old.pass new.pass reply (search_tells c.search.result)))
 
 pub returns-in-Document : goal.returns-in-Document

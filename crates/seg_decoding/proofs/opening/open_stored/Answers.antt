@@ -1,11 +1,13 @@
-use Rattle.std.proofs.Common.{List, ◌≡◌, ◌∙◌, map, sym, ap}
+use Rattle.std.proofs.Common.{List, ℕ, [], ◌≡◌, ◌∙◌, map, sym, ap, subst}
 use Rattle.std.proofs.lemmas.Result.{err_from_is_err_and}
 use Rattle.facet_model.specs.Terms.{terms_of}
 use Rattle.seg_terms.specs.Entries.{stored_of}
 use Rattle.seg_terms.specs.declared.entry.Entry.{Entry}
+use Rattle.seg_grammar.specs.Spelling.{IsSegment, seg_bytes}
 use Rattle.seg_decoding.specs.Entries.{docs_of}
 use Rattle.seg_decoding.specs.Opening.{opened, documents_fit, rebuilt, first_difference, stored_segment}
 use Rattle.seg_decoding.proofs.Compared.{number_is, stored_unread, stored_unfit, differs, agrees, decodes, leaves_low}
+use Rattle.seg_decoding.proofs.Live.{own_segment}
 use Rattle.seg_decoding.proofs.Telling.{fails_on}
 use Rattle.seg_decoding.proofs.Verified.{right_fits, verified_opens, verified_decodes}
 use Rattle.seg_decoding.proofs.opening.open_stored.Goals as goal
@@ -26,24 +28,27 @@ pub returns-in-Some-clause-err : goal.returns-in-Some-clause-err
 returns-in-Some-clause-err c =
     let known = c.args.labels.now in
     let built : c.in_ok-rebuilt.rebuilt ≡ rebuilt c.args.config.now known c.in_ok-segment.segment.records = c.in_ok-rebuilt.ensures
-    ∙ ap (λ (es : List Entry). record { records = map stored_of es; terms = terms_of (docs_of es) }) c.deref.ensures.value ∙ (λ i. record { records = c.in_ok-entries.ensures.stored i; terms = terms_of (c.in_ok-entries.ensures.docs i) }) in
-    differs c.args.config.now known c.args.needs c.args.documents c.args.bytes.items c.in_ok-segment.segment c.in_ok-segment.ensures.read c.in_ok-rebuilt.rebuilt c.in_ok-segment.ensures.found c.in_ok-entries.ensures.fits built c.bytes-2.ensures.is c.in-Some.at
+    ∙ ap (λ (es : List Entry). record { records = map stored_of es; terms = terms_of (docs_of es); dead = [] }) c.deref.ensures.value ∙ (λ i. record { records = c.in_ok-entries.ensures.stored i; terms = terms_of (c.in_ok-entries.ensures.docs i); dead = [] }) in
+    let own = own_segment (seg_bytes c.in_ok-rebuilt.rebuilt) c.in_ok-rebuilt.rebuilt (λ i. (built i).dead) c.bytes-2.ensures.is in
+    differs c.args.config.now known c.args.needs c.args.documents c.args.bytes.items c.in_ok-segment.segment c.in_ok-segment.ensures.read c.in_ok-rebuilt.rebuilt c.in_ok-segment.ensures.found c.in_ok-entries.ensures.fits built own c.in-Some.at
     ((λ i. first_difference (sym c.bytes.ensures.bytes i) (sym c.bytes-2.ensures.bytes i)) ∙ sym c.in-Some.ensures)
 
 pub returns-in-None-clause-ok : goal.returns-in-None-clause-ok
 returns-in-None-clause-ok c =
     let known = c.args.labels.now in
     let built : c.in_ok-rebuilt.rebuilt ≡ rebuilt c.args.config.now known c.in_ok-segment.segment.records = c.in_ok-rebuilt.ensures
-    ∙ ap (λ (es : List Entry). record { records = map stored_of es; terms = terms_of (docs_of es) }) c.deref.ensures.value ∙ (λ i. record { records = c.in_ok-entries.ensures.stored i; terms = terms_of (c.in_ok-entries.ensures.docs i) }) in
-    agrees c.args.config.now known c.args.needs c.args.documents c.args.bytes.items c.in_ok-segment.segment c.in_ok-segment.ensures.read c.in_ok-rebuilt.rebuilt c.in_ok-segment.ensures.found c.in_ok-entries.ensures.fits built c.bytes-2.ensures.is
+    ∙ ap (λ (es : List Entry). record { records = map stored_of es; terms = terms_of (docs_of es); dead = [] }) c.deref.ensures.value ∙ (λ i. record { records = c.in_ok-entries.ensures.stored i; terms = terms_of (c.in_ok-entries.ensures.docs i); dead = [] }) in
+    let own = own_segment (seg_bytes c.in_ok-rebuilt.rebuilt) c.in_ok-rebuilt.rebuilt (λ i. (built i).dead) c.bytes-2.ensures.is in
+    agrees c.args.config.now known c.args.needs c.args.documents c.args.bytes.items c.in_ok-segment.segment c.in_ok-segment.ensures.read c.in_ok-rebuilt.rebuilt c.in_ok-segment.ensures.found c.in_ok-entries.ensures.fits built own
     ((λ i. first_difference (sym c.bytes.ensures.bytes i) (sym c.bytes-2.ensures.bytes i)) ∙ sym c.in-None.ensures)
 
 pub returns-in-None-clause-decodes : goal.returns-in-None-clause-decodes
 returns-in-None-clause-decodes c =
     let known = c.args.labels.now in
     let built : c.in_ok-rebuilt.rebuilt ≡ rebuilt c.args.config.now known c.in_ok-segment.segment.records = c.in_ok-rebuilt.ensures
-    ∙ ap (λ (es : List Entry). record { records = map stored_of es; terms = terms_of (docs_of es) }) c.deref.ensures.value ∙ (λ i. record { records = c.in_ok-entries.ensures.stored i; terms = terms_of (c.in_ok-entries.ensures.docs i) }) in
-    decodes c.args.config.now known c.args.needs c.args.documents c.args.bytes.items c.in_ok-segment.segment c.in_ok-segment.ensures.read c.in_ok-rebuilt.rebuilt c.in_ok-segment.ensures.found c.in_ok-entries.ensures.fits built c.bytes-2.ensures.is
+    ∙ ap (λ (es : List Entry). record { records = map stored_of es; terms = terms_of (docs_of es); dead = [] }) c.deref.ensures.value ∙ (λ i. record { records = c.in_ok-entries.ensures.stored i; terms = terms_of (c.in_ok-entries.ensures.docs i); dead = [] }) in
+    let own = own_segment (seg_bytes c.in_ok-rebuilt.rebuilt) c.in_ok-rebuilt.rebuilt (λ i. (built i).dead) c.bytes-2.ensures.is in
+    decodes c.args.config.now known c.args.needs c.args.documents c.args.bytes.items c.in_ok-segment.segment c.in_ok-segment.ensures.read c.in_ok-rebuilt.rebuilt c.in_ok-segment.ensures.found c.in_ok-entries.ensures.fits built own
     ((λ i. first_difference (sym c.bytes.ensures.bytes i) (sym c.bytes-2.ensures.bytes i)) ∙ sym c.in-None.ensures) c.in_ok-entries.ensures.list c.requires
 
 pub returns-in-None-clause-leaves : goal.returns-in-None-clause-leaves
@@ -63,3 +68,9 @@ returns-in-Ok-clause-leaves c = leaves_low c.args.config.now c.args.labels.now c
 
 pub returns-in-Ok-clause-number : goal.returns-in-Ok-clause-number
 returns-in-Ok-clause-number c = number_is c.args.documents c.args.bytes.items c.in_ok-segment.segment c.in_ok-segment.ensures.found c.in_ok-segment.ensures.read
+
+pub returns-in-Ok-clause-own : goal.returns-in-Ok-clause-own
+returns-in-Ok-clause-own c = subst (λ (bs : List ℕ). IsSegment bs c.in_ok-segment.segment) c.in_ok-segment.ensures.found.spelled c.in_ok-segment.ensures.found
+
+pub returns-in-None-clause-own : goal.returns-in-None-clause-own
+returns-in-None-clause-own c = subst (λ (bs : List ℕ). IsSegment bs c.in_ok-segment.segment) c.in_ok-segment.ensures.found.spelled c.in_ok-segment.ensures.found

@@ -1,4 +1,4 @@
-use Rattle.std.proofs.Common.{◌≡◌, ℕ, ◌≤◌, ◌++◌, List, length, map, subst, sym, ap, ◌∙◌, arith}
+use Rattle.std.proofs.Common.{◌≡◌, ℕ, ◌≤◌, ◌++◌, List, length, map, subst, sym, ap, ◌∙◌, arith, refl}
 use Rattle.std.specs.List.{AllByRecursion, flat_map}
 use Rattle.std.proofs.lemmas.List.{length-map}
 use Rattle.facet_codec.specs.Spelling.{be32}
@@ -44,4 +44,5 @@ returns-clause-segment c =
       terms_count = omega (arith, terms, c.if-terms.false);
       terms = terms_fit docs (length rs) same (subst (AllByRecursion IsTermText) c.requires.terms c.in_ok-terms.ensures.fit);
       rise = terms_in_order docs;
+      live = refl;
     }

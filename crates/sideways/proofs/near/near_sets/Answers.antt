@@ -7,16 +7,17 @@ use Rattle.facet_model.specs.Documents.{Doc}
 use Rattle.std.specs.List.{AllZip}
 use Rattle.place_bits.specs.Misses.{HaveWords}
 use Rattle.place_bits.specs.Words.{Marked, empty_set}
+use Rattle.seg_postings.specs.Sets.{without}
 use Rattle.sideways.specs.Counted.{IsMarkedBy, fails_alone}
 use Rattle.sideways.proofs.Sets.{have_words, hits_are, near_words, nears_are, sets_of}
 use Rattle.sideways.proofs.Shared.{nodes_for_among}
 use Rattle.sideways.proofs.near.near_sets.Goals as goal
 
 pub in_common-requires : goal.in_common-requires
-in_common-requires c = record { within = (c.requires.0, c.requires.1, c.requires.3, c.requires.5) }
+in_common-requires c = record { within = (c.requires.within.0, c.requires.within.1, c.requires.within.3, c.requires.within.5); rise = c.requires.rise; below = c.requires.below }
 
 pub marked_each-requires : goal.marked_each-requires
-marked_each-requires c = nodes_for_among c.requires.0 c.args.docs c.requires.2 c.args.dims.items c.requires.5 c.requires.4
+marked_each-requires c = nodes_for_among c.requires.within.0 c.args.docs c.requires.within.2 c.args.dims.items c.requires.within.5 c.requires.within.4
 
 pub near_misses-requires : goal.near_misses-requires
 near_misses-requires c =
@@ -40,7 +41,7 @@ returns-clause-near_words c =
 pub returns-clause-hits : goal.returns-clause-hits
 returns-clause-hits c = λ among test tests long base dims.
     let marked : AllZip (IsMarkedBy c.args.docs) c.args.dims.items c.deref_mut.result.now = subst (AllZip (IsMarkedBy c.args.docs) c.args.dims.items) (sym c.deref_mut.ensures.value) c.in_ok-near.ensures in
-    hits_are among test c.in_ok-hits.hits.places (c.in_ok-hits.ensures.places among test long base) tests c.deref_mut.result.now (sets_of among c.args.docs tests c.args.dims.items c.deref_mut.result.now dims marked)
+    hits_are among test c.in_ok-hits.hits.places c.args.dead.now (c.in_ok-hits.ensures.places among test long base) tests c.deref_mut.result.now (sets_of among c.args.docs tests c.args.dims.items c.deref_mut.result.now dims marked)
     c.near_misses.new.base.places c.near_misses.ensures.rising c.near_misses.ensures.hits
 
 pub returns-clause-near : goal.returns-clause-near
@@ -49,5 +50,5 @@ returns-clause-near c = λ among test tests long base dims.
     let own = sets_of among c.args.docs tests c.args.dims.items c.deref_mut.result.now dims marked in
     let size : length c.near_misses.new.dims ≡ length c.in_ok-near.near.items = AllZip-long _ c.deref_mut.result.now c.near_misses.new.dims c.near_misses.ensures.near ∙ ap length c.deref_mut.ensures.value in
     let items : (with_items c.in_ok-near.near c.near_misses.new.dims).items ≡ c.near_misses.new.dims = with_items_is c.in_ok-near.near c.near_misses.new.dims (omega (arith, size, c.in_ok-near.near.ok.0)) in
-    subst (AllZip (λ (t : Doc → Bool) (s : Marked). s.places ≡ places (λ doc. test doc && fails_alone tests t doc) among) tests) (sym items)
-    (nears_are among test c.in_ok-hits.hits.places (c.in_ok-hits.ensures.places among test long base) tests c.deref_mut.result.now own tests c.deref_mut.result.now c.near_misses.new.dims own c.near_misses.ensures.near)
+    subst (AllZip (λ (t : Doc → Bool) (s : Marked). s.places ≡ without (places (λ doc. test doc && fails_alone tests t doc) among) c.args.dead.now) tests) (sym items)
+    (nears_are among test c.in_ok-hits.hits.places c.args.dead.now (c.in_ok-hits.ensures.places among test long base) tests c.deref_mut.result.now own tests c.deref_mut.result.now c.near_misses.new.dims own c.near_misses.ensures.near)

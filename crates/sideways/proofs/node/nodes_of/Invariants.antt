@@ -7,4 +7,4 @@ use Rattle.sideways.specs.Counted.{AreAllOf, lifted_of, passes_each}
 use Rattle.sideways.proofs.node.nodes_of.Given as goal
 
 abbrev pub invariant-loop-at : goal.invariant-loop-at
-invariant-loop-at l = (docs : List Doc) → HasTermsOf l.segment docs → AreAllOf docs (λ doc. matches (query_view l.fn.query) doc && passes_each l.drill (lifted_of l.fn.lifted) (take l.at l.drill) doc) l.nodes.items
+invariant-loop-at l = (docs : List Doc) → HasTermsOf l.segment docs → AreAllOf docs (λ doc. matches (query_view l.fn.query) doc && passes_each l.paths (lifted_of l.fn.lifted) (take l.at l.paths) doc) l.nodes.items

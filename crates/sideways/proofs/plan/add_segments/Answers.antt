@@ -1,11 +1,11 @@
-use Rattle.std.proofs.Common.{◌∙◌, ◌&&◌, List, ℕ, None, take, sym, ap, subst, arith}
+use Rattle.std.proofs.Common.{◌∙◌, List, ℕ, None, take, sym, subst, arith}
 use Rattle.std.specs.Arc.{arc_value}
 use Rattle.std.specs.List.{AllZip}
 use Rattle.facet_model.specs.Documents.{Doc}
 use Rattle.facet_model.specs.Queries.{QueryTree}
 use Rattle.facet_model.specs.QueryViews.{query_view}
 use Rattle.query_eval.specs.Segments.{HasTermsOf}
-use Rattle.sideways.specs.Counted.{is_drilled, passes_all}
+use Rattle.sideways.specs.Counted.{passes_all}
 use Rattle.sideways.specs.Kept.{AreDistinct, HasNear, HasPart}
 use Rattle.sideways.specs.Searches.{records_of}
 use Rattle.sideways.proofs.Gathered.{mapped_at, nears_more, no_nears, no_parts, parts_more, same_any, same_dims_in}
@@ -28,7 +28,7 @@ add_segment-requires c =
     let dims = same_dims_in query drill segments c.args.lifted.now.items c.loop-segment.lifted.items c.loop-segment.invariant.lifted in
     record {
       has = (has.0, subst (λ s. HasTermsOf s has.0) (sym c.deref.ensures) has.1);
-      covers = (c.args.ask.now.sideways, λ d. same_any query drill segments d c.args.lifted.now.items c.loop-segment.lifted.items c.loop-segment.invariant.lifted ∙ c.requires.covers d ∙ ap (λ (p : List (List (List ℕ))). c.args.ask.now.sideways && is_drilled p d) (sym c.paths-drill.ensures.paths));
+      covers = (c.args.ask.now.sideways, λ d. same_any query drill segments d c.args.lifted.now.items c.loop-segment.lifted.items c.loop-segment.invariant.lifted ∙ c.requires.covers d);
       distinct = subst AreDistinct (sym dims) c.requires.distinct;
     }
 
@@ -38,11 +38,9 @@ loop-segment-preserved c =
     let drill : List (List (List ℕ)) = c.args.ask.now.drill in
     let i : ℕ = c.loop-segment.segment-index in
     let hits : HasPart (passes_all query drill None) (arc_value c.segment-item.result) c.loop-segment.hits c.add_segment.new.hits =
-    subst (λ (p : List (List (List ℕ))). HasPart (passes_all query p None) (arc_value c.segment-item.result) c.loop-segment.hits c.add_segment.new.hits) c.paths-drill.ensures.paths
-    (subst (λ s. HasPart (passes_all query c.paths-drill.result.now None) s c.loop-segment.hits c.add_segment.new.hits) c.deref.ensures c.in_ok-add_segment.ensures.hits) in
+    subst (λ s. HasPart (passes_all query drill None) s c.loop-segment.hits c.add_segment.new.hits) c.deref.ensures c.in_ok-add_segment.ensures.hits in
     let lifted : AllZip (HasNear query drill (arc_value c.segment-item.result)) c.loop-segment.lifted.items c.add_segment.new.lifted.items =
-    subst (λ (p : List (List (List ℕ))). AllZip (HasNear query p (arc_value c.segment-item.result)) c.loop-segment.lifted.items c.add_segment.new.lifted.items) c.paths-drill.ensures.paths
-    (subst (λ s. AllZip (HasNear query c.paths-drill.result.now s) c.loop-segment.lifted.items c.add_segment.new.lifted.items) c.deref.ensures c.in_ok-add_segment.ensures.lifted) in
+    subst (λ s. AllZip (HasNear query drill s) c.loop-segment.lifted.items c.add_segment.new.lifted.items) c.deref.ensures c.in_ok-add_segment.ensures.lifted in
     record {
       hits = parts_more (passes_all query drill None) arc_value c.args.segments.now i c.segment-item.result c.args.hits.now c.loop-segment.hits c.add_segment.new.hits (omega arith) c.segment-item.is c.loop-segment.invariant.hits hits;
       lifted = nears_more query drill arc_value c.args.segments.now i c.segment-item.result c.args.lifted.now.items c.loop-segment.lifted.items c.add_segment.new.lifted.items (omega arith) c.segment-item.is c.loop-segment.invariant.lifted lifted;

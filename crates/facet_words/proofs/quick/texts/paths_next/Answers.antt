@@ -22,5 +22,5 @@ loop-alloc-preserved c =
     )
 
 pub returns-clause-read : goal.returns-clause-read
-returns-clause-read c = c.loop-alloc.invariant.0 ∙ ap (λ (ts : List Token). Token.begin_array ∷ ts)
-    (ap (λ (ts : List Token). lists_tokens c.loop-alloc.paths.items ++ ts) (ended c.loop-alloc.reader c.take_end_array.new.self c.loop-alloc-test.ensures) ∙ lists_are_tokens c.loop-alloc.paths.items c.take_end_array.new.self)
+returns-clause-read c = rw c.shrink_to_fit.ensures.items (c.loop-alloc.invariant.0 ∙ ap (λ (ts : List Token). Token.begin_array ∷ ts)
+    (ap (λ (ts : List Token). lists_tokens c.loop-alloc.paths.items ++ ts) (ended c.loop-alloc.reader c.take_end_array.new.self c.loop-alloc-test.ensures) ∙ lists_are_tokens c.loop-alloc.paths.items c.take_end_array.new.self))

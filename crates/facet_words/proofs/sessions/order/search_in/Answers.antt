@@ -4,8 +4,8 @@ use Rattle.facet_words.specs.CommandViews.{search_view}
 use Rattle.facet_words.proofs.SearchLines.{searched}
 use Rattle.facet_words.proofs.sessions.order.search_in.Goals as goal
 
-pub returns-in-Some-found : goal.returns-in-Some-found
-returns-in-Some-found c = ap Some c.search_command.ensures
+pub returns-in_ok-search_command-in-Some-found : goal.returns-in_ok-search_command-in-Some-found
+returns-in_ok-search_command-in-Some-found c = ap Some c.in_ok-search_command-in-Some-found.ensures
     ∙ searched (view c.args.value.now) c.in-Some.on (Some (search_view c.in-Some-found.line)) (sym c.in-Some.is ∙ c.in_ok-on.ensures)
     (ap (option_map search_view) (sym c.in-Some-found.is) ∙ c.in_ok-found.ensures)
 

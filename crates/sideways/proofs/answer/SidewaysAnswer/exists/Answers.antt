@@ -4,7 +4,7 @@ use Rattle.std.specs.Arc.{arc_value}
 use Rattle.std.specs.List.{AllByRecursion}
 use Rattle.std.proofs.lemmas.List.{get_or-map, length-map, take_all}
 use Rattle.facet_model.specs.Documents.{Doc, count}
-use Rattle.facet_model.specs.Stored.{Records}
+use Rattle.facet_model.specs.Stored.{Records, alive}
 use Rattle.query_eval.specs.Segments.{HasTermsOf}
 use Rattle.sideways.specs.Questions.{HasDocs}
 use Rattle.sideways.specs.Searches.{Search, question, question_of, records_of}
@@ -20,12 +20,13 @@ returns-then-branch c =
     let item : Records = arc_value c.segment-item.result in
     let at : get_or (records_of segments) i item ≡ item = get_or-map arc_value segments i c.segment-item.result item (omega arith) ∙ ap arc_value (sym c.segment-item.is) in
     subst (λ (s : Search). (docs : List Doc) → HasDocs (question s) docs → true ≡ nat_lt 0 (count docs c.args.path.now)) c.self.view_is
-    (one_has q c.args.path.now i item (omega (arith, length-map segments arc_value)) (λ docs are. sym c.if-branch.true ∙ c.in_ok-has_path.ensures docs (subst (λ s. HasTermsOf s docs) (at ∙ sym c.deref.ensures) are)))
+    (one_has q c.args.path.now i item (omega (arith, length-map segments arc_value))
+    (subst (λ (s : Records). (docs : List Doc) → HasTermsOf s docs → true ≡ nat_lt 0 (count (alive s.dead docs) c.args.path.now)) (sym (at ∙ sym c.deref.ensures)) (λ docs are. sym c.if-branch.true ∙ c.in_ok-has_path.ensures docs c.args.path.now are c.path_term.ensures.some (c.as_str.ensures.value ∙ c.in_ok-term.ensures.term))))
 
 pub loop-segment-preserved : goal.loop-segment-preserved
 loop-segment-preserved c =
     all_more (HasNone c.args.path.now) arc_value c.self.inside.segments.now c.loop-segment.segment-index c.segment-item.result (omega arith) c.segment-item.is c.loop-segment.invariant
-    (λ docs are. sym c.if-branch.false ∙ c.in_ok-has_path.ensures docs (subst (λ s. HasTermsOf s docs) (sym c.deref.ensures) are))
+    (subst (HasNone c.args.path.now) c.deref.ensures (λ docs are. sym c.if-branch.false ∙ c.in_ok-has_path.ensures docs c.args.path.now are c.path_term.ensures.some (c.as_str.ensures.value ∙ c.in_ok-term.ensures.term)))
 
 pub returns : goal.returns
 returns c =

@@ -27,7 +27,7 @@ loop-part-preserved c =
     record {
       counted = counted_more c.loop-part.part-index c.loop-part.part-items _ c.args.self.parts.items c.args.self.counter c.loop-part.counter c.count_part-number.new.counter p c.count_part-number.new.part counted lt at refl more.grown;
       number = number_more c.loop-part.part-index c.loop-part.part-items c.args.self.parts.items c.args.self.counter c.loop-part.counter p c.loop-part.number _ counted lt at c.loop-part.invariant.number (ap (λ n. c.loop-part.number + n) more.number);
-      base = ap (λ n. c.loop-part.base + n) c.docs-docs.ensures ∙ base_more c.loop-part.part-index c.loop-part.part-items c.args.self.parts.items c.args.self.counter c.loop-part.counter p c.loop-part.base counted lt at c.loop-part.invariant.base;
+      base = ap (λ n. c.loop-part.base + n) c.live-live.ensures ∙ base_more c.loop-part.part-index c.loop-part.part-items c.args.self.parts.items c.args.self.counter c.loop-part.counter p c.loop-part.base counted lt at c.loop-part.invariant.base;
       capacity = omega (arith, more.capacity, c.loop-part.invariant.capacity);
       places = places_more c.loop-part.part-index c.loop-part.part-items c.args.self.parts.items c.args.self.counter c.loop-part.counter p c.loop-part.base c.args.limit c.loop-part.places.items c.count_part-number.new.hits.items counted lt at c.loop-part.invariant.base c.loop-part.invariant.places more.noted;
     }
@@ -46,7 +46,7 @@ overflow_add-base c =
     let p : PartLeft = get_or c.loop-part.part-items c.loop-part.part-index c.part-item.result in
     let at = part_here c.loop-part.part-index c.loop-part.part-items c.args.self.parts.items c.args.self.counter c.loop-part.counter c.part-item.result c.loop-part.invariant.counted lt in
     let few = base_room c.loop-part.part-index c.loop-part.part-items c.args.self.parts.items c.args.self.counter c.loop-part.counter p c.loop-part.base c.loop-part.invariant.counted c.requires.ready lt at c.loop-part.invariant.base in
-    omega (arith, few, c.docs-docs.ensures)
+    omega (arith, few, c.live-live.ensures)
 
 pub returns-clause-counted : goal.returns-clause-counted
 returns-clause-counted c =

@@ -1,0 +1,12 @@
+use Rattle.std.proofs.Common.{◌≡◌, ◌+◌, ◌∙◌, length, map, drop, sym, ap, arith}
+use Rattle.std.specs.Arc.{arc_value}
+use Rattle.facet_model.specs.Stored.{Records, live_before}
+use Rattle.seg_decoding.specs.Decoding.{records_in}
+use Rattle.index_state.proofs.Counting.{counted}
+use Rattle.index_state.proofs.flushing.count.Goals as goal
+
+pub loop-segment-preserved : goal.loop-segment-preserved
+loop-segment-preserved c =
+    let here = arc_value c.segment-item.result in
+    let live : c.live.result ≡ live_before here.dead (length here.records) = c.live.ensures ∙ ap (λ (s : Records). live_before s.dead (length s.records)) c.deref.ensures in
+    omega (arith, live, c.loop-segment.invariant, counted arc_value c.args.segments.now c.loop-segment.segment-index c.segment-item.result c.loop-segment-test.true (sym c.segment-item.is))

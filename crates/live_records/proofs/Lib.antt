@@ -1,0 +1,3 @@
+pub mod Alive
+mod Ranks
+mod Added

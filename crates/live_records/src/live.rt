@@ -1,0 +1,126 @@
+ghost use Rattle.std.specs.Prelude.{◌≡◌, ◌<◌, ◌*◌, ◌||◌, not, [], ℕ, false, IfOk};
+ghost use Rattle.std.specs.List.{AllByRecursion};
+ghost use Rattle.facet_codec.specs.Laws.{IsBelow};
+ghost use Rattle.seg_postings.specs.Rising.{IsRising, is_in};
+ghost use Rattle.facet_model.specs.Stored.{is_dead, live_before};
+
+use crate::search::{first_from, past_rank};
+use facet_names::NoMemory;
+use place_bits::Bits;
+use seg_postings::Places;
+use std::alloc::Global;
+use std::marker::Model;
+
+/// Which of the records of a segment are live: all but those at some places, 4 bytes each.
+#[derive(Drop)]
+pub struct LiveRecords {
+    docs: u32,
+    dead: Vec<u32>,
+}
+
+impl Model for LiveRecords {
+    ghost use Rattle.std.specs.Prelude.{◌<◌};
+    ghost use Rattle.std.specs.List.{AllByRecursion};
+    ghost use Rattle.facet_codec.specs.Laws.{IsBelow};
+    ghost use Rattle.seg_postings.specs.Rising.{IsRising};
+    ghost use Rattle.live_records.specs.Live.{Live};
+
+    ghost Value = { Live };
+
+    ghost view = { λ l. record { docs = l.docs; dead = l.dead.items } };
+
+    ghost invariant = { λ l. IsRising l.dead.items × AllByRecursion (IsBelow l.docs) l.dead.items × (l.docs < 4294967296) };
+}
+
+impl LiveRecords {
+    /// All of so many records. It takes no memory.
+    pub fn all(alloc: Global, docs: u32) -> LiveRecords
+        ensures { result ≡ record { docs = docs; dead = [] } }
+    {
+        LiveRecords {
+            docs,
+            dead: Vec::new(alloc),
+        }
+    }
+
+    /// How many records are live.
+    pub fn number(&self) -> u32
+        ensures { result ≡ live_before self.now.dead self.now.docs }
+    {
+        self.docs - self.dead.len() as u32
+    }
+
+    /// Whether the record at the place is live. It bisects.
+    pub fn is_live(&self, place: u32) -> bool
+        ensures { result ≡ not (is_dead self.now.dead place) }
+    {
+        let at = first_from(&self.dead, place);
+        at == self.dead.len() || self.dead[at] != place
+    }
+
+    /// How many live records stand before the place. It bisects.
+    pub fn rank(&self, place: u32) -> u32
+        ensures { result ≡ live_before self.now.dead place }
+    {
+        place - first_from(&self.dead, place) as u32
+    }
+
+    /// The place of the live record before which so many live ones stand. It bisects.
+    pub fn place_of(&self, rank: u32) -> u32
+        requires { rank < live_before self.now.dead self.now.docs }
+        ensures within { result < self.now.docs }
+        ensures live { is_dead self.now.dead result ≡ false }
+        ensures rank { live_before self.now.dead result ≡ rank }
+    {
+        rank + past_rank(&self.dead, rank) as u32
+    }
+
+    /// The places of the records that are not live.
+    pub fn dead(&self) -> &[u32]
+        ensures dead { result.now ≡ self.now.dead }
+        ensures rise { IsRising self.now.dead }
+        ensures within { AllByRecursion (IsBelow self.now.docs) self.now.dead }
+    {
+        &self.dead
+    }
+
+    /// The records that are live but for those at these places. In between it takes an eighth of a byte a record.
+    pub fn without(&self, alloc: Global, places: &[u32]) -> Result<LiveRecords, NoMemory>
+        requires { AllByRecursion (IsBelow self.now.docs) places.now }
+        ensures docs { IfOk result (λ r. r.docs ≡ self.now.docs) }
+        ensures dead { IfOk result (λ r. (n : ℕ) → is_dead r.dead n ≡ (is_dead self.now.dead n || is_dead places.now n)) }
+    {
+        let mut set = Bits::none(alloc, self.docs)?;
+        add_each(&mut set, &self.dead);
+        add_each(&mut set, places);
+        let dead = listed(alloc, set)?;
+        Ok(LiveRecords {
+            docs: self.docs,
+            dead,
+        })
+    }
+}
+
+// Adds each of the places.
+fn add_each(set: &mut Bits, places: &[u32])
+    requires { AllByRecursion (IsBelow (64 * set.old.words)) places.now }
+    ensures words { set.new.words ≡ set.old.words }
+    ensures added { (n : ℕ) → is_in n set.new.places ≡ (is_in n set.old.places || is_in n places.now) }
+{
+    for k in 0..places.len() {
+        set.add(places[k]);
+    }
+}
+
+// The places of the set.
+fn listed(alloc: Global, set: Bits) -> Result<Vec<u32>, NoMemory>
+    ensures all { IfOk result (λ v. v.items ≡ set.places) }
+    ensures rise { IsRising set.places }
+{
+    let mut left = set.into_places();
+    let mut places = Vec::new(alloc);
+    while let Some(place) = left.next() {
+        places.push(place)?;
+    }
+    Ok(places)
+}
