@@ -28,11 +28,15 @@ fn read_phases(alloc: Global, bytes: &[u8]) -> Result<Vec<Vec<Order>>, ScriptFau
         let (first, after) = cut_line(rest);
         match read_line(alloc, &mut scratch, line, first)? {
             Some(order) => orders.push(order)?,
-            None => phases.push(mem::replace(&mut orders, Vec::new(alloc)))?,
+            None => {
+                orders.shrink_to_fit();
+                phases.push(mem::replace(&mut orders, Vec::new(alloc)))?;
+            }
         }
         line += 1;
         rest = after;
     }
+    orders.shrink_to_fit();
     phases.push(orders)?;
     Ok(phases)
 }

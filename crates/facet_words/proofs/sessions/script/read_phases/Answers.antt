@@ -29,7 +29,9 @@ loop-rest-preserved c =
           let pushed : map (λ orders. map order_view orders.items) c.match-branch-2.phases.items ≡ done ++ begun ∷ [] =
           ap (λ v. map (λ orders. map order_view orders.items) v.items) w.phases-is
           ∙ (ap (map (λ orders. map order_view orders.items)) w.in_ok-push-in-None.ensures.items
-          ∙ (map_push (λ orders. map order_view orders.items) c.loop-rest.phases.items w.replace.result ∙ ap (λ orders. done ++ map order_view orders.items ∷ []) w.replace.ensures.value)) in
+          ∙ (map_push (λ orders. map order_view orders.items) c.loop-rest.phases.items w.replace.result
+          ∙ (ap (λ orders. done ++ map order_view orders.items ∷ []) w.replace.ensures.value
+          ∙ ap (λ items. done ++ map order_view items ∷ []) w.shrink_to_fit.ensures.items))) in
           let none : c.match-branch-2.orders.items ≡ [] = search rules in
           record { read = rw (pushed, none) (phase_more done begun line first after all is before); early = omega arith }
     ]
