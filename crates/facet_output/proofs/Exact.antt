@@ -83,7 +83,7 @@ placed_shows session (document on at) reply p e = absurd cc
 placed_shows session (stats on) reply p e = absurd cc
 placed_shows session commit reply p e = absurd cc
 
-refreshed_stood : (command : Command) (reply : Reply) (n : ℕ) → refreshed_by command reply ≡ Some n → stood_by command reply ≡ Some n
+pub refreshed_stood : (command : Command) (reply : Reply) (n : ℕ) → refreshed_by command reply ≡ Some n → stood_by command reply ≡ Some n
 refreshed_stood refresh (numbered k) n e = e
 refreshed_stood refresh (placed at) n e = absurd cc
 refreshed_stood refresh (found f) n e = absurd cc
@@ -119,7 +119,7 @@ later_right R [] ys l = l
 later_right R (z ∷ xs) ys l = later_right R xs ys l.1
 
 -- a number that a test of an option wants, where there is one
-wanted : {X : Type 0} (p : X → Bool) (o : Option X) (x : X) → option_map_or p o true ≡ true → o ≡ Some x → p x ≡ true
+pub wanted : {X : Type 0} (p : X → Bool) (o : Option X) (x : X) → option_map_or p o true ≡ true → o ≡ Some x → p x ≡ true
 wanted p None x h e = absurd cc
 wanted p (Some y) x h e = let same : y ≡ x = ap (λ q. unwrap_or q y) e in subst (λ z. p z ≡ true) same h
 
@@ -127,7 +127,7 @@ implied_so : (b c : Bool) → (not b || c) ≡ true → b ≡ true → c ≡ tru
 implied_so true c h e = h
 implied_so false c h e = absurd cc
 
-of_number : (n : ℕ) (o : Option ℕ) → is_number n o ≡ true → o ≡ Some n
+pub of_number : (n : ℕ) (o : Option ℕ) → is_number n o ≡ true → o ≡ Some n
 of_number n None h = absurd cc
 of_number n (Some k) h = ap Some (eqb-true k n h)
 

@@ -1,6 +1,6 @@
 -- Each pair that was taken or published has its place, behind those that were known.
 use Rattle.std.proofs.Common.{◌≡◌, ℕ, ◌+◌, ◌≤◌, Bool, true, false, List, [], ◌∷◌, length, Option, Some, None, slice_get, refl, sym, ap, ◌∙◌, subst, arith, length-append}
-use Rattle.std.specs.Prelude.{◌==◌, ◌&&◌, ◌||◌, not, nat_le, nat_lt, is_none, if◌then◌else◌, unwrap_or, IsTrue, take}
+use Rattle.std.specs.Prelude.{◌==◌, ◌&&◌, ◌||◌, not, nat_le, nat_lt, is_none, if◌then◌else◌, unwrap_or, IsTrue}
 use Rattle.std.specs.List.{list_all}
 use Rattle.std.specs.Option.{option_map_or}
 use Rattle.std.proofs.lemmas.Bool.{and_from, le-leb, lt-ltb, eq-eqb}
@@ -12,13 +12,11 @@ use Rattle.facet_output.specs.Output.{Opened, is_pair_of, is_no_further, has_sho
 use Rattle.facet_output.specs.Seen.{Seen, labels_of}
 use Rattle.facet_output.specs.Sessions.{AllRan, steps_of}
 use Rattle.facet_output.specs.Steps.{Step, EntersPair, IsPlace}
-use Rattle.facet_output.specs.Telling.{labels_among, refreshed, sees_no_pair}
+use Rattle.facet_output.specs.Telling.{refreshed, sees_no_pair}
 use Rattle.facet_output.proofs.Among.{In}
 use Rattle.facet_output.proofs.Answers.{answers, all_steps, all_some}
-use Rattle.facet_output.proofs.Bringing.{labels_begin}
 use Rattle.facet_output.proofs.Entering.{shown_among}
 use Rattle.facet_output.proofs.Fresh.{implied}
-use Rattle.facet_output.proofs.HeldPairs.{labels_size}
 use Rattle.facet_output.proofs.Fronts.{prefix_length, get_there}
 use Rattle.facet_output.proofs.Known.{facts, after_sees}
 use Rattle.facet_output.proofs.Pairing.{took_at, refreshed_at}

@@ -83,7 +83,7 @@ owned_more n x old between new p = ap (owned n 0) p.1 ∙ owned_behind n between
     last : owned n (length between) ((n, x) ∷ []) ≡ (length between, record { session = n; doc = x }) ∷ []
     last = let e : eqb n n ≡ true = eq-eqb n n refl in rw e refl
 
-placed_session : (session : ℕ) (command : Command) (reply : Reply) (p : ℕ × Operation) → placed_by session command reply ≡ Some p → p.1.session ≡ session
+pub placed_session : (session : ℕ) (command : Command) (reply : Reply) (p : ℕ × Operation) → placed_by session command reply ≡ Some p → p.1.session ≡ session
 placed_session session (add doc) (placed at) p e = let f : (at, record { session = session; doc = doc }) ≡ p = cc in sym (ap (λ (q : ℕ × Operation). q.1.session) f)
 placed_session session (add doc) (numbered n) p e = absurd cc
 placed_session session (add doc) (found f) p e = absurd cc

@@ -12,10 +12,11 @@ use Rattle.facet_output.specs.Answered.{Answered, comes_after, is_of, of_session
 use Rattle.facet_output.specs.Held.{Held, held_after}
 use Rattle.facet_output.specs.Output.{IsOutput, Opened, Published, is_fresh}
 use Rattle.facet_output.specs.Replying.{IsAdded, IsResolved, IsRight, RightReplies, RightReply}
-use Rattle.facet_output.specs.Telling.{placed_by, placed_operation, shows, stood}
-use Rattle.facet_replies.specs.Replies.{Reply, docs_full, found, no_memory, numbered, placed, refused, shown, stats as numbers}
+use Rattle.facet_output.specs.Telling.{placed_operation, shows, stood}
+use Rattle.facet_output.proofs.Placing.{placed_session}
+use Rattle.facet_replies.specs.Replies.{Reply, docs_full, no_memory, placed, refused}
 use Rattle.facet_words.specs.Commands.{Settings}
-use Rattle.facet_words.specs.Sessions.Commands.{Command, Order, add, commit, document, hold, refresh, release, search, stats}
+use Rattle.facet_words.specs.Sessions.Commands.{Command, Order, add}
 use Rattle.facet_shell.proofs.Lone.{in_filtered, is_placed}
 
 -- ---- lists
@@ -99,22 +100,6 @@ of_one k session (a ∷ later) each = by (eqb a.order.session session) refl (of_
         → filter (is_place k) (filter_map placed_operation (a ∷ later)) ≡ filter (is_place k) (filter_map placed_operation (cond b (a ∷ of_session session later) (of_session session later)))
     by true e rest = mine (placed_operation a) rest
     by false e rest = other (placed_operation a) refl e rest
-
--- its operation is of its session
-placed_session : (session : ℕ) (command : Command) (reply : Reply) (p : ℕ × Operation) → placed_by session command reply ≡ Some p → p.1.session ≡ session
-placed_session session (add doc) (placed at) p e = sym (ap (λ (o : Option (ℕ × Operation)). (unwrap_or o p).1.session) e)
-placed_session session (add doc) (numbered n) p e = absurd cc
-placed_session session (add doc) (found f) p e = absurd cc
-placed_session session (add doc) (shown s) p e = absurd cc
-placed_session session (add doc) (numbers s) p e = absurd cc
-placed_session session (add doc) (refused r) p e = absurd cc
-placed_session session refresh reply p e = absurd cc
-placed_session session (hold name) reply p e = absurd cc
-placed_session session (release name) reply p e = absurd cc
-placed_session session (search on s) reply p e = absurd cc
-placed_session session (document on at) reply p e = absurd cc
-placed_session session (stats on) reply p e = absurd cc
-placed_session session commit reply p e = absurd cc
 
 -- ---- a right output
 

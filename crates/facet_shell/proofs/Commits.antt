@@ -1,6 +1,6 @@
 -- What becomes of commits, in a right output.
-use Rattle.std.proofs.Common.{◌≡◌, ◌∙◌, ℕ, eqb, Bool, true, List, Option, Some, None, refl, ap, subst}
-use Rattle.std.specs.Prelude.{◌&&◌, is_none, unwrap_or}
+use Rattle.std.proofs.Common.{◌≡◌, ◌∙◌, ℕ, eqb, Bool, true, List, Option, Some, None, refl, ap}
+use Rattle.std.specs.Prelude.{◌&&◌, is_none}
 use Rattle.std.specs.Option.{option_map_or}
 use Rattle.std.proofs.lemmas.Bool.{and_parts, eqb-true}
 use Rattle.facet_output.proofs.Among.{In, of_all, of_any}
@@ -9,19 +9,11 @@ use Rattle.facet_output.specs.Commits.{HasPoints, has_failed_at, is_durable_at}
 use Rattle.facet_output.specs.Output.{IsOutput, Opened, Published, has_failure, has_shown}
 use Rattle.facet_output.specs.Seen.{CommitPoint, Seen, failures, labels_of}
 use Rattle.facet_output.specs.Telling.{closed_at, durable, failed, is_number}
+use Rattle.facet_output.proofs.Exact.{wanted, of_number}
 use Rattle.facet_words.specs.Commands.{Settings}
 use Rattle.facet_words.specs.Sessions.Commands.{Order}
 use Rattle.facet_model.specs.Histories.{Operation}
 use Rattle.facet_shell.proofs.Lone.{of_filter_map}
-
--- a number that a test of an option wants, where there is one
-wanted : {X : Type 0} (p : X → Bool) (o : Option X) (x : X) → option_map_or p o true ≡ true → o ≡ Some x → p x ≡ true
-wanted p None x h e = absurd cc
-wanted p (Some y) x h e = let same : y ≡ x = ap (λ q. unwrap_or q y) e in subst (λ z. p z ≡ true) same h
-
-of_number : (n : ℕ) (o : Option ℕ) → is_number n o ≡ true → o ≡ Some n
-of_number n None h = absurd cc
-of_number n (Some k) h = ap Some (eqb-true k n h)
 
 of_none : {X : Type 0} (o : Option X) → is_none o ≡ true → o ≡ None
 of_none None h = refl

@@ -12,7 +12,7 @@ use Rattle.facet_model.specs.Accepts.{Broken, first_broken}
 use Rattle.facet_model.specs.Documents.{Doc}
 use Rattle.facet_model.specs.Histories.{Operation, docs, is_pair, knows}
 use Rattle.facet_output.proofs.Among.{In, all_in, in_left, in_right, of_all, of_filter}
-use Rattle.facet_output.proofs.Exact.{filter_all}
+use Rattle.facet_output.proofs.Exact.{filter_all, refreshed_stood}
 use Rattle.facet_output.proofs.Fronts.{prefix_length, prefix_self, prefix_shorter, prefix_trans}
 use Rattle.facet_output.proofs.Growing.{all_stand, prefix_snoc}
 use Rattle.facet_output.proofs.Lifting.{still_knows}
@@ -179,22 +179,6 @@ placed_stood session (search on s) reply p e = absurd cc
 placed_stood session (document on at) reply p e = absurd cc
 placed_stood session (stats on) reply p e = absurd cc
 placed_stood session commit reply p e = absurd cc
-
--- a refresh stood at its number
-refreshed_stood : (command : Command) (reply : Reply) (n : ℕ) → refreshed_by command reply ≡ Some n → stood_by command reply ≡ Some n
-refreshed_stood refresh (numbered k) n e = e
-refreshed_stood refresh (placed at) n e = absurd cc
-refreshed_stood refresh (found f) n e = absurd cc
-refreshed_stood refresh (shown s) n e = absurd cc
-refreshed_stood refresh (numbers s) n e = absurd cc
-refreshed_stood refresh (refused r) n e = absurd cc
-refreshed_stood (add doc) reply n e = absurd cc
-refreshed_stood (hold name) reply n e = absurd cc
-refreshed_stood (release name) reply n e = absurd cc
-refreshed_stood (search on s) reply n e = absurd cc
-refreshed_stood (document on at) reply n e = absurd cc
-refreshed_stood (stats on) reply n e = absurd cc
-refreshed_stood commit reply n e = absurd cc
 
 length_placed : (o : Option (ℕ × Operation)) (operations : List Operation) → length (with_placed o operations) ≡ after_placing (length operations) o
 length_placed None operations = refl

@@ -9,11 +9,12 @@ use Rattle.facet_model.specs.Documents.{Doc}
 use Rattle.facet_model.specs.Flags.{Config}
 use Rattle.facet_model.specs.Stored.{Stored, Records, AreLabelsAt, IsRecordOf, IsSegmentOf, Decodes, alive, live_docs}
 use Rattle.facet_config.proofs.Staying.{counted_stay, known_stay}
+use Rattle.live_records.proofs.Alive.{map_alive, alive_none}
 use Rattle.seg_terms.specs.Entries.{stored_of, segment_of}
 use Rattle.seg_terms.specs.declared.entry.Entry.{Entry}
 use Rattle.seg_decoding.specs.Decoding.{doc_in, records_in, docs_in, flushed}
 use Rattle.seg_decoding.specs.Entries.{AreEntries, docs_of}
-use Rattle.seg_decoding.proofs.Live.{map_alive, alive_none, records_first}
+use Rattle.seg_decoding.proofs.Live.{records_first}
 use Rattle.seg_decoding.proofs.Ordinals.{all_stay, all_zip_push}
 
 -- ---- lists side by side
@@ -86,7 +87,7 @@ pieces_are known config [] (p ∷ ps) all = absurd all
 pieces_are known config (s ∷ ss) [] all = absurd all
 pieces_are known config (s ∷ ss) (p ∷ ps) all =
     let one : map (doc_in known) s.records ≡ p = all_zip_is (IsRecordOf known config) (doc_in known) (record_is known config) s.records p all.0.records in
-    let first : map (doc_in known) (alive s.dead s.records) ≡ alive s.dead p = map_alive (doc_in known) s.dead s.records ∙ ap (λ (docs : List Doc). alive s.dead docs) one in
+    let first : map (doc_in known) (alive s.dead s.records) ≡ alive s.dead p = map_alive s.dead (doc_in known) s.records ∙ ap (λ (docs : List Doc). alive s.dead docs) one in
     ap (map (doc_in known)) (records_first s ss) ∙ map-append (doc_in known) (alive s.dead s.records) (records_in ss) ∙ (λ i. first i ++ pieces_are known config ss ps all.1 i)
 
 -- the documents are determined
@@ -119,7 +120,7 @@ flushed_decodes config known segments docs [] d are = subst (Decodes known confi
 flushed_decodes config known segments docs (e ∷ es) d are =
     let s = segment_of (e ∷ es) in
     let more = decodes_push known config segments docs s (docs_of (e ∷ es)) d (record { records = entries_zip config known (e ∷ es) are; terms = refl }) in
-    subst (λ (piece : List Doc). Decodes known config (segments ++ s ∷ []) (docs ++ piece)) (alive_none [] (docs_of (e ∷ es)) refl) more
+    subst (λ (piece : List Doc). Decodes known config (segments ++ s ∷ []) (docs ++ piece)) (alive_none (docs_of (e ∷ es))) more
 
 -- a label behind the root stands one place before its ordinal among the others
 pub label_behind : (labels paths : Labels) (ord : ℕ) (path : List (List ℕ)) → labels ≡ [] ∷ paths → 0 < ord → path ≡ get_or paths (ord - 1) [] → ord - 1 < length paths → slice_get labels ord ≡ Some path

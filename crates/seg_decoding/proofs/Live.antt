@@ -1,35 +1,19 @@
 -- Records that are live, of segments.
-use Rattle.std.proofs.Common.{◌≡◌, ℕ, ◌+◌, Bool, true, false, cond, List, [], ◌∷◌, ◌++◌, map, refl, sym, ap, subst, ◌∙◌}
+use Rattle.std.proofs.Common.{◌≡◌, ℕ, ◌+◌, Bool, true, false, cond, List, [], ◌∷◌, ◌++◌, refl, sym, ap, subst, ◌∙◌}
 use Rattle.std.specs.Prelude.{flat_map}
 use Rattle.std.specs.List.{AllZip, AllByRecursion}
 use Rattle.std.proofs.lemmas.List.Concat.{flat_map-cons}
 use Rattle.facet_model.specs.Documents.{Doc}
 use Rattle.facet_model.specs.Stored.{Stored, Records, is_dead, alive_from, alive, live_docs}
+use Rattle.live_records.proofs.Alive.{alive_none}
 use Rattle.seg_grammar.specs.Spelling.{IsSegment, all_live}
 use Rattle.seg_decoding.specs.Decoding.{records_in}
 
 -- ---- of one list
 
-none_from : {A : Type 0} (k : ℕ) (xs : List A) → alive_from [] k xs ≡ xs
-none_from k [] = refl
-none_from k (x ∷ xs) = λ i. x ∷ none_from (k + 1) xs i
-
 -- where none is dead, all are live
-pub alive_none : {A : Type 0} (dead : List ℕ) (xs : List A) → dead ≡ [] → alive dead xs ≡ xs
-alive_none dead xs live = ap (λ (d : List ℕ). alive d xs) live ∙ none_from 0 xs
-
-map_from : {A B : Type 0} (f : A → B) (dead : List ℕ) (k : ℕ) (xs : List A) → map f (alive_from dead k xs) ≡ alive_from dead k (map f xs)
-map_from f dead k [] = refl
-map_from f dead k (x ∷ xs) = by (is_dead dead k) (map_from f dead (k + 1) xs)
-  where
-    by : (b : Bool) → map f (alive_from dead (k + 1) xs) ≡ alive_from dead (k + 1) (map f xs)
-        → map f (cond b (alive_from dead (k + 1) xs) (x ∷ alive_from dead (k + 1) xs)) ≡ cond b (alive_from dead (k + 1) (map f xs)) (f x ∷ alive_from dead (k + 1) (map f xs))
-    by true rest = rest
-    by false rest = λ i. f x ∷ rest i
-
--- the live ones of what is made of each
-pub map_alive : {A B : Type 0} (f : A → B) (dead : List ℕ) (xs : List A) → map f (alive dead xs) ≡ alive dead (map f xs)
-map_alive f dead xs = map_from f dead 0 xs
+pub alive_where_none : {A : Type 0} (dead : List ℕ) (xs : List A) → dead ≡ [] → alive dead xs ≡ xs
+alive_where_none dead xs live = ap (λ (d : List ℕ). alive d xs) live ∙ alive_none xs
 
 each_from : {A : Type 0} (P : A → Type 0) (dead : List ℕ) (k : ℕ) (xs : List A) → AllByRecursion P xs → AllByRecursion P (alive_from dead k xs)
 each_from P dead k [] all = tt
@@ -62,7 +46,7 @@ records_first s ss = flat_map-cons (λ (x : Records). alive x.dead x.records) s 
 
 -- all records of one segment, and the live ones of those behind it
 pub records_first_live : (s : Records) (ss : List Records) → s.dead ≡ [] → records_in (s ∷ ss) ≡ s.records ++ records_in ss
-records_first_live s ss live = records_first s ss ∙ ap (λ (rs : List Stored). rs ++ records_in ss) (alive_none s.dead s.records live)
+records_first_live s ss live = records_first s ss ∙ ap (λ (rs : List Stored). rs ++ records_in ss) (alive_where_none s.dead s.records live)
 
 -- where all records are live, these are all of them
 pub records_live : (segments : List Records) → AreLive segments → records_in segments ≡ flat_map (λ s. s.records) segments
@@ -74,4 +58,4 @@ pub docs_live : (R : Records → List Doc → Type 0) (segments : List Records) 
 docs_live R [] [] all live = refl
 docs_live R [] (p ∷ ps) all live = absurd all
 docs_live R (s ∷ ss) [] all live = absurd all
-docs_live R (s ∷ ss) (p ∷ ps) all live = (λ i. alive_none s.dead p live.0 i ++ docs_live R ss ps all.1 live.1 i) ∙ sym (flat_map-cons (λ (x : List Doc). x) p ps)
+docs_live R (s ∷ ss) (p ∷ ps) all live = (λ i. alive_where_none s.dead p live.0 i ++ docs_live R ss ps all.1 live.1 i) ∙ sym (flat_map-cons (λ (x : List Doc). x) p ps)

@@ -1,5 +1,5 @@
 //! A walk over the places of a segment's terms, document by document.
-ghost use Rattle.std.specs.Prelude.{◌≡◌, ◌<◌, ℕ, List, [], ◌∷◌, length, position, slice_index_or, All, OnOk, IfOk};
+ghost use Rattle.std.specs.Prelude.{◌≡◌, ◌<◌, ℕ, List, [], ◌∷◌, length, slice_index_or, All, OnOk, IfOk};
 ghost use Rattle.std.specs.List.{slice_split};
 ghost use Rattle.std.specs.Str.{IsUtf8, str_to_ascii_lowercase};
 ghost use Rattle.facet_model.specs.Words.{is_blank};
@@ -11,6 +11,7 @@ ghost use Rattle.seg_decoding.specs.Pairs.{Passes};
 use crate::hints::TermHints;
 use crate::unlike::Unlike;
 use seg_file::Segment;
+use seg_terms::word_end;
 use std::alloc::Global;
 
 /// How many places of each term were passed, where words were found, and a buffer for the text of a term.
@@ -19,20 +20,6 @@ pub struct Walk {
     pub next: Vec<usize>,
     pub hints: TermHints,
     pub term: String,
-}
-
-// A space, a tab, a carriage return or a line feed.
-fn is_blank(byte: u8) -> bool
-    ensures { result ≡ is_blank byte }
-{
-    matches!(byte, b' ' | b'\t' | b'\r' | b'\n')
-}
-
-// Where the first blank stands.
-fn word_end(text: &[u8]) -> Option<usize>
-    ensures { result ≡ position is_blank text.now }
-{
-    text.iter().position(|byte| is_blank(*byte))
 }
 
 // Passes the document's place under the term at an index, where it is the next one, or was passed last.

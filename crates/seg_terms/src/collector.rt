@@ -30,8 +30,10 @@ fn is_blank(byte: u8) -> bool
     matches!(byte, b' ' | b'\t' | b'\r' | b'\n')
 }
 
-// Where the first blank stands.
-fn word_end(text: &[u8]) -> Option<usize>
+/// Where the first blank of a text stands: the end of its first word, which has no byte where the text begins with a blank.
+///
+/// Blanks are the space, the tab, the carriage return and the line feed.
+pub fn word_end(text: &[u8]) -> Option<usize>
     ensures { result ≡ position is_blank text.now }
 {
     text.iter().position(|byte| is_blank(*byte))

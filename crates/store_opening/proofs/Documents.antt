@@ -8,7 +8,8 @@ use Rattle.facet_model.specs.Stored.{Records, IsSegmentOf, Decodes, alive, live_
 use Rattle.commit_file.specs.declared.index.DocumentPart.{DocumentPart}
 use Rattle.commit_file.specs.Commits.{documents_of}
 use Rattle.seg_decoding.specs.Decoding.{doc_in, docs_in, records_in}
-use Rattle.seg_decoding.proofs.Live.{map_alive, records_first, records_first_live}
+use Rattle.live_records.proofs.Alive.{map_alive}
+use Rattle.seg_decoding.proofs.Live.{records_first, records_first_live}
 use Rattle.store_opening.specs.Newest.{IsNamedAs}
 
 module _ (config : Config) (labels : List (List (List ℕ))) where
@@ -20,7 +21,7 @@ module _ (config : Config) (labels : List (List (List ℕ))) where
 
   joined : (segments : List Records) → docs_in labels segments ≡ live_docs segments (map (λ s. map (doc_in labels) s.records) segments)
   joined [] = refl
-  joined (s ∷ ss) = ap (map (doc_in labels)) (records_first s ss) ∙ map-append (doc_in labels) (alive s.dead s.records) (records_in ss) ∙ (λ i. map_alive (doc_in labels) s.dead s.records i ++ joined ss i)
+  joined (s ∷ ss) = ap (map (doc_in labels)) (records_first s ss) ∙ map-append (doc_in labels) (alive s.dead s.records) (records_in ss) ∙ (λ i. map_alive s.dead (doc_in labels) s.records i ++ joined ss i)
 
   pub decodes_from : (parts : List DocumentPart) (segments : List Records) → AllZip (IsNamedAs config labels) parts segments → Decodes labels config segments (docs_in labels segments)
   decodes_from parts segments all = (map (λ s. map (doc_in labels) s.records) segments, each parts segments all, joined segments)

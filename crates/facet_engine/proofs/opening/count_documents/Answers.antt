@@ -1,7 +1,6 @@
-use Rattle.std.proofs.Common.{◌≡◌, ◌+◌, ◌∙◌, length, map, drop, sym, ap, arith}
+use Rattle.std.proofs.Common.{◌≡◌, ◌+◌, ◌∙◌, length, sym, ap, arith}
 use Rattle.std.specs.Arc.{arc_value}
 use Rattle.facet_model.specs.Stored.{Records, live_before}
-use Rattle.seg_decoding.specs.Decoding.{records_in}
 use Rattle.index_state.proofs.Counting.{counted}
 use Rattle.facet_engine.proofs.opening.count_documents.Goals as goal
 
