@@ -1,4 +1,7 @@
-ghost use Rattle.std.specs.Prelude.{◌≡◌};
+ghost use Rattle.std.specs.Prelude.{◌≡◌, IfErr, ℕ};
+ghost use Rattle.facet_disk.specs.Calls.{Rose};
+ghost use Rattle.commit_store.specs.declared.fault.CommitFault.TheVariants.{Disk as OfDisk};
+ghost use Rattle.commit_turns.specs.Frames.{HasNumbers};
 ghost use Rattle.facet_engine.specs.Systems.{BelongsTo};
 ghost use Rattle.facet_engine.specs.Calls.{IsCall, SameSession, SpendsWithin};
 ghost use Rattle.facet_engine.specs.Replies.{commit_reply};
@@ -23,6 +26,10 @@ impl<D: Disk, N: Name + Start> System<D, N> {
         ensures held { session.new.held ≡ session.old.held }
         ensures step { IsCall self.now session.old (committed session.old.pass session.new.pass result) }
         ensures spent { SpendsWithin session.old.pass session.new.pass (commit_reply result) }
+
+        // A count of faults that is told is above the one at which the store's opening began.
+        ensures disk { IfErr result (λ e. (count : ℕ) → e ≡ OfDisk count
+            → (next moment faults failures : ℕ) → HasNumbers next moment faults failures session.old.pass.commits.frame → Rose faults count) }
     {
         commit(rt, &self.commits, &self.manager, &mut session.pass)
     }

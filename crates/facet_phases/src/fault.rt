@@ -3,6 +3,6 @@
 pub enum PhaseFault {
     /// What was kept of a phase could not be handed over: of lines, only a beginning was written.
     Write,
-    /// There was no memory for the orders of a phase, or to keep their replies. Nothing of that phase was handed over.
+    /// There was no memory for the sessions, for the orders of a phase, or to keep their replies. Nothing of that phase was handed over.
     NoMemory,
 }

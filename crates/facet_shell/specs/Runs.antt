@@ -57,6 +57,10 @@ pub record ReadsWhole {S : Type 0} (source : SourceGhosts S) (from to : S) (inpu
 abbrev pub ReadsSome : {S : Type 0} → SourceGhosts S → S → S → Type 0
 ReadsSome source from to = (input : List ℕ) × (length input ≤ script_limit + 1) × Consumes (source.left from) (source.left to) input
 
+-- some bytes were read, at most as many as a script has
+abbrev pub ReadsWithin : {S : Type 0} → SourceGhosts S → S → S → Type 0
+ReadsWithin source from to = (input : List ℕ) × (length input ≤ script_limit) × Consumes (source.left from) (source.left to) input
+
 -- one byte more than a script has was read
 abbrev pub ReadsTooMuch : {S : Type 0} → SourceGhosts S → S → S → Type 0
 ReadsTooMuch source from to = (input : List ℕ) × (length input ≡ script_limit + 1) × Consumes (source.left from) (source.left to) input

@@ -3,7 +3,7 @@ ghost use Rattle.std.specs.String.{string_bytes};
 ghost use Rattle.command_line.specs.Words.{reads_script, words_of};
 ghost use Rattle.facet_disk.specs.Images.{Told};
 ghost use Rattle.facet_io.specs.Faults.{Rose};
-ghost use Rattle.facet_shell.specs.Runs.{EndsBefore, EndsPartly, EndsShort, EndsWhole, ReadsScript, ReadsSome, ReadsTooMuch, RunsSessions};
+ghost use Rattle.facet_shell.specs.Runs.{EndsBefore, EndsPartly, EndsShort, EndsWhole, ReadsScript, ReadsSome, ReadsTooMuch, ReadsWithin, RunsSessions};
 ghost use Rattle.facet_shell.specs.Runs.{TellsOfScript, TellsOfStore, WritesLine, expected, opened_status};
 ghost use Rattle.facet_words.specs.Sessions.Commands.{Script};
 ghost use Rattle.store_opening.specs.Files.{files};
@@ -92,7 +92,7 @@ fn run_read<R: Threads + Wait + Sync, S: Source, K: Sink, D: Disk, G: Gate + Syn
 
     // When each end comes.
     ensures words { result.status ≢ Status.BadWords }
-    ensures read_failed { result.status ≡ Status.ReadFault → Rose (S.faults source.old) (S.faults source.new) }
+    ensures read_failed { result.status ≡ Status.ReadFault → ReadsWithin S.Source source.old source.new × Rose (S.faults source.old) (S.faults source.new) }
     ensures write_failed { result.status ≡ Status.WriteFault → Rose (K.faults sink.old) (K.faults sink.new) }
     ensures disk_failed { result.status ≡ Status.DiskFault → ReadsScript S.Source source.old source.new × Rose (D.faults disk) (D.faults result.disk) }
     ensures device_failed { result.status ≡ Status.DiskFault → (s : Told) → D.told disk ≡ Some s → Rose (D.failures disk) (D.failures result.disk) }
@@ -168,7 +168,7 @@ pub fn run<R: AllocGlobal + Threads + Wait + Sync, S: Source, K: Sink, D: Disk, 
     ensures words_refused { reads_script (words_of (map string_bytes words.now)) ≡ false → generated_by (words_of (map string_bytes words.now)) ≡ None
         → (result.status ≡ Status.BadWords) ⊎ (result.status ≡ Status.NoMemory) }
     ensures read_failed { generated_by (words_of (map string_bytes words.now)) ≡ None
-        → result.status ≡ Status.ReadFault → Rose (S.faults source.old) (S.faults source.new) }
+        → result.status ≡ Status.ReadFault → ReadsWithin S.Source source.old source.new × Rose (S.faults source.old) (S.faults source.new) }
     ensures write_failed { generated_by (words_of (map string_bytes words.now)) ≡ None
         → result.status ≡ Status.WriteFault → Rose (K.faults sink.old) (K.faults sink.new) }
     ensures disk_failed { generated_by (words_of (map string_bytes words.now)) ≡ None

@@ -10,7 +10,7 @@ use store_opening::OpenFault;
 pub enum Status {
     /// Every order was answered, and all replies and the last line were written.
     Done,
-    /// There was not exactly one word, the store's directory.
+    /// The words are not the command's: a directory, and the options `--sessions` and `--generate`.
     BadWords,
     /// A read failed.
     ReadFault,
