@@ -3,14 +3,14 @@ use Rattle.std.proofs.Common.{◌≡◌, ℕ, zero, suc, ◌-◌, ◌<◌, ◌�
 use Rattle.std.specs.Option.{option_map_or}
 use Rattle.std.specs.Prelude.{◌&&◌, not, nat_le, IfSome, option_and_then}
 use Rattle.std.proofs.lemmas.Bool.{eqb-true, or_cases, and_parts, cases_lt, true≢false}
-use Rattle.std.proofs.lemmas.Option.{none-some, same_Some, get_or_from_slice_get, slice_get-get_or, slice_get_past}
+use Rattle.std.proofs.lemmas.Option.{none-some, same_Some, get_or_from_slice_get, slice_get_past}
 use Rattle.facet_names.specs.Labels.{IsLabelList, above, place}
 use Rattle.facet_names.specs.Arrays.{parent_at}
 use Rattle.facet_model.specs.Flags.{Config, flags}
 use Rattle.facet_model.specs.Documents.{dim_of}
 use Rattle.facet_counts.specs.Lists.{dim_at, is_rolled}
 use Rattle.facet_counts.specs.Climbs.{below_root, next_of, goes_to, climbs}
-use Rattle.taxo_list.proofs.Labels.{place_at, root_first, some_label}
+use Rattle.taxo_list.proofs.Walked.{root_only}
 use Rattle.facet_counts.proofs.Entries.{has_parent}
 
 -- a path has the dimension of the one above it, where that is not the root
@@ -26,19 +26,13 @@ dim_above (part ∷ next ∷ path) apart = ap (λ n. dim_of (take n (part ∷ ne
     more = omega arith
 
 module _ (config : Config) (labels : List (List (List ℕ))) (is : IsLabelList labels) where
-  -- only the root has no component
-  pub root_only : (p : ℕ) → slice_get labels p ≡ Some [] → p ≡ 0
-  root_only p at =
-      let first : slice_get labels 0 ≡ Some [] = slice_get-get_or labels 0 [] (some_label labels is) ∙ ap Some (root_first labels is []) in
-      same_Some p 0 (sym (place_at labels is p [] at) ∙ place_at labels is 0 [] first)
-
   -- the dimension of a parent that is not the root
   pub parent_dim : (k p : ℕ) → 0 < k → k < length labels → parent_at labels k ≡ Some p → 0 < p → dim_at labels p ≡ dim_at labels k
   parent_dim k p some within goes below =
       let parent = has_parent labels is k some within in
       let same : parent.0 ≡ p = same_Some parent.0 p (sym parent.2 ∙ goes) in
       let at : slice_get labels p ≡ Some (above (get_or labels k [])) = ap (slice_get labels) (sym same) ∙ parent.3 in
-      let apart : above (get_or labels k []) ≡ [] → ⊥ = λ e. let zero_is : p ≡ 0 = root_only p (at ∙ ap Some e) in absurd (omega arith) in
+      let apart : above (get_or labels k []) ≡ [] → ⊥ = λ e. let zero_is : p ≡ 0 = root_only labels is p (at ∙ ap Some e) in absurd (omega arith) in
       ap dim_of (get_or_from_slice_get labels p (above (get_or labels k [])) [] at) ∙ dim_above (get_or labels k []) apart
 
   pub parent_rolled : (k p : ℕ) → 0 < k → k < length labels → parent_at labels k ≡ Some p → 0 < p → is_rolled config labels p ≡ is_rolled config labels k

@@ -1,11 +1,14 @@
 -- One turn of the loop that rolls the counts up, and what it starts and ends with.
-use Rattle.std.proofs.Common.{◌≡◌, ℕ, ◌+◌, ◌<◌, ◌≤◌, ◌^◌, ◌⊎◌, Bool, true, false, cond, List, [], ◌∷◌, length, get_or, set, Option, Some, None, nat_eq, refl, sym, ap, subst, ◌∙◌, arith, rules, inl, inr}
+use Rattle.std.proofs.Common.{◌≡◌, ℕ, ◌+◌, ◌<◌, ◌≤◌, ◌^◌, ◌⊎◌, Bool, true, false, not, ◌&&◌, cond, List, [], ◌∷◌, length, take, get_or, set, Option, Some, None, nat_eq, refl, sym, ap, subst, ◌∙◌, arith, rules, inl, inr}
 use Rattle.std.specs.Prelude.{IfSome, count_by}
 use Rattle.std.specs.Option.{option_map_or}
 use Rattle.std.proofs.lemmas.Bool.{cases_eq, ne_eqb}
 use Rattle.std.proofs.lemmas.List.{length-set, get_or-set_same, get_or-set_other}
 use Rattle.std.proofs.lemmas.List.Sums.{sum_by-cons}
-use Rattle.facet_counts.specs.Lists.{lists_at, counts_for}
+use Rattle.facet_model.specs.Flags.{flags}
+use Rattle.facet_model.specs.Documents.{dim_of}
+use Rattle.taxo_list.specs.DimLists.{dims_of, IsDimNumber}
+use Rattle.facet_counts.specs.Lists.{is_rolled, lists_at, counts_for}
 use Rattle.facet_counts.specs.Tallies.{Tally, HasAdded}
 use Rattle.facet_counts.specs.Climbs.{climbed, goes_to, next_of, IsRolledTo}
 use Rattle.facet_counts.specs.Kept.{IsCounter}
@@ -20,6 +23,10 @@ count_most p (x ∷ xs) = omega (arith, sum_by-cons (λ x. cond (p x) 1 0) x xs,
     one : (b : Bool) → cond b 1 0 ≤ 1
     one true = omega arith
     one false = omega arith
+
+dim_first : (path : List (List ℕ)) → dim_of (take 1 path) ≡ dim_of path
+dim_first [] = refl
+dim_first (part ∷ path) = refl
 
 module _ (tally : Tally) (rolled : List Bool) (counter : IsCounter tally rolled) where
   -- with none rolled up, each count is that of the lists that have the ordinal
@@ -41,9 +48,13 @@ module _ (tally : Tally) (rolled : List Bool) (counter : IsCounter tally rolled)
       let most : lists_at tally.config tally.labels lists i ≤ length lists = count_most (counts_for tally.config tally.labels i) lists in
       omega (arith, counter.some.1.number, counter.at_most)
 
-  module _ (k : ℕ) (some : 0 < k) (within : k < length tally.labels) (counts : List ℕ) (so_far : IsRolledTo tally (k + 1) counts) where
-    pub goes : next_of (get_or rolled k false) tally.labels k ≡ goes_to tally.config tally.labels k
-    goes = ap (λ b. next_of b tally.labels k) (counter.marks k some within)
+  -- the mark of a label's dimension is that of the label
+  pub mark_at : (n ord : ℕ) → IsDimNumber tally.labels (dims_of tally.labels) ord n → get_or rolled n false ≡ is_rolled tally.config tally.labels ord
+  mark_at n ord number = counter.marks n number.0 ∙ ap (λ dim. (flags tally.config dim).hierarchical && not (flags tally.config dim).multi_valued) (ap dim_of number.1 ∙ dim_first (get_or tally.labels ord []))
+
+  module _ (k : ℕ) (some : 0 < k) (within : k < length tally.labels) (counts : List ℕ) (so_far : IsRolledTo tally (k + 1) counts) (mark : Bool) (marked : mark ≡ is_rolled tally.config tally.labels k) where
+    pub goes : next_of mark tally.labels k ≡ goes_to tally.config tally.labels k
+    goes = ap (λ b. next_of b tally.labels k) marked
 
     -- where it goes to p, the two counts together are those of p in the next turn
     together : (p : ℕ) → goes_to tally.config tally.labels k ≡ Some p → (lists : List (List ℕ)) → HasAdded tally lists → get_or counts p 0 + get_or counts k 0 ≡ climbed (goes_to tally.config tally.labels) k lists p
@@ -56,7 +67,7 @@ module _ (tally : Tally) (rolled : List Bool) (counter : IsCounter tally rolled)
         (λ t. parent t + own t) ∙ sym sum
 
     -- the sum fits
-    pub fits : IfSome (next_of (get_or rolled k false) tally.labels k) (λ p. get_or counts p 0 + get_or counts k 0 < 2 ^ 32)
+    pub fits : IfSome (next_of mark tally.labels k) (λ p. get_or counts p 0 + get_or counts k 0 < 2 ^ 32)
     fits = subst (λ o. IfSome o (λ p. get_or counts p 0 + get_or counts k 0 < 2 ^ 32)) (sym goes) (by (goes_to tally.config tally.labels k) refl)
       where
         by : (o : Option ℕ) → goes_to tally.config tally.labels k ≡ o → IfSome o (λ p. get_or counts p 0 + get_or counts k 0 < 2 ^ 32)
@@ -68,7 +79,7 @@ module _ (tally : Tally) (rolled : List Bool) (counter : IsCounter tally rolled)
             omega (arith, counter.some.1.number, counter.at_most, sum, most)
 
     -- the turn
-    pub turned : IsRolledTo tally k (option_map_or (λ p. set counts p (get_or counts p 0 + get_or counts k 0)) (next_of (get_or rolled k false) tally.labels k) counts)
+    pub turned : IsRolledTo tally k (option_map_or (λ p. set counts p (get_or counts p 0 + get_or counts k 0)) (next_of mark tally.labels k) counts)
     turned = subst (λ o. IsRolledTo tally k (option_map_or (λ p. set counts p (get_or counts p 0 + get_or counts k 0)) o counts)) (sym goes) (by (goes_to tally.config tally.labels k) refl)
       where
         by : (o : Option ℕ) → goes_to tally.config tally.labels k ≡ o → IsRolledTo tally k (option_map_or (λ p. set counts p (get_or counts p 0 + get_or counts k 0)) o counts)

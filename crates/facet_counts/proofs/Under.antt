@@ -10,7 +10,7 @@ use Rattle.facet_model.specs.Flags.{Config}
 use Rattle.facet_counts.specs.Lists.{is_above}
 use Rattle.taxo_list.proofs.Labels.{same_path, place_at, root_first}
 use Rattle.facet_counts.proofs.Entries.{has_parent}
-use Rattle.facet_counts.proofs.Parents.{root_only}
+use Rattle.taxo_list.proofs.Walked.{root_only}
 use Rattle.facet_counts.proofs.Rolling.{above_root}
 
 -- ---- paths
@@ -41,7 +41,7 @@ module _ (config : Config) (labels : List (List (List ℕ))) (is : IsLabelList l
   some_part i some lt = by (get_or labels i []) refl
     where
       by : (p : List (List ℕ)) → get_or labels i [] ≡ p → 0 < length (get_or labels i [])
-      by [] e = let zero_is : i ≡ 0 = root_only config labels is i (slice_get-get_or labels i [] lt ∙ ap Some e) in absurd (omega arith)
+      by [] e = let zero_is : i ≡ 0 = root_only labels is i (slice_get-get_or labels i [] lt ∙ ap Some e) in absurd (omega arith)
       by (part ∷ p) e = subst (λ q. 0 < length q) (sym e) (omega arith)
 
   -- other ordinals have other labels

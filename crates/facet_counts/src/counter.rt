@@ -6,7 +6,7 @@ ghost use Rattle.facet_counts.specs.Lists.{IsCounted};
 ghost use Rattle.facet_counts.specs.Tallies.{HasAdded, AreCounts};
 
 use crate::counts::Counts;
-use crate::rolled::{roll, rolled_labels};
+use crate::rolled::{roll, rolled_dims};
 use counted_column::Column;
 use facet_config::FacetsConfig;
 use facet_names::NoMemory;
@@ -16,7 +16,7 @@ use std::alloc::Global;
 use std::marker::Model;
 use taxo_list::{Labelled, TaxoView};
 
-/// Counts the ordinals of documents, one number for each label of a view: 4 bytes a label, and one more for whether its count is rolled up.
+/// Counts the ordinals of documents, one number for each label of a view: 4 bytes a label, and a mark a dimension, whether its counts are rolled up.
 #[derive(Drop)]
 pub struct Counter<'a> {
     view: &'a TaxoView,
@@ -63,7 +63,7 @@ fn add_counts(counts: &mut [u32], others: &[u32])
 }
 
 impl<'a> Counter<'a> {
-    /// No document is counted yet. It takes time and memory in proportion to the view's labels.
+    /// No document is counted yet. It takes time and memory in proportion to the view's labels, and asks the config once for each dimension.
     pub fn new(
         alloc: Global,
         view: &'a TaxoView,
@@ -75,7 +75,7 @@ impl<'a> Counter<'a> {
         ensures number { IfOk result (λ c. c.added ≡ 0) }
         ensures list { IfOk result (λ c. IsLabelList c.labels) }
     {
-        let rolled = rolled_labels(alloc, view, config)?;
+        let rolled = rolled_dims(alloc, view, config)?;
         let mut counts = Vec::new(alloc);
         counts.resize(view.size() as usize, 0)?;
         Ok(Counter {

@@ -1,7 +1,6 @@
 //! The arrays of a view, read as ordinals.
 ghost use Rattle.std.specs.Prelude.{◌≡◌, ◌<◌, Some, length};
 ghost use Rattle.facet_names.specs.Arrays.{parent_at, child_at, sibling_at};
-ghost use Rattle.facet_names.specs.Labels.{IsLabelList};
 ghost use Rattle.taxo_list.specs.Links.{ordinal};
 
 use taxo_list::TaxoView;
@@ -19,7 +18,6 @@ pub fn parent_of(view: &TaxoView, ord: u32) -> u32
     requires within { ord < length view.now }
     ensures parent { parent_at view.now ord ≡ Some result }
     ensures smaller { result < ord }
-    ensures list { IsLabelList view.now }
 {
     entry(view.arrays().parent(ord)).unwrap()
 }

@@ -2,6 +2,7 @@
 ghost use Rattle.std.specs.Prelude.{◌≡◌, ◌<◌, ◌≤◌, ◌+◌, ◌^◌, ◌&&◌, ℕ, false, not, length, slice_index_or, slice_set, IfOk, IfSome};
 ghost use Rattle.std.specs.Option.{option_map_or};
 ghost use Rattle.facet_model.specs.Flags.{Config};
+ghost use Rattle.taxo_list.specs.DimLists.{dims_of};
 ghost use Rattle.facet_counts.specs.Climbs.{next_of, IsRolledTo};
 ghost use Rattle.facet_counts.specs.Kept.{IsCounter};
 ghost use Rattle.facet_counts.specs.Lists.{is_rolled};
@@ -19,36 +20,20 @@ fn rolls_up(flags: DimFlags) -> bool
     flags.hierarchical && !flags.multi_valued
 }
 
-// Whether a label's count is rolled up, where this is known of the labels before it: the config is asked at a dimension alone.
-fn mark_of(view: &TaxoView, config: &FacetsConfig, before: &[bool], ord: u32) -> bool
-    requires some { 0 < ord }
-    requires within { ord < length view.now }
-    requires sized { length before.now ≡ ord }
-    requires known { (i : ℕ) → 0 < i → i < ord → slice_index_or before.now i false ≡ is_rolled config.now view.now i }
-    ensures { result ≡ is_rolled config.now view.now ord }
-{
-    let parent = parent_of(view, ord);
-    if parent == 0 {
-        rolls_up(config.flags(view.path_of(ord).dim()))
-    } else {
-        before[parent as usize]
-    }
-}
-
-/// For each label, whether its count is rolled up to the parent.
-pub fn rolled_labels(
+/// For each dimension of the view, whether its counts are rolled up: the config is asked once a dimension.
+pub fn rolled_dims(
     alloc: Global,
     view: &TaxoView,
     config: &FacetsConfig,
 ) -> Result<Vec<bool>, NoMemory>
-    ensures sized { IfOk result (λ v. length v.items ≡ length view.now) }
-    ensures marks { IfOk result (λ v. (ord : ℕ) → 0 < ord → ord < length view.now → slice_index_or v.items ord false ≡ is_rolled config.now view.now ord) }
+    ensures sized { IfOk result (λ v. length v.items ≡ length (dims_of view.now)) }
+    ensures marks { IfOk result (λ v. (n : ℕ) → n < length (dims_of view.now)
+        → slice_index_or v.items n false ≡ is_rolled config.now view.now (slice_index_or (dims_of view.now) n 0)) }
 {
-    let mut rolled = Vec::with_capacity(alloc, view.size() as usize)?;
-    rolled.push(false)?;
-    for ord in 1..view.size() {
-        let mark = mark_of(view, config, &rolled, ord);
-        rolled.push(mark)?;
+    let dims = view.dims();
+    let mut rolled = Vec::with_capacity(alloc, dims.len())?;
+    for dim in dims {
+        rolled.push(rolls_up(config.flags(view.path_of(*dim).dim())))?;
     }
     Ok(rolled)
 }
@@ -66,19 +51,17 @@ pub fn next(view: &TaxoView, mark: bool, ord: u32) -> Option<u32>
     if parent == 0 { None } else { Some(parent) }
 }
 
-// Adds a label's count to what it goes to.
-fn go_up(view: &TaxoView, rolled: &[bool], counts: &mut [u32], ord: usize)
+// Adds a label's count to what it goes to, by the mark of its dimension.
+fn go_up(view: &TaxoView, mark: bool, counts: &mut [u32], ord: usize)
     requires some { 0 < ord }
     requires within { ord < length view.now }
     requires few { length view.now ≤ 1000000 }
-    requires marks { length rolled.now ≡ length view.now }
     requires sized { length counts.old ≡ length view.now }
-    requires fits { IfSome (next_of (slice_index_or rolled.now ord false) view.now ord)
-        (λ p. slice_index_or counts.old p 0 + slice_index_or counts.old ord 0 < 2 ^ 32) }
+    requires fits { IfSome (next_of mark view.now ord) (λ p. slice_index_or counts.old p 0 + slice_index_or counts.old ord 0 < 2 ^ 32) }
     ensures { counts.new ≡ option_map_or (λ p. slice_set counts.old p (slice_index_or counts.old p 0 + slice_index_or counts.old ord 0))
-        (next_of (slice_index_or rolled.now ord false) view.now ord) counts.old }
+        (next_of mark view.now ord) counts.old }
 {
-    if let Some(parent) = next(view, rolled[ord], ord as u32) {
+    if let Some(parent) = next(view, mark, ord as u32) {
         counts[parent as usize] += counts[ord];
     }
 }
@@ -92,6 +75,7 @@ pub fn roll(view: &TaxoView, rolled: &[bool], counts: &mut [u32])
     let mut ord = counts.len();
     while ord > 1 {
         ord -= 1;
-        go_up(view, rolled, counts, ord);
+        let mark = rolled[view.dim_number(ord as u32) as usize];
+        go_up(view, mark, counts, ord);
     }
 }

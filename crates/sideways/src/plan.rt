@@ -30,7 +30,7 @@ use std::sync::Arc;
 use taxo_list::{Labelled, TaxoView};
 
 /// A search that is ready to run, with all memory that the counting needs: one pass for the hits, and with sideways one more for each drilled
-/// dimension. A pass has a counter of its own, 5 bytes for each label of the view, and for each segment a plan or, where the conditions have many
+/// dimension. A pass has a counter of its own, 4 bytes for each label of the view, and for each segment a plan or, where the conditions have many
 /// documents, its places as a set: an eighth of a byte a document, and twice as much again while the sets of a segment are made. A hit that is wanted takes
 /// 4 bytes.
 #[derive(Drop)]

@@ -1,3 +1,4 @@
 pub mod Labels
 pub mod Linked
+pub mod Walked
 mod Added

@@ -1,3 +1,4 @@
 pub mod ArrayLists
+pub mod DimLists
 pub mod Links
 pub mod Kept

@@ -3,6 +3,7 @@
 #![tactic(auto)]
 
 mod arrays;
+mod dims;
 mod fault;
 mod labelled;
 mod stored;

@@ -1,8 +1,10 @@
-ghost use Rattle.std.specs.Prelude.{◌≡◌, ◌<◌, ◌≤◌, [], ◌∷◌, length, is_some, IfOk};
+ghost use Rattle.std.specs.Prelude.{◌≡◌, ◌<◌, ◌≤◌, [], ◌∷◌, All, length, is_some, IfOk};
 ghost use Rattle.facet_names.specs.Labels.{IsLabelList, place, stands};
 ghost use Rattle.taxo_list.specs.ArrayLists.{arrays_of};
+ghost use Rattle.taxo_list.specs.DimLists.{dims_of, IsDimNumber};
 
 use crate::arrays::Arrays;
+use crate::dims::Dims;
 use crate::labelled::Labelled;
 use crate::stored::{copied, ordinal_in};
 use facet_names::{NoMemory, Path};
@@ -10,13 +12,15 @@ use indexmap::IndexSet;
 use std::alloc::Global;
 use std::marker::Model;
 
-/// The list of labels as it stood when the view was made, as Lucene's `TaxonomyReader`. It owns a copy of the labels, and their arrays.
+/// The list of labels as it stood when the view was made, as Lucene's `TaxonomyReader`. It owns a copy of the labels, their arrays,
+/// and the number of each label's dimension.
 ///
 /// It never changes, so threads may share it. No call of it takes memory.
 #[derive(Drop)]
 pub struct TaxoView {
     labels: IndexSet<Path>,
     arrays: Arrays,
+    dims: Dims,
 }
 
 impl Model for TaxoView {
@@ -27,7 +31,7 @@ impl Model for TaxoView {
 
     ghost view = { λ v. [] ∷ v.labels.keys };
 
-    ghost invariant = { λ v. IsView v.labels.keys v.arrays };
+    ghost invariant = { λ v. IsView v.labels.keys v.arrays v.dims };
 }
 
 impl Labelled for TaxoView {
@@ -53,7 +57,12 @@ impl TaxoView {
         let labels = copied(alloc, labels)?;
         let mut arrays = Arrays::new(alloc);
         arrays.grow(parents)?;
-        Ok(TaxoView { labels, arrays })
+        let dims = Dims::of(alloc, parents)?;
+        Ok(TaxoView {
+            labels,
+            arrays,
+            dims,
+        })
     }
 
     // The parents of all labels.
@@ -80,5 +89,22 @@ impl TaxoView {
         ensures list { IsLabelList self.now }
     {
         &self.arrays
+    }
+
+    /// The ordinals of the labels of one component, each a dimension alone, rising.
+    pub fn dims(&self) -> &[u32]
+        ensures dims { result.now ≡ dims_of self.now }
+        ensures each { All (λ ord. (0 < ord) × (ord < length self.now)) result.now }
+    {
+        self.dims.ords()
+    }
+
+    /// The place among [`dims`](TaxoView::dims) of the dimension of a label.
+    pub fn dim_number(&self, ord: u32) -> u32
+        requires some { 0 < ord }
+        requires within { ord < length self.now }
+        ensures { IsDimNumber self.now (dims_of self.now) ord result }
+    {
+        self.dims.number(ord)
     }
 }

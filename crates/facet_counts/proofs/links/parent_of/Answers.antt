@@ -21,4 +21,4 @@ returns c =
     let parent = has_parent c.args.view.now c.arrays.ensures.list c.args.ord c.requires.some c.requires.within in
     let is : Some c.unwrap.result ≡ parent_at c.args.view.now c.args.ord = sym c.unwrap.ensures ∙ c.entry.ensures ∙ ap ordinal (to_z-of_z w32 c.parent.result (record { sfits = c.parent.type_inv }) ∙ c.parent.ensures) ∙ parent_entry c.args.view.now c.arrays.result.now c.arrays.ensures.arrays c.args.ord c.requires.within in
     let same : c.unwrap.result ≡ parent.0 = same_Some c.unwrap.result parent.0 (is ∙ parent.2) in
-    record { parent = sym is; smaller = omega (arith, same, parent.1); list = c.arrays.ensures.list }
+    record { parent = sym is; smaller = omega (arith, same, parent.1) }

@@ -1,9 +1,9 @@
-use Rattle.std.proofs.Common.{arith, sym, subst, ◌≡◌, ◌<◌, ◌+◌, ◌-◌, ℕ, List, length}
+use Rattle.std.proofs.Common.{arith, sym, subst, ◌≡◌, ◌<◌, ◌+◌, ◌-◌, ℕ, List, false, length, get_or}
 use Rattle.facet_model.specs.Flags.{Config}
 use Rattle.facet_counts.specs.Tallies.{Tally}
 use Rattle.facet_counts.specs.Climbs.{IsRolledTo}
 use Rattle.taxo_list.proofs.Labels.{some_label}
-use Rattle.facet_counts.proofs.Turns.{rolled_none, fits, turned}
+use Rattle.facet_counts.proofs.Turns.{rolled_none, mark_at, fits, turned}
 use Rattle.facet_counts.proofs.rolled.roll.Goals as goal
 
 abbrev tally_of : List (List (List ℕ)) → List ℕ → Config → ℕ → Tally
@@ -21,6 +21,7 @@ go_up-requires-clause-fits c =
     let next : c.loop-ord.ord ≡ (c.loop-ord.ord - 1) + 1 = omega arith in
     let tally : Tally = tally_of c.args.view.now c.args.counts.now c.requires.0 c.requires.1 in
     fits tally c.args.rolled.now c.requires.2 k (omega arith) (omega (arith, c.loop-ord.invariant.1)) c.loop-ord.counts (subst (λ n. IsRolledTo tally n c.loop-ord.counts) next (c.loop-ord.invariant.2 c.requires.0 c.requires.1 c.requires.2))
+    (get_or c.args.rolled.now c.dim_number.result false) (mark_at tally c.args.rolled.now c.requires.2 c.dim_number.result k c.dim_number.ensures)
 
 pub loop-ord-preserved : goal.loop-ord-preserved
 loop-ord-preserved c =
@@ -29,7 +30,8 @@ loop-ord-preserved c =
       omega (arith, c.loop-ord.invariant.1),
       λ config added counter.
           let tally : Tally = tally_of c.args.view.now c.args.counts.now config added in
-          subst (IsRolledTo tally (c.loop-ord.ord - 1)) (sym c.go_up.ensures) (turned tally c.args.rolled.now counter (c.loop-ord.ord - 1) (omega arith) (omega (arith, c.loop-ord.invariant.1)) c.loop-ord.counts (subst (λ n. IsRolledTo tally n c.loop-ord.counts) next (c.loop-ord.invariant.2 config added counter))),
+          subst (IsRolledTo tally (c.loop-ord.ord - 1)) (sym c.go_up.ensures) (turned tally c.args.rolled.now counter (c.loop-ord.ord - 1) (omega arith) (omega (arith, c.loop-ord.invariant.1)) c.loop-ord.counts (subst (λ n. IsRolledTo tally n c.loop-ord.counts) next (c.loop-ord.invariant.2 config added counter))
+          (get_or c.args.rolled.now c.dim_number.result false) (mark_at tally c.args.rolled.now counter c.dim_number.result (c.loop-ord.ord - 1) c.dim_number.ensures)),
     )
 
 pub returns : goal.returns
