@@ -23,12 +23,13 @@ use Rattle.facet_output.specs.Telling.{closed_by, durable, durable_by, failed, f
 use Rattle.facet_replies.specs.Replies.{no_memory, numbered, refused}
 use Rattle.facet_words.specs.Commands.{Settings}
 use Rattle.facet_words.specs.Sessions.Commands.{Command, Order, commit}
+use Rattle.facet_words.specs.Sessions.Laws.{orders_in}
 use Rattle.pair_manager.specs.declared.point.CommitPoint.{CommitPoint}
 use Rattle.store_opening.specs.Files.{greatest_number}
 use Rattle.store_opening.specs.Newest.{next_after}
 use Rattle.facet_shell.proofs.Adds.{right_of, shown_before}
 use Rattle.facet_shell.proofs.Commits.{durable_point, failed_before, failed_point}
-use Rattle.facet_shell.proofs.Counted.{orders_few, written_few}
+use Rattle.facet_shell.proofs.Counted.{written_few}
 use Rattle.facet_shell.proofs.Placed.{add_stands, all_among}
 use Rattle.facet_shell.specs.Acknowledged.{AcknowledgedStays, CommitsAreAcknowledged, HasAdd, Holds, IsAcknowledged, IsHeld}
 use Rattle.facet_shell.specs.Runs.{CountsFault, Ran, SpendsFrom, points_of}
@@ -121,11 +122,10 @@ module _ {D : Type 0} (ghosts : Ghosts D) where
       all_among (IsHeld settings ran.last ran.answered c) ran.answered (λ a there n is says. held ghosts settings phases trace old new ran c all a n there is says)
 
   pub commits_are_acknowledged : CommitsAreAcknowledged ghosts
-  commits_are_acknowledged input s phases trace old new t is fits fewer tells from still ran =
-      let orders = orders_few input s is in
+  commits_are_acknowledged s phases trace old new t orders fewer tells from still ran =
       let written = written_few s.phases in
-      let few : length (in_writing_order phases) ≤ 4294967296 = within (length (in_writing_order phases)) (length (in_writing_order s.phases)) _ (length input) fewer written orders fits in
+      let few : length (in_writing_order phases) ≤ 4294967296 = within (length (in_writing_order phases)) (length (in_writing_order s.phases)) (length (orders_in s.phases)) fewer written orders in
       all_among IsAcknowledged ran.answered (λ a there. acknowledged ghosts s.settings phases trace old new ran still t tells from few a there)
     where
-      within : (some all orders bytes : ℕ) → some ≤ all → all ≤ 64 * orders → orders ≤ bytes → bytes ≤ 67108864 → some ≤ 4294967296
-      within some all orders bytes one two three four = omega (arith, one, two, three, four)
+      within : (some all orders : ℕ) → some ≤ all → all ≤ 64 * orders → orders ≤ 67108864 → some ≤ 4294967296
+      within some all orders one two three = omega (arith, one, two, three)

@@ -1,8 +1,9 @@
--- How many orders a script has at most, by its bytes.
+-- How many orders a script has at most: by its bytes, and by the documents that are generated.
 use Rattle.std.proofs.Common.{◌≡◌, ℕ, suc, ◌+◌, ◌*◌, ◌≤◌, eqb, Bool, true, false, cond, List, [], ◌∷◌, length, map, Option, Some, None, Result, Ok, Err, refl, subst, arith, length-append}
 use Rattle.std.specs.Prelude.{◌==◌, if◌then◌else◌, filter, flat_map}
 use Rattle.std.specs.List.{enumerate_from, range_with_len}
 use Rattle.std.proofs.lemmas.List.{length-map}
+use Rattle.std.proofs.lemmas.List.FromFn.{length-map-range_with_len}
 use Rattle.std.proofs.lemmas.Nat.{row_fits}
 use Rattle.facet_output.specs.Answered.{by_session, in_writing_order}
 use Rattle.facet_replies.specs.declared.fault.ScriptFault.{ScriptFault}
@@ -11,6 +12,8 @@ use Rattle.facet_words.specs.Scripts.{◌>>=◌, config_at}
 use Rattle.facet_words.specs.Sessions.Commands.{Order, Script}
 use Rattle.facet_words.specs.Sessions.Laws.{orders_in}
 use Rattle.facet_words.specs.Sessions.Scripts.{Phases, before, line_at, phases_from, phases_of, script, script_of}
+use Rattle.generator.specs.Generated.{add_order, closing_orders, generated, generated_phases}
+use Rattle.facet_shell.specs.Acknowledged.{HaveFewOrders}
 
 -- ---- lines
 
@@ -65,9 +68,32 @@ of_lines (l ∷ ls) s is =
     subst (λ (q : Script). length (orders_in q.phases) ≤ suc (length ls)) (of_ok u.2)
     (subst (λ (ps : List (List Order)). length (orders_in ps) ≤ suc (length ls)) (of_ok v.2) (omega arith))
 
-pub orders_few : (input : List ℕ) (s : Script) → script input ≡ Ok s → length (orders_in s.phases) ≤ length input
+orders_few : (input : List ℕ) (s : Script) → script input ≡ Ok s → length (orders_in s.phases) ≤ length input
 unfolding script
 orders_few input s is = let l = lines_few input in let m = of_lines (lines_of input) s is in omega arith
+
+-- the adds, and four orders behind them
+generated_orders : (documents sessions : ℕ) → length (orders_in (generated_phases documents sessions)) ≡ documents + 4
+unfolding generated_phases closing_orders
+generated_orders documents sessions =
+    let adds : List Order = map (add_order sessions) (range_with_len 0 documents) in
+    let size : length adds ≡ documents = length-map-range_with_len (add_order sessions) 0 documents in
+    let both = length-append adds (orders_in (closing_orders (documents + 3) ∷ [])) in
+    omega (arith, size, both)
+
+-- ---- both kinds of script
+
+few_with : (n documents : ℕ) → n ≡ documents + 4 → documents ≤ 1000000 → n ≤ 67108864
+few_with n documents is le = omega (arith, is, le)
+
+at_most : (m n k : ℕ) → m ≤ n → n ≤ k → m ≤ k
+at_most m n k one two = omega (arith, one, two)
+
+pub have_few : HaveFewOrders
+have_few = (
+  λ input s is fits. at_most (length (orders_in s.phases)) (length input) 67108864 (orders_few input s is) fits,
+  λ documents sessions le. few_with (length (orders_in (generated documents sessions).phases)) documents (generated_orders documents sessions) le,
+)
 
 -- ---- the order of writing
 

@@ -13,7 +13,9 @@ use Rattle.facet_output.specs.Seen.{Seen, history_of, labels_of}
 use Rattle.facet_replies.specs.Replies.{no_memory, numbered, placed, refused}
 use Rattle.facet_words.specs.Commands.{Settings}
 use Rattle.facet_words.specs.Sessions.Commands.{Order, Script, add, commit}
+use Rattle.facet_words.specs.Sessions.Laws.{orders_in}
 use Rattle.facet_words.specs.Sessions.Scripts.{script}
+use Rattle.generator.specs.Generated.{generated}
 use Rattle.store_opening.specs.Files.{greatest_number}
 use Rattle.store_opening.specs.Newest.{next_after}
 use Rattle.store_opening.specs.Settled.{IsSettled}
@@ -51,11 +53,19 @@ AcknowledgedStays {D} ghosts = (settings : Settings) (phases : List (List Order)
 abbrev pub IsAcknowledged : Answered → Type 0
 IsAcknowledged a = a.order.command ≡ commit → ((n : ℕ) × (a.reply ≡ numbered n)) ⊎ (a.reply ≡ refused no_memory)
 
--- Each commit of a script is acknowledged, where the disk tells files whose numbers are below 2^62 and its count of faults does not rise.
+-- it has at most so many orders as a script may have bytes
+abbrev pub HasFewOrders : Script → Type 0
+HasFewOrders s = length (orders_in s.phases) ≤ script_limit
+
+-- So has each script that is read, and each one of generated documents.
+abbrev pub HaveFewOrders : Type 0
+HaveFewOrders = ((input : List ℕ) (s : Script) → script input ≡ Ok s → length input ≤ script_limit → HasFewOrders s)
+    × ((documents sessions : ℕ) → documents ≤ 1000000 → HasFewOrders (generated documents sessions))
+
+-- Each commit of such a script is acknowledged, where the disk tells files whose numbers are below 2^62 and its count of faults does not rise.
 -- So it is of the script's phases, and of the first of them.
 abbrev pub CommitsAreAcknowledged : {D : Type 0} → Ghosts D → Type 0
-CommitsAreAcknowledged {D} ghosts = (input : List ℕ) (s : Script) (phases : List (List Order)) (trace : Trace) (old new : D) (t : Told)
-    → script input ≡ Ok s → length input ≤ script_limit
+CommitsAreAcknowledged {D} ghosts = (s : Script) (phases : List (List Order)) (trace : Trace) (old new : D) (t : Told) → HasFewOrders s
     → length (in_writing_order phases) ≤ length (in_writing_order s.phases) → ghosts.told old ≡ Some t → next_after (greatest_number t.files) ≤ 2 ^ 62
     → ¬ Rose (ghosts.faults old) (ghosts.faults new)
     → (ran : Ran ghosts s.settings phases trace old new) → All IsAcknowledged ran.answered

@@ -1,4 +1,5 @@
 use Rattle.facet_shell.proofs.Acknowledged.{acknowledged_stays, commits_are_acknowledged}
+use Rattle.facet_shell.proofs.Counted.{have_few}
 use Rattle.facet_shell.proofs.laws.commits_stay.Goals as goal
 
 pub returns-clause-stays : goal.returns-clause-stays
@@ -6,3 +7,6 @@ returns-clause-stays g c = acknowledged_stays g.D.Disk
 
 pub returns-clause-acknowledged : goal.returns-clause-acknowledged
 returns-clause-acknowledged g c = commits_are_acknowledged g.D.Disk
+
+pub returns-clause-few : goal.returns-clause-few
+returns-clause-few g c = have_few
