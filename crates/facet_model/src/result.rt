@@ -48,7 +48,7 @@ impl PartialOrd for Child {
 pub struct FacetResult {
     pub path: Path,
     /// In a dimension that is not multi-valued the sum of all children's counts, those that are not shown among them. Else the number of
-    /// documents that have the path where that is kept, and -1 where not.
+    /// documents that have the path where its count is required, and -1 where not.
     pub value: i64,
     /// The children with the greatest counts, at most as many as were asked for.
     pub children: Vec<Child>,

@@ -35,7 +35,7 @@ pub record Shown : Type 0 where
   pub doc : Doc
   pub ordinals : List ℕ
 
--- how many operations, labels with the root and documents the last refresh took
+-- how many operations, labels with the root and documents the pair that was asked has
 pub record Numbers : Type 0 where
   pub operations : ℕ
   pub labels : ℕ

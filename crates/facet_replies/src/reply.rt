@@ -65,7 +65,7 @@ pub enum Reply {
         doc: Document,
         ordinals: Vec<u32>,
     },
-    /// To a question of numbers: how many operations the last refresh took, how many labels with the root, and how many documents.
+    /// To a question of numbers: how many operations the pair that was asked has, how many labels with the root, and how many documents.
     Stats {
         n: u64,
         labels: u32,

@@ -55,7 +55,8 @@ impl<'a> Plan<'a> {
         self.places.next()
     }
 
-    /// Whether the record at a place is live and its document matches, where no place behind it was asked for before. All before it are passed, and it is not.
+    /// Whether the record at a place is live and its document matches, where no place behind it was asked for before and none from it on was answered by
+    /// `next`. All before it are passed, and it is not.
     pub fn matches(&mut self, doc: u32) -> bool
         ensures has { result ≡ is_in doc self.old }
         ensures left { self.new ≡ from_place doc self.old }

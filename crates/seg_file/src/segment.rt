@@ -73,7 +73,7 @@ fn of_stored(alloc: Global, stored: SegmentBytes) -> Result<Segment, AllocError>
 impl Segment {
     /// The segment of documents and their terms: the records in their order, and each term once. It takes memory for the bytes, and in between for the
     /// terms with their places. Beside a refused allocation it answers that there is no memory where there would be 2^32 terms or more, which the format
-    /// cannot number.
+    /// cannot number, or 2^32 counted ordinals without a map, which the column cannot.
     pub fn build(alloc: Global, entries: &[Entry]) -> Result<Segment, NoMemory>
         requires some { 0 < length entries.now }
         requires few { length entries.now ≤ 1000000 }
@@ -83,7 +83,8 @@ impl Segment {
         Ok(of_stored(alloc, stored)?)
     }
 
-    /// The segment that the bytes are. They are read once from left to right, and kept.
+    /// The segment that the bytes are. They are checked in one pass from left to right, and kept; the column goes twice more over the counted ordinals.
+    /// Beside a refused allocation there is no memory for 2^32 counted ordinals without a map, which the column cannot number.
     pub fn open(alloc: Global, bytes: Vec<u8>) -> Result<Segment, SegFault>
         ensures found { IfOk result (λ s. IsSegment bytes.items s) }
         ensures only { (r : Records) → IsSegment bytes.items r → MatchResult result (λ s. s ≡ r) (λ e. e ≡ Memory) }
@@ -150,7 +151,7 @@ impl Segment {
         self.stored.postings(&Key::Text(term))
     }
 
-    /// The documents that have a word, rising, or None exactly where there is none that has it. It takes no memory, and as much time as `postings`.
+    /// The documents that have a word, rising, or None exactly where there is no term of it. It takes no memory, and as much time as `postings`.
     pub fn word_postings(&self, word: &str) -> Option<Postings<'_>>
         ensures { result ≡ places_of_term self.now.terms (codes "w" ++ word.now) }
     {
