@@ -58,8 +58,8 @@ public final class Lucene {
         return document;
     }
 
-    /** The processor nanoseconds of the whole process, with compiling and collecting garbage, from the first document to the refresh. */
-    private long add(int documents, Path folder) throws Exception {
+    /** The processor nanoseconds of the whole process, with compiling and collecting garbage, from the first document to a refresh, a search and a commit. */
+    private long run(int documents, Path folder) throws Exception {
         var process = (com.sun.management.OperatingSystemMXBean) ManagementFactory.getOperatingSystemMXBean();
         long start = process.getProcessCpuTime();
         IndexWriter writer = new IndexWriter(FSDirectory.open(folder.resolve("index")), new IndexWriterConfig(new WhitespaceAnalyzer()));
@@ -69,6 +69,10 @@ public final class Lucene {
         }
         DirectoryReader reader = DirectoryReader.open(writer);
         taxonomy = new DirectoryTaxonomyReader(labels);
+        searcher = new IndexSearcher(reader);
+        sideways();
+        labels.commit();
+        writer.commit();
         long nanos = process.getProcessCpuTime() - start;
         // One segment, as the program has; not timed.
         writer.forceMerge(1);
@@ -126,7 +130,7 @@ public final class Lucene {
     public static void main(String[] words) throws Exception {
         Lucene lucene = new Lucene();
         int documents = Integer.parseInt(words[0]);
-        double seconds = lucene.add(documents, Path.of(words[1])) / 1e9;
+        double seconds = lucene.run(documents, Path.of(words[1])) / 1e9;
         double sideways = millis(lucene::sideways);
         double drilled = millis(() -> lucene.counted(lucene.drilled()));
         double all = millis(() -> lucene.counted(new MatchAllDocsQuery()));
