@@ -1,4 +1,4 @@
-ghost use Rattle.std.specs.Prelude.{◌≤◌, All};
+ghost use Rattle.std.specs.Prelude.{◌≤◌, ℕ, All};
 
 use facet_words::sessions::Order;
 
@@ -8,6 +8,7 @@ fn greatest_of(orders: &[Order], least: u32) -> u32
     requires within { All (λ o. o.session ≤ 64) orders.now }
     ensures least { least ≤ result }
     ensures most { result ≤ 64 }
+    ensures no_more { (n : ℕ) → least ≤ n → All (λ o. o.session ≤ n) orders.now → result ≤ n }
     ensures all { All (λ o. o.session ≤ result) orders.now }
 {
     let mut greatest = least;
@@ -21,6 +22,7 @@ fn greatest_of(orders: &[Order], least: u32) -> u32
 pub(crate) fn count_sessions(phases: &[Vec<Order>]) -> u32
     requires { All (λ phase. All (λ o. o.session ≤ 64) phase.items) phases.now }
     ensures most { result ≤ 64 }
+    ensures no_more { (n : ℕ) → All (λ phase. All (λ o. o.session ≤ n) phase.items) phases.now → result ≤ n }
     ensures all { All (λ phase. All (λ o. o.session ≤ result) phase.items) phases.now }
 {
     let mut greatest = 0;

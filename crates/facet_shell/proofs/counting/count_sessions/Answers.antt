@@ -1,7 +1,7 @@
-use Rattle.std.proofs.Common.{◌≤◌, List, Vec, Global, take, arith, subst}
+use Rattle.std.proofs.Common.{◌≤◌, ℕ, List, Vec, Global, take, arith, subst, sym}
 use Rattle.std.specs.Prelude.{All}
 use Rattle.std.proofs.lemmas.List.{take_all}
-use Rattle.std.proofs.lemmas.List.Elements.{All-more, All-weaker}
+use Rattle.std.proofs.lemmas.List.Elements.{All-get_or, All-more, All-weaker}
 use Rattle.facet_words.specs.declared.sessions.command.Order.{Order}
 use Rattle.facet_shell.proofs.counting.count_sessions.Goals as goal
 
@@ -14,6 +14,10 @@ loop-orders-preserved c =
     let e = c.greatest_of-greatest.ensures in
     record {
       most = e.most;
+      no_more = λ n all. e.no_more n (c.loop-orders.invariant.no_more n all)
+          (subst (λ (orders : List Order). All (λ (o : Order). o.session ≤ n) orders) (sym c.deref.ensures.value)
+          (subst (λ (phase : Vec Order Global). All (λ (o : Order). o.session ≤ n) phase.items) (sym c.orders-item.is)
+          (All-get_or (λ (phase : Vec Order Global). All (λ (o : Order). o.session ≤ n) phase.items) phases at item c.loop-orders-test.true all)));
       all = All-more (λ (phase : Vec Order Global). All (λ (o : Order). o.session ≤ greatest) phase.items) phases at item c.loop-orders-test.true
           (All-weaker (λ (phase : Vec Order Global). All (λ (o : Order). o.session ≤ c.loop-orders.greatest) phase.items) (λ (phase : Vec Order Global). All (λ (o : Order). o.session ≤ greatest) phase.items)
           (λ (phase : Vec Order Global) all. All-weaker (λ (o : Order). o.session ≤ c.loop-orders.greatest) (λ (o : Order). o.session ≤ greatest) (λ o le. omega (arith, le, e.least)) phase.items all) (take at phases) c.loop-orders.invariant.all)
