@@ -1,4 +1,5 @@
 pub mod Traversals
+pub mod Feeds
 pub mod FirstLines
 pub mod Members
 pub mod Levels

@@ -4,13 +4,14 @@ ghost use Rattle.serde_json.specs.View.{view};
 ghost use Rattle.facet_words.specs.Lines.{lines_of, line_data};
 
 use facet_names::NoMemory;
+use memchr::memchr;
 use serde_json::Value;
 use std::alloc::Global;
 
 fn feed_at(rest: &[u8]) -> Option<usize>
     ensures { result ≡ position (λ b. b == 10) rest.now }
 {
-    rest.iter().position(|b| *b == b'\n')
+    memchr(b'\n', rest)
 }
 
 /// The first line, and what comes behind its line feed.

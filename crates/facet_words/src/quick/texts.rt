@@ -1,8 +1,9 @@
-ghost use Rattle.std.specs.Prelude.{◌≡◌, ◌≤◌, ◌∷◌, ◌++◌, Some, map, string_bytes, IfOk, IfSome, All, length};
+ghost use Rattle.std.specs.Prelude.{◌≡◌, ◌<◌, ◌≤◌, ◌∷◌, ◌++◌, Some, None, map, IfOk, IfSome, MatchResult, All, length};
 ghost use Rattle.json.specs.Token.{Token as SpecToken};
 ghost use Rattle.json.specs.Json.{array};
 ghost use Rattle.json.specs.Tree.{json_tokens};
 ghost use Rattle.serde_json.specs.Data.{array as array_data};
+ghost use Rattle.facet_names.specs.Faults.{IsPath};
 ghost use Rattle.facet_words.specs.Shapes.{list_within, path};
 ghost use Rattle.facet_words.specs.Quick.{written_texts, written_lists, text_items, list_items};
 
@@ -20,21 +21,42 @@ pub(crate) fn text_next<'a>(reader: &mut Reader<'a>) -> Option<&'a str>
     }
 }
 
-// The texts of the array that comes next, or None, which says nothing.
-fn parts_next(alloc: Global, reader: &mut Reader<'_>) -> Result<Option<Vec<String>>, NoMemory>
-    ensures { IfOk result (λ o. IfSome o (λ v. reader.old ≡ json_tokens (array (written_texts (map string_bytes v.items))) ++ reader.new)) }
+// The path that was made; None where its components are no path.
+fn made(tried: Result<Path, PathFault>) -> Result<Option<Path>, NoMemory>
+    ensures { IfOk result (λ o. MatchResult tried (λ p. o ≡ Some p) (λ _. o ≡ None)) }
 {
-    let Some(Token::BeginArray) = reader.next() else {
-        return Ok(None);
-    };
-    let mut parts = Vec::with_capacity(alloc, 2)?;
-    while !reader.take_end_array() {
-        let Some(text) = text_next(reader) else {
-            return Ok(None);
-        };
-        parts.push(String::from_str(alloc, text)?)?;
+    match tried {
+        Ok(path) => Ok(Some(path)),
+        Err(PathFault::NoMemory) => Err(NoMemory),
+        Err(_) => Ok(None),
     }
-    Ok(Some(parts))
+}
+
+// The path of the text that comes next, or None, which says nothing.
+fn dim_next(alloc: Global, reader: &mut Reader<'_>) -> Result<Option<Path>, NoMemory>
+    ensures read { IfOk result (λ o. IfSome o (λ p. reader.old ≡ map SpecToken.string p ++ reader.new)) }
+    ensures fits { IfOk result (λ o. IfSome o (λ p. IsPath p)) }
+{
+    match text_next(reader) {
+        Some(dim) => made(Path::of_dim(alloc, dim)),
+        None => Ok(None),
+    }
+}
+
+// The path with the text that comes next, or None, which says nothing.
+fn child_next(
+    alloc: Global,
+    reader: &mut Reader<'_>,
+    parent: &Path,
+) -> Result<Option<Path>, NoMemory>
+    ensures read { IfOk result (λ o. IfSome o (λ p. map SpecToken.string parent.now ++ reader.old ≡ map SpecToken.string p ++ reader.new)) }
+    ensures fits { IfOk result (λ o. IfSome o (λ p. IsPath p)) }
+    ensures shorter { IfOk result (λ o. IfSome o (λ _. length reader.new < length reader.old)) }
+{
+    match text_next(reader) {
+        Some(part) => made(parent.child(alloc, part)),
+        None => Ok(None),
+    }
 }
 
 // The path that comes next, or None, which says nothing.
@@ -42,14 +64,19 @@ fn path_next(alloc: Global, reader: &mut Reader<'_>) -> Result<Option<Path>, NoM
     ensures read { IfOk result (λ o. IfSome o (λ p. reader.old ≡ json_tokens (array (written_texts p)) ++ reader.new)) }
     ensures path { IfOk result (λ o. IfSome o (λ p. path (array_data (text_items p)) ≡ Some p)) }
 {
-    let Some(parts) = parts_next(alloc, reader)? else {
+    let Some(Token::BeginArray) = reader.next() else {
         return Ok(None);
     };
-    match Path::new(alloc, &parts) {
-        Ok(path) => Ok(Some(path)),
-        Err(PathFault::NoMemory) => Err(NoMemory),
-        Err(_) => Ok(None),
+    let Some(mut path) = dim_next(alloc, reader)? else {
+        return Ok(None);
+    };
+    while !reader.take_end_array() {
+        let Some(child) = child_next(alloc, reader, &path)? else {
+            return Ok(None);
+        };
+        path = child;
     }
+    Ok(Some(path))
 }
 
 // The paths of the array that comes next, or None, which says nothing.
