@@ -1,5 +1,5 @@
 -- The children that are walked over, sorted, are a listing of the counts below the path.
-use Rattle.std.proofs.Common.{◌≡◌, ℕ, zero, suc, ◌+◌, ◌<◌, ◌≤◌, ◌⊎◌, Bool, true, false, ◌&&◌, cond, List, [], ◌∷◌, ◌++◌, length, map, get_or, slice_get, Option, Some, None, nat_eq, refl, sym, ap, subst, ◌∙◌, arith, inl, inr, Ordering}
+use Rattle.std.proofs.Common.{◌≡◌, ℕ, zero, suc, ◌+◌, ◌-◌, ◌<◌, ◌≤◌, ◌⊎◌, Bool, true, false, ◌&&◌, cond, List, [], ◌∷◌, ◌++◌, length, map, get_or, slice_get, Option, Some, None, nat_eq, refl, sym, ap, subst, ◌∙◌, arith, inl, inr, Ordering}
 use Rattle.std.specs.Prelude.{nat_lt, option_and_then, count_by, All}
 use Rattle.std.specs.Option.{option_map_or}
 use Rattle.std.specs.Str.{bytes_eq}
@@ -72,6 +72,17 @@ ordered_images (y ∷ ys) h = λ k d low high.
     let next = get_or-map counted_child (y ∷ ys) (k + 1) y d long in
     rw (here, next) (h k y low long)
 
+-- ---- the label at an ordinal
+
+pub at_root : (labels paths : List (List (List ℕ))) → labels ≡ [] ∷ paths → (ord : ℕ) → ord ≡ 0 → slice_get labels ord ≡ Some []
+at_root labels paths e ord root = ap (slice_get labels) root ∙ ap (λ l. slice_get l 0) e
+
+pub behind_root : (labels paths : List (List (List ℕ))) → labels ≡ [] ∷ paths → (ord : ℕ) (path : List (List ℕ)) → 0 < ord → ord < length labels → path ≡ get_or paths (ord - 1) path → slice_get labels ord ≡ Some path
+behind_root labels paths e zero path some within is = absurd (omega (arith, some))
+behind_root labels paths e (suc k) path some within is =
+    let before : suc k - 1 ≡ k = omega arith in
+    ap (λ l. slice_get l (suc k)) e ∙ slice_get-get_or paths k path (omega (arith, within, ap length e)) ∙ ap Some (ap (λ i. get_or paths i path) (sym before) ∙ sym is)
+
 -- ---- the children of a label
 
 module _ (labels : List (List (List ℕ))) (is : IsLabelList labels) (totals : List ℕ) (ord : ℕ) (path : List (List ℕ)) (here : slice_get labels ord ≡ Some path) where
@@ -91,6 +102,10 @@ module _ (labels : List (List (List ℕ))) (is : IsLabelList labels) (totals : L
           let zero_is : suc c ≡ 0 = same_Some (suc c) 0 (sym again ∙ root) in
           absurd (omega arith)
       some (part ∷ q) e = subst (λ p. 0 < length p) (sym e) (omega arith)
+
+  -- so it has one component more
+  pub child_depth : (c : ℕ) → c < length labels → is_child labels ord c ≡ true → length (get_or labels c []) ≡ length path + 1
+  child_depth c lt child = ap length (child_label c lt child).1 ∙ length-append path (last_part (get_or labels c []) ∷ [])
 
   -- the ordinal of the path with one more component is a child
   pub label_child : (q : ℕ) (part : List ℕ) → place labels (path ++ part ∷ []) ≡ Some q → (q < length labels) × (is_child labels ord q ≡ true) × (get_or labels q [] ≡ path ++ part ∷ [])

@@ -17,7 +17,8 @@ use Rattle.facet_names.specs.Arrays.{is_child}
 use Rattle.facet_model.specs.Listing.{PartCount, counted_child, listing_cmp}
 use Rattle.facet_model.specs.declared.result.Child.{Child}
 use Rattle.facet_counts.specs.Children.{entry_of, entries_of, falling, children_at}
-use Rattle.facet_counts.specs.Firsts.{AreFirst}
+use Rattle.facet_counts.specs.declared.firsts.Candidate.{Candidate}
+use Rattle.facet_counts.specs.Firsts.{AreFirst, standing}
 use Rattle.facet_counts.proofs.Below.{sum_of_children}
 use Rattle.facet_counts.proofs.Listed.{child_cmp, ordered_images}
 use Rattle.facet_counts.proofs.Walk.{parent_of_child}
@@ -171,32 +172,28 @@ first_more n children shown new sum number x are more =
 pub as_many_first : (n : ℕ) (children shown : List PartCount) (sum number : ℕ) → AreFirst n children shown sum number → number ≡ length children
 as_many_first n children shown sum number are = are.as_many ∙ length_permutation children are.ordered are.moved
 
--- ---- by ordinals
+-- ---- by candidates
 
-module _ (labels : List (List (List ℕ))) (totals : List ℕ) where
-  map_insert : (ords : List ℕ) (at child : ℕ) → map (entry_of labels totals) (insert ords at child) ≡ insert (map (entry_of labels totals) ords) at (entry_of labels totals child)
-  map_insert ords at child =
-      map-append (entry_of labels totals) (take at ords) (child ∷ drop at ords)
-      ∙ (λ i. sym (take-map (entry_of labels totals) at ords) i ++ entry_of labels totals child ∷ sym (drop-map (entry_of labels totals) at ords) i)
+module _ (n at : ℕ) (child : Candidate) (candidates : List Candidate) (within : at ≤ length candidates)
+    (low : 0 < at → before (standing child) (get_or (map standing candidates) (at - 1) (standing child)) ≡ false) where
+  within_entries : at ≤ length (map standing candidates)
+  within_entries = omega (arith, within, length-map candidates standing)
 
-  module _ (n at child : ℕ) (ords : List ℕ) (within : at ≤ length ords)
-      (low : 0 < at → before (entry_of labels totals child) (entry_of labels totals (get_or ords (at - 1) 0)) ≡ false) where
-    within_entries : at ≤ length (map (entry_of labels totals) ords)
-    within_entries = omega (arith, within, length-map ords (entry_of labels totals))
+  pub chosen_by : (at < length candidates → before (standing child) (get_or (map standing candidates) at (standing child)) ≡ true) → at < n → (new : List Candidate) → new ≡ take n (insert candidates at child)
+      → (ordered : List PartCount) → IsSorted listing_cmp ordered → map standing candidates ≡ take n ordered → MoreFirst n ordered (standing child) (map standing new)
+  chosen_by high lt new e ordered sorted first =
+      chosen_one n at ordered (map standing candidates) (standing child) sorted first within_entries low lt
+      (λ inside. high (omega (arith, inside, length-map candidates standing)))
+      (map standing new)
+      (ap (map standing) e ∙ sym (take-map standing n (insert candidates at child)) ∙ ap (take n) map_insert)
+    where
+      map_insert : map standing (insert candidates at child) ≡ insert (map standing candidates) at (standing child)
+      map_insert =
+          map-append standing (take at candidates) (child ∷ drop at candidates)
+          ∙ (λ i. sym (take-map standing at candidates) i ++ standing child ∷ sym (drop-map standing at candidates) i)
 
-    low_entries : 0 < at → before (entry_of labels totals child) (get_or (map (entry_of labels totals) ords) (at - 1) (entry_of labels totals child)) ≡ false
-    low_entries some = ap (before (entry_of labels totals child)) (get_or-map (entry_of labels totals) ords (at - 1) 0 (entry_of labels totals child) (omega (arith, some, within))) ∙ low some
-
-    pub chosen_by : (at < length ords → before (entry_of labels totals child) (entry_of labels totals (get_or ords at 0)) ≡ true) → at < n → (new : List ℕ) → new ≡ take n (insert ords at child)
-        → (ordered : List PartCount) → IsSorted listing_cmp ordered → map (entry_of labels totals) ords ≡ take n ordered → MoreFirst n ordered (entry_of labels totals child) (map (entry_of labels totals) new)
-    chosen_by high lt new e ordered sorted first =
-        chosen_one n at ordered (map (entry_of labels totals) ords) (entry_of labels totals child) sorted first within_entries low_entries lt
-        (λ inside. let lower : at < length ords = omega (arith, inside, length-map ords (entry_of labels totals)) in ap (before (entry_of labels totals child)) (get_or-map (entry_of labels totals) ords at 0 (entry_of labels totals child) lower) ∙ high lower)
-        (map (entry_of labels totals) new)
-        (ap (map (entry_of labels totals)) e ∙ sym (take-map (entry_of labels totals) n (insert ords at child)) ∙ ap (take n) (map_insert ords at child))
-
-    pub passed_by : n ≤ at → (ordered : List PartCount) → IsSorted listing_cmp ordered → map (entry_of labels totals) ords ≡ take n ordered → MoreFirst n ordered (entry_of labels totals child) (map (entry_of labels totals) ords)
-    passed_by end ordered sorted first = not_chosen n at ordered (map (entry_of labels totals) ords) (entry_of labels totals child) sorted first within_entries low_entries end
+  pub passed_by : n ≤ at → (ordered : List PartCount) → IsSorted listing_cmp ordered → map standing candidates ≡ take n ordered → MoreFirst n ordered (standing child) (map standing candidates)
+  passed_by end ordered sorted first = not_chosen n at ordered (map standing candidates) (standing child) sorted first within_entries low end
 
 -- ---- all sorted
 

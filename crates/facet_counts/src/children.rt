@@ -17,13 +17,8 @@ fn last_part(alloc: Global, path: &Path) -> Result<Word, NoMemory>
     Ok(Word::new(alloc, path.part(path.len() - 1))?.unwrap())
 }
 
-/// A child with its count.
-pub fn child_with(
-    alloc: Global,
-    view: &TaxoView,
-    totals: &[u32],
-    child: u32,
-) -> Result<Child, NoMemory>
+// A child with its count.
+fn child_with(alloc: Global, view: &TaxoView, totals: &[u32], child: u32) -> Result<Child, NoMemory>
     requires some { 0 < child }
     requires within { child < length view.now }
     requires sized { length totals.now ≡ length view.now }

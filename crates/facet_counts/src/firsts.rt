@@ -1,15 +1,16 @@
 //! The first children of a label in the order of a listing.
-ghost use Rattle.std.specs.Prelude.{◌≡◌, ◌<◌, ◌≤◌, ◌-◌, ◌++◌, ◌*◌, ◌∷◌, [], ℕ, List, true, false, All, length, map, take, slice_index_or, IfOk, OnOk};
+ghost use Rattle.std.specs.Prelude.{◌≡◌, ◌<◌, ◌≤◌, ◌+◌, ◌-◌, ◌++◌, ◌*◌, ◌∷◌, [], ℕ, List, true, false, All, length, map, take, slice_index_or, IfOk, OnOk};
 ghost use Rattle.std.specs.List.Sorted.{IsPermutation, IsSorted};
 ghost use Rattle.std.specs.Ordering.{is_lt};
+ghost use Rattle.facet_names.specs.Arrays.{is_child};
 ghost use Rattle.facet_names.specs.Paths.{last_part};
 ghost use Rattle.facet_model.specs.Listing.{PartCount, counted_child, listing_cmp};
-ghost use Rattle.facet_counts.specs.Children.{entry_of, entries_of, children_at};
-ghost use Rattle.facet_counts.specs.Firsts.{AreFirst, AreChosen};
+ghost use Rattle.facet_counts.specs.Children.{entries_of, children_at};
+ghost use Rattle.facet_counts.specs.Firsts.{AreFirst, AreChosen, IsShort, standing};
 
-use crate::children::{child_with, children_below, sum_of};
+use crate::children::{children_below, sum_of};
 use crate::links::{child_of, sibling_of};
-use facet_model::Child;
+use facet_model::{Child, Word};
 use facet_names::NoMemory;
 use std::alloc::Global;
 use taxo_list::{Labelled, TaxoView};
@@ -27,158 +28,177 @@ pub struct Firsts {
     pub number: u32,
 }
 
-/// The same in a walk, by ordinals: no text is copied.
+/// A child that is among the first ones so far. Its text is the view's.
 #[derive(Drop)]
-pub(crate) struct Chosen {
-    pub(crate) ords: Vec<u32>,
+pub(crate) struct Candidate<'a> {
+    pub(crate) text: &'a str,
+    pub(crate) count: u32,
+}
+
+/// The first children so far, and what is told of all that were walked over.
+#[derive(Drop)]
+pub(crate) struct Chosen<'a> {
+    pub(crate) candidates: Vec<Candidate<'a>>,
     pub(crate) sum: u64,
     pub(crate) number: u32,
 }
 
-// The last component of the path at an ordinal.
-fn text_of(view: &TaxoView, ord: u32) -> &str
+// How many components a label has. The last one of each of its children stands behind so many.
+fn depth_of(view: &TaxoView, ord: u32) -> usize
+    requires { ord < length view.now }
+    ensures { (child : ℕ) → child < length view.now → is_child view.now ord child ≡ true
+        → length (slice_index_or view.now child []) ≡ result + 1 }
+{
+    let paths = view.paths();
+    if ord == 0 {
+        return 0;
+    }
+    paths[ord as usize - 1].len()
+}
+
+// The last component of a label, behind so many.
+fn text_of(view: &TaxoView, ord: u32, depth: usize) -> &str
     requires some { 0 < ord }
     requires within { ord < length view.now }
-    ensures { result.now ≡ last_part (slice_index_or view.now ord []) }
+    requires last { length (slice_index_or view.now ord []) ≡ depth + 1 }
+    ensures text { result.now ≡ last_part (slice_index_or view.now ord []) }
+    ensures filled { 0 < length result.now }
+    ensures short { length result.now ≤ 1024 }
 {
-    let path = view.path_of(ord);
-    path.part(path.len() - 1)
+    view.path_of(ord).part(depth)
 }
 
 // Whether a child comes before another one. Their texts are compared where their counts are equal.
-fn is_before(view: &TaxoView, totals: &[u32], one: u32, other: u32) -> bool
-    requires some { 0 < one }
-    requires within { one < length view.now }
-    requires other_some { 0 < other }
-    requires other_within { other < length view.now }
-    requires sized { length totals.now ≡ length view.now }
-    ensures { result ≡ is_lt (listing_cmp (entry_of view.now totals.now one) (entry_of view.now totals.now other)) }
+fn comes_before(one: &Candidate<'_>, other: &Candidate<'_>) -> bool
+    ensures { result ≡ is_lt (listing_cmp (standing one.now) (standing other.now)) }
 {
-    let count = totals[one as usize];
-    let other_count = totals[other as usize];
-    if count != other_count {
-        return count > other_count;
+    if one.count != other.count {
+        return one.count > other.count;
     }
-    text_of(view, one).cmp(text_of(view, other)).is_lt()
+    one.text.cmp(other.text).is_lt()
 }
 
-// Where a child stands among others, looked for from the last one on.
-fn place_among(view: &TaxoView, totals: &[u32], ords: &[u32], child: u32) -> usize
-    requires some { 0 < child }
-    requires within { child < length view.now }
-    requires sized { length totals.now ≡ length view.now }
-    requires ords_within { All (λ ord. (0 < ord) × (ord < length view.now)) ords.now }
-    ensures within { result ≤ length ords.now }
-    ensures after { 0 < result → is_lt (listing_cmp (entry_of view.now totals.now child)
-        (entry_of view.now totals.now (slice_index_or ords.now (result - 1) 0))) ≡ false }
-    ensures before { result < length ords.now → is_lt (listing_cmp (entry_of view.now totals.now child)
-        (entry_of view.now totals.now (slice_index_or ords.now result 0))) ≡ true }
+// Where a child stands among others. Most stand behind all of them, and where the labels were added in the order of their texts, each stands
+// before all: so these two places are asked first.
+fn place_among(child: &Candidate<'_>, candidates: &[Candidate<'_>]) -> usize
+    ensures within { result ≤ length candidates.now }
+    ensures after { 0 < result → is_lt (listing_cmp (standing child.now)
+        (slice_index_or (map standing candidates.now) (result - 1) (standing child.now))) ≡ false }
+    ensures before { result < length candidates.now → is_lt (listing_cmp (standing child.now)
+        (slice_index_or (map standing candidates.now) result (standing child.now))) ≡ true }
 {
-    let mut at = ords.len();
-    while at > 0 {
-        if !is_before(view, totals, child, ords[at - 1]) {
-            return at;
-        }
-        at -= 1;
+    let len = candidates.len();
+    if len == 0 || !comes_before(child, &candidates[len - 1]) {
+        return len;
     }
-    at
+    if comes_before(child, &candidates[0]) {
+        return 0;
+    }
+    let mut low = 1;
+    let mut high = len - 1;
+    while low < high {
+        let middle = low + (high - low) / 2;
+        if comes_before(child, &candidates[middle]) {
+            high = middle;
+        } else {
+            low = middle + 1;
+        }
+    }
+    low
 }
 
 // Puts a child among the first ones, where it is one of them.
-fn choose(
-    view: &TaxoView,
-    totals: &[u32],
-    child: u32,
+fn choose<'a>(
+    child: Candidate<'a>,
     n: usize,
-    ords: &mut Vec<u32>,
+    candidates: &mut Vec<Candidate<'a>>,
 ) -> Result<(), NoMemory>
-    requires some { 0 < child }
-    requires within { child < length view.now }
-    requires sized { length totals.now ≡ length view.now }
-    requires ords_within { All (λ ord. (0 < ord) × (ord < length view.now)) ords.old.items }
+    requires short { IsShort child }
+    requires all_short { All IsShort candidates.old.items }
     ensures chosen { OnOk result ((ordered : List PartCount) → IsSorted listing_cmp ordered
-        → map (entry_of view.now totals.now) ords.old.items ≡ take n ordered
-        → (more : List PartCount) × IsPermutation (entry_of view.now totals.now child ∷ ordered) more × IsSorted listing_cmp more
-        × (map (entry_of view.now totals.now) ords.new.items ≡ take n more)) }
-    ensures within { OnOk result (All (λ ord. (0 < ord) × (ord < length view.now)) ords.new.items) }
+        → map standing candidates.old.items ≡ take n ordered
+        → (more : List PartCount) × IsPermutation (standing child.entry ∷ ordered) more × IsSorted listing_cmp more
+        × (map standing candidates.new.items ≡ take n more)) }
+    ensures short { OnOk result (All IsShort candidates.new.items) }
 {
-    let at = place_among(view, totals, ords, child);
+    let at = place_among(&child, candidates);
     if at < n {
-        ords.insert(at, child)?;
-        ords.truncate(n);
+        candidates.insert(at, child)?;
+        candidates.truncate(n);
     }
     Ok(())
 }
 
 // Chooses among one more child, where its count is above 0.
-fn choose_among(
-    view: &TaxoView,
+fn choose_among<'a>(
+    view: &'a TaxoView,
     totals: &[u32],
     child: u32,
+    depth: usize,
     n: usize,
-    chosen: &mut Chosen,
+    chosen: &mut Chosen<'a>,
 ) -> Result<(), NoMemory>
     requires some { 0 < child }
     requires within { child < length view.now }
+    requires last { length (slice_index_or view.now child []) ≡ depth + 1 }
     requires sized { length totals.now ≡ length view.now }
     requires small { slice_index_or totals.now child 0 ≤ 1000000 }
     requires few { chosen.old.number ≤ 1000000 }
     requires low { chosen.old.sum ≤ 1000000 * chosen.old.number }
-    requires ords_within { All (λ ord. (0 < ord) × (ord < length view.now)) chosen.old.ords.items }
-    ensures { OnOk result ((children : List PartCount) → AreChosen view.now totals.now n children chosen.old
-        → AreChosen view.now totals.now n (children ++ entries_of view.now totals.now (child ∷ [])) chosen.new) }
+    requires short { All IsShort chosen.old.candidates.items }
+    ensures { OnOk result ((children : List PartCount) → AreChosen n children chosen.old
+        → AreChosen n (children ++ entries_of view.now totals.now (child ∷ [])) chosen.new) }
 {
     let count = totals[child as usize];
     if count > 0 {
-        choose(view, totals, child, n, &mut chosen.ords)?;
+        let text = text_of(view, child, depth);
+        choose(Candidate { text, count }, n, &mut chosen.candidates)?;
         chosen.sum += count as u64;
         chosen.number += 1;
     }
     Ok(())
 }
 
-// The first children of a label, chosen in one walk. It takes memory for n ordinals.
-fn chosen_below(
+// The first children of a label, chosen in one walk. It takes memory for n candidates.
+fn chosen_below<'a>(
     alloc: Global,
-    view: &TaxoView,
+    view: &'a TaxoView,
     totals: &[u32],
     ord: u32,
     n: usize,
-) -> Result<Chosen, NoMemory>
+) -> Result<Chosen<'a>, NoMemory>
     requires within { ord < length view.now }
     requires few { length view.now ≤ 1000000 }
     requires sized { length totals.now ≡ length view.now }
     requires small { (k : ℕ) → 0 < k → k < length view.now → slice_index_or totals.now k 0 ≤ 1000000 }
-    ensures { IfOk result (λ c. AreChosen view.now totals.now n (children_at view.now totals.now ord) c) }
+    ensures { IfOk result (λ c. AreChosen n (children_at view.now totals.now ord) c) }
 {
     let mut chosen = Chosen {
-        ords: Vec::new(alloc),
+        candidates: Vec::new(alloc),
         sum: 0,
         number: 0,
     };
+    let depth = depth_of(view, ord);
     let mut next = child_of(view, ord);
     while let Some(child) = next {
-        choose_among(view, totals, child, n, &mut chosen)?;
+        choose_among(view, totals, child, depth, n, &mut chosen)?;
         next = sibling_of(view, child);
     }
     Ok(chosen)
 }
 
-// The children at these ordinals.
-fn children_of(
-    alloc: Global,
-    view: &TaxoView,
-    totals: &[u32],
-    ords: &[u32],
-) -> Result<Vec<Child>, NoMemory>
-    requires sized { length totals.now ≡ length view.now }
-    requires within { All (λ ord. (0 < ord) × (ord < length view.now)) ords.now }
-    ensures { IfOk result (λ v. map counted_child v.items ≡ map (entry_of view.now totals.now) ords.now) }
+// The children that were chosen, each with a copy of its text.
+fn children_of(alloc: Global, candidates: &[Candidate<'_>]) -> Result<Vec<Child>, NoMemory>
+    requires { All IsShort candidates.now }
+    ensures { IfOk result (λ v. map counted_child v.items ≡ map standing candidates.now) }
 {
-    let mut children = Vec::with_capacity(alloc, ords.len())?;
-    for ord in ords {
-        let child = child_with(alloc, view, totals, *ord)?;
-        children.push(child)?;
+    let mut children = Vec::with_capacity(alloc, candidates.len())?;
+    for candidate in candidates {
+        let part = Word::new(alloc, candidate.text)?.unwrap();
+        children.push(Child {
+            part,
+            count: candidate.count,
+        })?;
     }
     Ok(children)
 }
@@ -232,7 +252,7 @@ pub fn first_below(
         return sorted_below(alloc, view, totals, ord, n as usize);
     }
     let chosen = chosen_below(alloc, view, totals, ord, n as usize)?;
-    let children = children_of(alloc, view, totals, &chosen.ords)?;
+    let children = children_of(alloc, &chosen.candidates)?;
     Ok(Firsts {
         children,
         sum: chosen.sum,

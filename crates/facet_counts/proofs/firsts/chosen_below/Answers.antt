@@ -1,4 +1,4 @@
-use Rattle.std.proofs.Common.{arith, ap, refl, sym, subst, ◌≡◌, ◌<◌, ◌∙◌, ◌++◌, ◌∷◌, [], ℕ, List, map, true, suc, Some, length}
+use Rattle.std.proofs.Common.{arith, ap, refl, sym, subst, ◌≡◌, ◌<◌, ◌∙◌, ◌++◌, ◌∷◌, [], List, map, true, suc, Some, length}
 use Rattle.std.specs.Prelude.{All, IfSome}
 use Rattle.std.specs.Option.{option_map_or}
 use Rattle.std.proofs.lemmas.List.{length-append}
@@ -7,8 +7,9 @@ use Rattle.std.proofs.lemmas.Option.{IfSome_then}
 use Rattle.facet_names.specs.Arrays.{is_child, greatest}
 use Rattle.facet_names.proofs.Greatest.{greatest_passes}
 use Rattle.facet_model.specs.Listing.{PartCount}
-use Rattle.facet_counts.specs.Children.{entry_of, entries_of, children_at}
-use Rattle.facet_counts.specs.Firsts.{AreFirst}
+use Rattle.facet_counts.specs.Children.{entries_of, children_at}
+use Rattle.facet_counts.specs.declared.firsts.Candidate.{Candidate}
+use Rattle.facet_counts.specs.Firsts.{AreFirst, IsShort, standing}
 use Rattle.facet_counts.proofs.Ordered.{as_many_first, none_first}
 use Rattle.facet_counts.proofs.Walk.{children_from, walk_starts, walk_goes_on, sibling_is, children_few, smaller_next}
 use Rattle.facet_counts.proofs.firsts.chosen_below.Goals as goal
@@ -18,8 +19,8 @@ loop-next-init c = (
   [],
   ap (children_from c.args.view.now c.args.totals.now c.args.ord) c.child_of-next.ensures ∙ walk_starts c.args.view.now c.args.totals.now c.args.ord,
   record {
-    first = subst (λ (l : List ℕ). AreFirst c.args.n [] (map (entry_of c.args.view.now c.args.totals.now) l) 0 0) (sym c.new.ensures.items) (none_first c.args.n);
-    within = subst (All (λ ord. (0 < ord) × (ord < length c.args.view.now))) (sym c.new.ensures.items) (All-nil (λ ord. (0 < ord) × (ord < length c.args.view.now)));
+    first = subst (λ (l : List Candidate). AreFirst c.args.n [] (map standing l) 0 0) (sym c.new.ensures.items) (none_first c.args.n);
+    short = subst (All IsShort) (sym c.new.ensures.items) (All-nil IsShort);
     small = omega arith;
   },
   subst (λ o. IfSome o (λ k. (k < length c.args.view.now) × (is_child c.args.view.now c.args.ord k ≡ true))) (sym c.child_of-next.ensures) (greatest_passes (is_child c.args.view.now c.args.ord) (length c.args.view.now)),
@@ -30,7 +31,7 @@ choose_among-requires-clause-few c =
     let chosen = c.loop-next.chosen in
     let seen : List PartCount = c.loop-next.invariant.0 in
     let left : List PartCount = children_from c.args.view.now c.args.totals.now c.args.ord c.loop-next.next in
-    let many : chosen.number ≡ length seen = as_many_first c.args.n seen (map (entry_of c.args.view.now c.args.totals.now) chosen.ords.items) chosen.sum chosen.number c.loop-next.invariant.2.first in
+    let many : chosen.number ≡ length seen = as_many_first c.args.n seen (map standing chosen.candidates.items) chosen.sum chosen.number c.loop-next.invariant.2.first in
     omega (arith, many, ap length c.loop-next.invariant.1, length-append seen left, children_few c.args.view.now c.args.totals.now c.args.ord, c.requires.few)
 
 pub loop-next-smaller : goal.loop-next-smaller

@@ -1,11 +1,18 @@
-use Rattle.std.proofs.Common.{◌≡◌, ◌<◌, ◌≤◌, true, length, get_or}
+use Rattle.std.proofs.Common.{◌≡◌, ◌<◌, ◌≤◌, ◌-◌, true, false, length, map, get_or}
 use Rattle.std.specs.Ordering.{is_lt}
 use Rattle.facet_model.specs.Listing.{listing_cmp}
-use Rattle.facet_counts.specs.Children.{entry_of}
+use Rattle.facet_counts.specs.Firsts.{standing}
 use Rattle.facet_counts.proofs.firsts.place_among.Given as goal
 
-abbrev pub invariant-loop-at : goal.invariant-loop-at
-invariant-loop-at l = (l.at ≤ length l.ords) × (l.at < length l.ords → is_lt (listing_cmp (entry_of l.view l.totals l.child) (entry_of l.view l.totals (get_or l.ords l.at 0))) ≡ true)
+abbrev pub invariant-loop-low : goal.invariant-loop-low
+invariant-loop-low l =
+    record {
+      some : 0 < l.low;
+      order : l.low ≤ l.high;
+      within : l.high < length l.candidates;
+      after : is_lt (listing_cmp (standing l.child) (get_or (map standing l.candidates) (l.low - 1) (standing l.child))) ≡ false;
+      before : is_lt (listing_cmp (standing l.child) (get_or (map standing l.candidates) l.high (standing l.child))) ≡ true;
+    }
 
-abbrev pub decreases-loop-at : goal.decreases-loop-at
-decreases-loop-at l = l.at
+abbrev pub decreases-loop-low : goal.decreases-loop-low
+decreases-loop-low l = l.high - l.low
