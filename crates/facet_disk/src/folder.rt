@@ -1,3 +1,4 @@
+ghost use Rattle.std.specs.IoError.{error_kind};
 ghost use Rattle.std.specs.Prelude.{◌≡◌, ◌≢◌, ◌≤◌, ◌∷◌, [], None, IfOk, length};
 ghost use Rattle.facet_disk.specs.declared.fault.DiskFault.TheVariants.{Failed, Absent, Present, NoMemory as Memory};
 ghost use Rattle.facet_disk.specs.Crashes.{IsNumbered};
@@ -61,6 +62,8 @@ fn absent_fault(faults: &mut u64, failures: &mut u64, error: io::Error, name: Fi
     ensures kinds { IsOneOf (Failed ∷ Absent name ∷ []) result }
     ensures failed { result ≡ Failed → Rose failures.old failures.new }
     ensures due { result ≢ Failed → failures.new ≡ failures.old }
+    ensures absent { error_kind error ≡ ErrorKind.NotFound → result ≡ Absent name }
+    ensures other { error_kind error ≢ ErrorKind.NotFound → result ≡ Failed }
 {
     count_fault(faults);
     if error.kind() == ErrorKind::NotFound {
