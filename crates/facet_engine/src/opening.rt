@@ -5,7 +5,6 @@ ghost use Rattle.facet_disk.specs.Calls.{Rose};
 ghost use Rattle.facet_disk.specs.Images.{Told};
 ghost use Rattle.facet_output.specs.Seen.{opened_seen};
 ghost use Rattle.facet_words.specs.CommandViews.{settings_view};
-ghost use Rattle.seg_decoding.specs.Decoding.{records_in};
 ghost use Rattle.store_opening.specs.declared.fault.OpenFault.TheVariants.{Disk as FaultOfDisk, NoMemory as NoRoom};
 ghost use Rattle.store_opening.specs.Faults.{IsSound};
 ghost use Rattle.store_opening.specs.Files.{files, greatest_number};
@@ -32,7 +31,7 @@ use facet_config::FacetsConfig;
 use facet_disk::Disk;
 use facet_names::{NoMemory, Path};
 use facet_words::Settings;
-use index_state::Operation;
+use index_state::{Operation, count_documents};
 use pair_manager::{CommitPoint, Manager, Pass, Publication};
 use seg_file::Segment;
 use std::alloc::Global;
@@ -102,18 +101,6 @@ fn without_memory<D: Disk>(disk: D) -> NotOpened<D>
         fault: OpenFault::NoMemory,
         disk,
     }
-}
-
-// How many documents these segments have, those that are not live left out.
-fn count_documents(segments: &[Arc<Segment>]) -> u64
-    requires { length (records_in (map arc_value segments.now)) ≤ 1000000 }
-    ensures { result ≡ length (records_in (map arc_value segments.now)) }
-{
-    let mut count = 0;
-    for segment in segments {
-        count += segment.live() as u64;
-    }
-    count
 }
 
 // The manager over these labels, documents and settings, with the config that it shares, and the first tokens of the operations and the pairs.
@@ -203,7 +190,7 @@ impl<D: Disk, N: Name + Start> System<D, N> {
             segments,
         } = store;
         let point = CommitPoint {
-            operations: count_documents(&segments),
+            operations: count_documents(&segments) as u64,
             labels: view.size(),
             failed: None,
         };

@@ -47,7 +47,7 @@ pub fn shared(alloc: Global, segments: &[Arc<Segment>]) -> Result<Vec<Arc<Segmen
 }
 
 /// How many documents these segments have, those that are not live left out.
-pub fn count(segments: &[Arc<Segment>]) -> usize
+pub fn count_documents(segments: &[Arc<Segment>]) -> usize
     requires { length (records_in (map arc_value segments.now)) ≤ 1000000 }
     ensures { result ≡ length (records_in (map arc_value segments.now)) }
 {

@@ -8,6 +8,7 @@ mod state;
 mod view;
 
 pub use fault::AppendFault;
+pub use flushing::count_documents;
 pub use operation::Operation;
 pub use state::IndexState;
 pub use view::IndexView;

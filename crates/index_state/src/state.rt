@@ -9,7 +9,7 @@ ghost use Rattle.index_state.specs.Index.{StandsFor, StandsForMore, opened, docs
 ghost use Rattle.index_state.specs.declared.fault.AppendFault.TheVariants.{DocsFull, NoMemory as Memory};
 
 use crate::fault::AppendFault;
-use crate::flushing::{count, flush, shared, zeros};
+use crate::flushing::{count_documents, flush, shared, zeros};
 use crate::operation::Operation;
 use crate::view::IndexView;
 use chronicle::{Chronicle, Standing, Token};
@@ -85,7 +85,7 @@ impl IndexState {
         ensures config { IfOk result (λ s. (s.config ≡ arc_value config) × (s.max_docs ≡ max_docs)) }
         ensures stands { IfOk result (λ s. StandsFor s (opened s.docs)) }
     {
-        let sessions = zeros(alloc, count(&segments))?;
+        let sessions = zeros(alloc, count_documents(&segments))?;
         Ok(IndexState {
             alloc,
             segments,

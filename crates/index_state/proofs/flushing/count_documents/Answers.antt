@@ -2,7 +2,7 @@ use Rattle.std.proofs.Common.{◌≡◌, ◌+◌, ◌∙◌, length, sym, ap, ar
 use Rattle.std.specs.Arc.{arc_value}
 use Rattle.facet_model.specs.Stored.{Records, live_before}
 use Rattle.index_state.proofs.Counting.{counted}
-use Rattle.facet_engine.proofs.opening.count_documents.Goals as goal
+use Rattle.index_state.proofs.flushing.count_documents.Goals as goal
 
 pub loop-segment-preserved : goal.loop-segment-preserved
 loop-segment-preserved c =
