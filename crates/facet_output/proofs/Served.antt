@@ -14,14 +14,14 @@ use Rattle.facet_model.specs.Flags.{Config}
 use Rattle.facet_model.specs.Histories.{Operation, docs, knows}
 use Rattle.facet_replies.specs.ReplyLines.{reply_line}
 use Rattle.facet_words.specs.Answers as words_answers
-use Rattle.facet_words.specs.Answers.{Store, Shelf, with_labels, flushed, hits_of, first_hits}
+use Rattle.facet_words.specs.Answers.{Shelf, with_labels, hits_of, first_hits}
 use Rattle.facet_words.specs.Commands as words
 use Rattle.facet_words.specs.Commands.{Settings, Search}
 use Rattle.facet_output.specs.Answered.{Answered}
 use Rattle.facet_words.specs.Sessions.Commands.{Command, Order, add, refresh, search, document, stats, commit}
 use Rattle.facet_output.specs.Held.{Held, held_after}
 use Rattle.facet_output.specs.OneSession.{AddLeaves, Leaves, LeavesFirst, room, is_resolved}
-use Rattle.facet_output.specs.OneShelf.{command_of, order_of, IsServed, AreServed, EndsCommit, Served, OneSessionIsServed, RightIsServed}
+use Rattle.facet_output.specs.OneShelf.{command_of, order_of, Served, OneSessionIsServed}
 use Rattle.facet_output.specs.Output.{Opened}
 use Rattle.facet_output.specs.OutputLines.{reply_lines}
 use Rattle.facet_replies.specs.Replies.{Refusal, broken, labels_full, docs_full, no_such_document, disk_failed, closed, numbers_spent, no_memory, Reply, placed, numbered, found, shown, stats as numbers, refused}
@@ -68,11 +68,11 @@ of_one (Some d) c e = ap Some (ap (λ (l : List ℕ). unwrap_or (slice_get l 0) 
 -- ---- shelves
 
 -- a shelf of these parts
-abbrev shelf_with : List (List (List ℕ)) → List Doc → ℕ × ℕ → ℕ → ℕ → Store → Shelf
-shelf_with labels documents pair segments waiting store = record { labels = labels; docs = documents; taken = pair.0; taken_labels = pair.1; segments = segments; waiting = waiting; store = store }
+abbrev shelf_with : List (List (List ℕ)) → List Doc → ℕ × ℕ → Option ℕ → Shelf
+shelf_with labels documents pair shut = record { labels = labels; docs = documents; taken = pair.0; taken_labels = pair.1; closed = shut }
 
-shelf_same : (labels labels' : List (List (List ℕ))) (ds ds' : List Doc) (pair : ℕ × ℕ) (segments waiting : ℕ) (store : Store) → labels ≡ labels' → ds ≡ ds' → shelf_with labels ds pair segments waiting store ≡ shelf_with labels' ds' pair segments waiting store
-shelf_same labels labels' ds ds' pair segments waiting store l d = λ i. shelf_with (l i) (d i) pair segments waiting store
+shelf_same : (labels labels' : List (List (List ℕ))) (ds ds' : List Doc) (pair : ℕ × ℕ) (shut : Option ℕ) → labels ≡ labels' → ds ≡ ds' → shelf_with labels ds pair shut ≡ shelf_with labels' ds' pair shut
+shelf_same labels labels' ds ds' pair shut l d = λ i. shelf_with (l i) (d i) pair shut
 
 -- the documents of operations
 abbrev documents_in : Entries Doc → List Doc
@@ -107,12 +107,10 @@ same_end pairs pair ends front n other e =
 -- the shelf is of what was seen
 record Fits (seen : Seen) (shelf : Shelf) : Type 0 where
   pair : ℕ × ℕ
-  segments : ℕ
-  waiting : ℕ
-  store : Store
-  is : shelf ≡ shelf_with (labels_of seen) (documents_in seen.operations) pair segments waiting store
+  shut : Option ℕ
+  is : shelf ≡ shelf_with (labels_of seen) (documents_in seen.operations) pair shut
   ends : EndsWith seen.pairs pair
-  closed_so : failures seen.commits ≡ option_to_list store.closed
+  closed_so : failures seen.commits ≡ option_to_list shut
 
 -- what is known of the reply to a command, and of what was entered beside it
 record Facts (settings : Settings) (before after : Seen) (held : Held) (session : ℕ) (command : Command) (took : Option (ℕ × ℕ)) (reply : Reply) : Type 0 where
@@ -129,7 +127,7 @@ record Goes (settings : Settings) (command : words.Command) (reply : Reply) (she
   told : Reply
   next : Shelf
   same : told ≡ reply
-  served : IsServed settings shelf command told next
+  right : words_answers.RightReply settings shelf command told next
   fits : Fits after next
 
 -- ---- one step, where nobody else enters anything
@@ -138,9 +136,9 @@ module _ (settings : Settings) (before after : Seen) (held : Held) (session : �
     (operations_so : (ops : Entries Doc) → EntersNone session before.operations ops → IsPrefix ops after.operations → before.operations ≡ ops)
     (pairs_so : (ps : Entries (ℕ × ℕ)) → EntersNone session before.pairs ps → IsPrefix ps after.pairs → before.pairs ≡ ps)
     (commits_so : (cs : Entries CommitPoint) → EntersNone session before.commits cs → IsPrefix cs after.commits → before.commits ≡ cs)
-    (pair : ℕ × ℕ) (segments waiting : ℕ) (store : Store) (ends : EndsWith before.pairs pair) (closed_so : failures before.commits ≡ option_to_list store.closed) where
+    (pair : ℕ × ℕ) (shut : Option ℕ) (ends : EndsWith before.pairs pair) (closed_so : failures before.commits ≡ option_to_list shut) where
   abbrev S : Shelf
-  S = shelf_with (labels_of before) (documents_in before.operations) pair segments waiting store
+  S = shelf_with (labels_of before) (documents_in before.operations) pair shut
 
   abbrev D : List Doc
   D = documents_in before.operations
@@ -157,16 +155,16 @@ module _ (settings : Settings) (before after : Seen) (held : Held) (session : �
   still_ends : EntersNone session before.pairs after.pairs → EndsWith after.pairs pair
   still_ends none = subst (λ (ps : Entries (ℕ × ℕ)). EndsWith ps pair) (no_pair none) ends
 
-  still_closed : EntersNone session before.commits after.commits → failures after.commits ≡ option_to_list store.closed
-  still_closed none = subst (λ (cs : Entries CommitPoint). failures cs ≡ option_to_list store.closed) (no_commit none) closed_so
+  still_closed : EntersNone session before.commits after.commits → failures after.commits ≡ option_to_list shut
+  still_closed none = subst (λ (cs : Entries CommitPoint). failures cs ≡ option_to_list shut) (no_commit none) closed_so
 
   still_documents : EntersNone session before.operations after.operations → D ≡ documents_in after.operations
   still_documents none = ap documents_in (no_operation none)
 
   -- the shelf after a command that enters no pair and no commit
-  fits_with : (labels : List (List (List ℕ))) (ds : List Doc) (more : ℕ) → labels ≡ labels_of after → ds ≡ documents_in after.operations → EntersNone session before.pairs after.pairs → EntersNone session before.commits after.commits
-      → Fits after (shelf_with labels ds pair segments more store)
-  fits_with labels ds more l d pairs commits = record { pair = pair; segments = segments; waiting = more; store = store; is = shelf_same labels (labels_of after) ds (documents_in after.operations) pair segments more store l d; ends = still_ends pairs; closed_so = still_closed commits }
+  fits_with : (labels : List (List (List ℕ))) (ds : List Doc) → labels ≡ labels_of after → ds ≡ documents_in after.operations → EntersNone session before.pairs after.pairs → EntersNone session before.commits after.commits
+      → Fits after (shelf_with labels ds pair shut)
+  fits_with labels ds l d pairs commits = record { pair = pair; shut = shut; is = shelf_same labels (labels_of after) ds (documents_in after.operations) pair shut l d; ends = still_ends pairs; closed_so = still_closed commits }
 
   -- ---- add
 
@@ -211,10 +209,10 @@ module _ (settings : Settings) (before after : Seen) (held : Held) (session : �
         let cut : labels_of after ≡ take fits_in all = first.first ∙ ap (λ n. take n all) full in
         record {
           told = refused (labels_full (length (labels_of after)));
-          next = shelf_with (labels_of after) D pair segments waiting store;
+          next = shelf_with (labels_of after) D pair shut;
           same = sym e;
-          answer = inl (rw test (ap (λ n. refused (labels_full n)) full, shelf_same (labels_of after) (take fits_in all) D D pair segments waiting store cut refl));
-          fits = fits_with (labels_of after) D waiting refl (still_documents (enters_none (refused (labels_full (length (labels_of after)))) e refl)) facts.1 facts.0;
+          answer = inl (rw test (ap (λ n. refused (labels_full n)) full, shelf_same (labels_of after) (take fits_in all) D D pair shut cut refl));
+          fits = fits_with (labels_of after) D refl (still_documents (enters_none (refused (labels_full (length (labels_of after)))) e refl)) facts.1 facts.0;
         }
 
     -- all the labels fit, and are there
@@ -238,10 +236,10 @@ module _ (settings : Settings) (before after : Seen) (held : Held) (session : �
         let test = labels.1 in
         record {
           told = placed at;
-          next = shelf_with (labels_of after) (documents_in after.operations) pair segments (waiting + 1) store;
+          next = shelf_with (labels_of after) (documents_in after.operations) pair shut;
           same = sym e;
-          answer = inl (rw (test, room_left) (ap placed place, shelf_same (labels_of after) all (documents_in after.operations) (D ++ doc ∷ []) pair segments (waiting + 1) store labels.0 documents));
-          fits = fits_with (labels_of after) (documents_in after.operations) (waiting + 1) refl refl facts.1 facts.0;
+          answer = inl (rw (test, room_left) (ap placed place, shelf_same (labels_of after) all (documents_in after.operations) (D ++ doc ∷ []) pair shut labels.0 documents));
+          fits = fits_with (labels_of after) (documents_in after.operations) refl refl facts.1 facts.0;
         }
 
     no_documents : LeavesFirst settings (labels_of before) doc reply (labels_of after) → (n : ℕ) → n ≤ length (history_of after) → settings.max_docs ≤ n → reply ≡ refused (docs_full n) → Answers None
@@ -257,19 +255,19 @@ module _ (settings : Settings) (before after : Seen) (held : Held) (session : �
         let none_left : nat_le settings.max_docs (length D) ≡ true = le-leb settings.max_docs (length D) (omega arith) in
         record {
           told = refused (docs_full n);
-          next = shelf_with (labels_of after) D pair segments waiting store;
+          next = shelf_with (labels_of after) D pair shut;
           same = sym e;
-          answer = inl (rw (test, none_left) (ap (λ k. refused (docs_full k)) count, shelf_same (labels_of after) all D D pair segments waiting store labels.0 refl));
-          fits = fits_with (labels_of after) D waiting refl (still_documents none) facts.1 facts.0;
+          answer = inl (rw (test, none_left) (ap (λ k. refused (docs_full k)) count, shelf_same (labels_of after) all D D pair shut labels.0 refl));
+          fits = fits_with (labels_of after) D refl (still_documents none) facts.1 facts.0;
         }
 
     lacks_memory : LeavesFirst settings (labels_of before) doc reply (labels_of after) → reply ≡ refused no_memory → Answers None
     lacks_memory first e = record {
       told = refused no_memory;
-      next = shelf_with (labels_of after) D pair segments waiting store;
+      next = shelf_with (labels_of after) D pair shut;
       same = sym e;
-      answer = inr (refl, (length (labels_of after), first.low, first.high, shelf_same (labels_of after) (take (length (labels_of after)) all) D D pair segments waiting store first.first refl));
-      fits = fits_with (labels_of after) D waiting refl (still_documents (enters_none (refused no_memory) e refl)) facts.1 facts.0;
+      answer = inr (refl, (length (labels_of after), first.low, first.high, shelf_same (labels_of after) (take (length (labels_of after)) all) D D pair shut first.first refl));
+      fits = fits_with (labels_of after) D refl (still_documents (enters_none (refused no_memory) e refl)) facts.1 facts.0;
     }
 
     stays_so : (r : Reply) (o : Option Broken) → reply ≡ r → placed_by session (add doc) r ≡ None → labels_of after ≡ labels_of before → IsAnswer o r S → Answers o
@@ -278,7 +276,7 @@ module _ (settings : Settings) (before after : Seen) (held : Held) (session : �
       next = S;
       same = sym e;
       answer = answer;
-      fits = fits_with (labels_of before) D waiting (sym labels) (still_documents (enters_none r e none)) facts.1 facts.0;
+      fits = fits_with (labels_of before) D (sym labels) (still_documents (enters_none r e none)) facts.1 facts.0;
     }
 
     resolved : LeavesFirst settings (labels_of before) doc reply (labels_of after) → (b : Bool) → knows (labels_of after) doc ≡ b → IsResolved settings (labels_of after) (history_of after) session doc b reply → Answers None
@@ -293,12 +291,12 @@ module _ (settings : Settings) (before after : Seen) (held : Held) (session : �
 
     add_goes : AddLeaves settings (labels_of before) doc (first_broken settings.config doc) reply (labels_of after)
         → IsAdded settings (labels_of after) (history_of after) session doc (first_broken settings.config doc) reply ⊎ (IsTrue true × (reply ≡ refused no_memory)) → Goes settings (words.add doc) reply S after
-    add_goes leaves right = let a = added (first_broken settings.config doc) leaves right in record { told = a.told; next = a.next; same = a.same; served = a.answer; fits = a.fits }
+    add_goes leaves right = let a = added (first_broken settings.config doc) leaves right in record { told = a.told; next = a.next; same = a.same; right = a.answer; fits = a.fits }
 
   -- ---- what enters nothing
 
   stays : labels_of after ≡ labels_of before → EntersNone session before.operations after.operations → EntersNone session before.pairs after.pairs → EntersNone session before.commits after.commits → Fits after S
-  stays l o p c = fits_with (labels_of before) D waiting (sym l) (still_documents o) p c
+  stays l o p c = fits_with (labels_of before) D (sym l) (still_documents o) p c
 
   -- all operations are counted
   counted : (n : ℕ) → EntersNone session before.operations after.operations → n ≤ length (history_of after) → length before.operations ≤ n → n ≡ length D
@@ -322,15 +320,13 @@ module _ (settings : Settings) (before after : Seen) (held : Held) (session : �
           let size : entered.1 ≡ length (labels_of before) = omega arith in
           record {
             told = numbered c.0;
-            next = shelf_with (labels_of before) D (length D, length (labels_of before)) (segments + (if nat_lt 0 waiting then 1 else 0)) 0 store;
+            next = shelf_with (labels_of before) D (length D, length (labels_of before)) shut;
             same = sym c.2;
-            served = inl (ap numbered count, refl);
+            right = inl (ap numbered count, refl);
             fits = record {
               pair = (length D, length (labels_of before));
-              segments = segments + (if nat_lt 0 waiting then 1 else 0);
-              waiting = 0;
-              store = store;
-              is = shelf_same (labels_of before) (labels_of after) D (documents_in after.operations) (length D, length (labels_of before)) (segments + (if nat_lt 0 waiting then 1 else 0)) 0 store (sym f.leaves) (still_documents f.operations);
+              shut = shut;
+              is = shelf_same (labels_of before) (labels_of after) D (documents_in after.operations) (length D, length (labels_of before)) shut (sym f.leaves) (still_documents f.operations);
               ends = (entered.0, session, entered.2.1 ∙ (λ i. entered.0 ++ (session, (count i, size i)) ∷ []));
               closed_so = still_closed f.commits;
             };
@@ -341,7 +337,7 @@ module _ (settings : Settings) (before after : Seen) (held : Held) (session : �
         told = refused no_memory;
         next = S;
         same = sym l.1;
-        served = inr (refl, refl);
+        right = inr (refl, refl);
         fits = stays f.leaves f.operations (subst (λ (q : Option ℕ). EntersPair session (length (labels_of before)) (length (labels_of after)) q before.pairs after.pairs) (ap (refreshed_by refresh) l.1) f.pairs) f.commits;
       }
 
@@ -365,10 +361,10 @@ module _ (settings : Settings) (before after : Seen) (held : Held) (session : �
       found_so : (o : Option (ℕ × AskFault)) → first_refused settings.config s.asks ≡ o → IsFound settings.config s o pair.0 (take pair.0 D) reply → Goes settings (words.search s) reply S after
       found_so (Some r) e is =
           let first : words_answers.first_refused settings.config s.asks ≡ Some (named r) = first_named settings.config (enumerate_from 0 s.asks) ∙ ap (option_map named) e in
-          record { told = refused (named r); next = S; same = sym is; served = inl (rw first refl, refl); fits = fits }
+          record { told = refused (named r); next = S; same = sym is; right = inl (rw first refl, refl); fits = fits }
       found_so None e is =
           let first : words_answers.first_refused settings.config s.asks ≡ None = first_named settings.config (enumerate_from 0 s.asks) ∙ ap (option_map named) e in
-          record { told = found (record { operations = pair.0; hit_count = length (hits_of (take pair.0 D) s); hits = first_hits (take pair.0 D) s; answers = is.0 }); next = S; same = sym is.2; served = inl (rw first (is.0, is.1, refl), refl); fits = fits }
+          record { told = found (record { operations = pair.0; hit_count = length (hits_of (take pair.0 D) s); hits = first_hits (take pair.0 D) s; answers = is.0 }); next = S; same = sym is.2; right = inl (rw first (is.0, is.1, refl), refl); fits = fits }
 
       seen : (t : Option (ℕ × ℕ)) → took ≡ t → IsOf (λ pair r. IsFound settings.config s (first_refused settings.config s.asks) pair.0 (docs_of (history_of after) pair) r) t None reply → Goes settings (words.search s) reply S after
       seen None e r = absurd r
@@ -379,7 +375,7 @@ module _ (settings : Settings) (before after : Seen) (held : Held) (session : �
           found_so (first_refused settings.config s.asks) refl (subst (λ (q : ℕ × ℕ). IsFound settings.config s (first_refused settings.config s.asks) q.0 (take pair.0 D) reply) is there)
 
       lacks : IsTrue true × (reply ≡ refused no_memory) → Goes settings (words.search s) reply S after
-      lacks l = record { told = refused no_memory; next = S; same = sym l.1; served = inr (refl, refl); fits = fits }
+      lacks l = record { told = refused no_memory; next = S; same = sym l.1; right = inr (refl, refl); fits = fits }
 
   -- ---- document
 
@@ -390,8 +386,8 @@ module _ (settings : Settings) (before after : Seen) (held : Held) (session : �
       fits = stays f.leaves f.operations f.pairs f.commits
 
       shown_so : (o : Option Doc) → slice_get (take pair.0 D) at ≡ o → IsShown (labels_of before) pair.0 (take pair.0 D) at o reply → Goes settings (words.document at) reply S after
-      shown_so None e is = record { told = refused (no_such_document (length (take pair.0 D))); next = S; same = sym is; served = inl (rw e refl, refl); fits = fits }
-      shown_so (Some doc) e is = record { told = shown (record { operations = pair.0; at = at; doc = doc; ordinals = is.0 }); next = S; same = sym is.2; served = inl (rw e (is.0, is.1, refl), refl); fits = fits }
+      shown_so None e is = record { told = refused (no_such_document (length (take pair.0 D))); next = S; same = sym is; right = inl (rw e refl, refl); fits = fits }
+      shown_so (Some doc) e is = record { told = shown (record { operations = pair.0; at = at; doc = doc; ordinals = is.0 }); next = S; same = sym is.2; right = inl (rw e (is.0, is.1, refl), refl); fits = fits }
 
       seen : (t : Option (ℕ × ℕ)) → took ≡ t → IsOf (λ pair r. IsShown (labels_of after) pair.0 (docs_of (history_of after) pair) at (slice_get (docs_of (history_of after) pair) at) r) t None reply → Goes settings (words.document at) reply S after
       seen None e r = absurd r
@@ -403,7 +399,7 @@ module _ (settings : Settings) (before after : Seen) (held : Held) (session : �
           shown_so (slice_get (take pair.0 D) at) refl (subst (λ l. IsShown l pair.0 (take pair.0 D) at (slice_get (take pair.0 D) at) reply) f.leaves two)
 
       lacks : IsTrue true × (reply ≡ refused no_memory) → Goes settings (words.document at) reply S after
-      lacks l = record { told = refused no_memory; next = S; same = sym l.1; served = inr (refl, refl); fits = fits }
+      lacks l = record { told = refused no_memory; next = S; same = sym l.1; right = inr (refl, refl); fits = fits }
 
   -- ---- stats
 
@@ -420,32 +416,24 @@ module _ (settings : Settings) (before after : Seen) (held : Held) (session : �
             told = words_answers.numbers_of S;
             next = S;
             same = sym (r ∙ (λ i. numbers (record { operations = (is i).0; labels = (is i).1; documents = length (documents i) })));
-            served = inl (refl, refl);
+            right = inl (refl, refl);
             fits = stays f.leaves f.operations f.pairs f.commits;
           }
 
   -- ---- commit
 
-  abbrev more : ℕ
-  more = segments + (if nat_lt 0 waiting then 1 else 0)
-
-  -- the shelf after a commit that leaves this store
-  abbrev flushed_with : Store → Shelf
-  flushed_with now = shelf_with (labels_of before) D pair more 0 now
-
-  ends_so : (o : Option ℕ) (told : Reply) (next : Shelf) → store.closed ≡ o → EndsCommit (flushed_with store) o told next → EndsCommit (flushed_with store) store.closed told next
-  ends_so o told next e ends = subst (λ (o : Option ℕ). EndsCommit (flushed_with store) o told next) (sym e) ends
+  -- the reply on a shelf that is closed so
+  ends_so : (o : Option ℕ) (told : Reply) (next : Shelf) → shut ≡ o → words_answers.IsCommitted S o told next → words_answers.IsCommitted S shut told next
+  ends_so o told next e ends = subst (λ (o : Option ℕ). words_answers.IsCommitted S o told next) (sym e) ends
 
   commit_goes : (took : Option (ℕ × ℕ)) (reply : Reply) → Facts settings before after held session commit took reply → Goes settings words.commit reply S after
   commit_goes took reply f = ⊎_elim answered_so lacks f.right
     where
-      fits_so : (now : Store) → failures after.commits ≡ option_to_list now.closed → Fits after (flushed_with now)
+      fits_so : (now : Option ℕ) → failures after.commits ≡ option_to_list now → Fits after (shelf_with (labels_of before) D pair now)
       fits_so now c = record {
         pair = pair;
-        segments = more;
-        waiting = 0;
-        store = now;
-        is = shelf_same (labels_of before) (labels_of after) D (documents_in after.operations) pair more 0 now (sym f.leaves) (still_documents f.operations);
+        shut = now;
+        is = shelf_same (labels_of before) (labels_of after) D (documents_in after.operations) pair now (sym f.leaves) (still_documents f.operations);
         ends = still_ends f.pairs;
         closed_so = c;
       }
@@ -454,10 +442,10 @@ module _ (settings : Settings) (before after : Seen) (held : Held) (session : �
       enters r e = subst (λ (q : Reply). EntersCommit session (length (labels_of before)) q before.commits after.commits) e f.commits
 
       -- a point behind those before, none of which has failed
-      pointed : (o : Option ℕ) → EntersPoint session o before.commits after.commits → (store.closed ≡ None) × (failures after.commits ≡ option_to_list o)
+      pointed : (o : Option ℕ) → EntersPoint session o before.commits after.commits → (shut ≡ None) × (failures after.commits ≡ option_to_list o)
       pointed o p =
           let same = commits_so p.0 p.2.0 ((session, p.1) ∷ [], sym p.2.1) in (
-            of_none store.closed (sym closed_so ∙ ap failures same ∙ p.3),
+            of_none shut (sym closed_so ∙ ap failures same ∙ p.3),
             ap failures p.2.1 ∙ filter_map-append (λ (e : ℕ × CommitPoint). e.1.failed) p.0 ((session, p.1) ∷ []) ∙ (λ i. p.3 i ++ cons_option (p.4 i) []) ∙ list_of o,
           )
         where
@@ -472,36 +460,35 @@ module _ (settings : Settings) (before after : Seen) (held : Held) (session : �
           let unclosed = p.0 in
           record {
             told = numbered c.0;
-            next = flushed_with store;
+            next = S;
             same = sym c.2;
-            served = inl (ends_so None (numbered c.0) (flushed_with store) unclosed (store, refl, inl (unclosed, inl (ap numbered (counted c.0 f.operations c.1 low)))));
-            fits = fits_so store (p.1 ∙ ap option_to_list (sym unclosed));
+            right = inl (ends_so None (numbered c.0) S unclosed (inl (ap numbered (counted c.0 f.operations c.1 low), refl)));
+            fits = fits_so shut (p.1 ∙ ap option_to_list (sym unclosed));
           }
 
       failed_so : (c : (count : ℕ) × (reply ≡ refused (disk_failed count))) → Goes settings words.commit reply S after
       failed_so c =
           let p = pointed (Some c.0) (enters (refused (disk_failed c.0)) c.1) in
-          let unclosed = p.0 in
-          let now : Store = record store { closed = Some c.0 } in
-          record { told = refused (disk_failed c.0); next = flushed_with now; same = sym c.1; served = inl (ends_so None (refused (disk_failed c.0)) (flushed_with now) unclosed (now, refl, inr (c.0, refl, refl))); fits = fits_so now p.1 }
+          let now = shelf_with (labels_of before) D pair (Some c.0) in
+          record { told = refused (disk_failed c.0); next = now; same = sym c.1; right = inl (ends_so None (refused (disk_failed c.0)) now p.0 (inr (inr (c.0, refl, refl)))); fits = fits_so (Some c.0) p.1 }
 
       told_so : (c : (count : ℕ) × (reply ≡ refused (closed count))) → Goes settings words.commit reply S after
       told_so c =
           let p = enters (refused (closed c.0)) c.1 in
-          let shut = of_one store.closed c.0 (sym closed_so ∙ ap failures (no_commit p.0) ∙ p.1) in
-          record { told = refused (closed c.0); next = flushed_with store; same = sym c.1; served = inl (ends_so (Some c.0) (refused (closed c.0)) (flushed_with store) shut (refl, refl)); fits = fits_so store (p.1 ∙ ap option_to_list (sym shut)) }
+          let known = of_one shut c.0 (sym closed_so ∙ ap failures (no_commit p.0) ∙ p.1) in
+          record { told = refused (closed c.0); next = S; same = sym c.1; right = inl (ends_so (Some c.0) (refused (closed c.0)) S known (refl, refl)); fits = fits_so shut (p.1 ∙ ap option_to_list (sym known)) }
 
       spent_so : (c : (number : ℕ) × (2 ^ 63 ≤ number) × (reply ≡ refused (numbers_spent number))) → Goes settings words.commit reply S after
       spent_so c =
           let p = enters (refused (numbers_spent c.0)) c.2 in
-          let unclosed = of_none store.closed (sym closed_so ∙ ap failures (no_commit p.0) ∙ p.1) in
-          record { told = refused (numbers_spent c.0); next = flushed_with store; same = sym c.2; served = inl (ends_so None (refused (numbers_spent c.0)) (flushed_with store) unclosed (store, refl, inl (unclosed, inr (c.0, c.1, refl)))); fits = fits_so store (p.1 ∙ ap option_to_list (sym unclosed)) }
+          let unclosed = of_none shut (sym closed_so ∙ ap failures (no_commit p.0) ∙ p.1) in
+          record { told = refused (numbers_spent c.0); next = S; same = sym c.2; right = inl (ends_so None (refused (numbers_spent c.0)) S unclosed (inr (inl (c.0, c.1, refl, refl)))); fits = fits_so shut (p.1 ∙ ap option_to_list (sym unclosed)) }
 
       answered_so : IsCommitted (history_of after) reply → Goes settings words.commit reply S after
       answered_so c = ⊎_elim durable_so (λ c. ⊎_elim failed_so (λ c. ⊎_elim told_so spent_so c) c) c
 
       lacks : IsTrue true × (reply ≡ refused no_memory) → Goes settings words.commit reply S after
-      lacks l = record { told = refused no_memory; next = S; same = sym l.1; served = inr (refl, inl refl); fits = stays f.leaves f.operations f.pairs (enters (refused no_memory) l.1) }
+      lacks l = record { told = refused no_memory; next = S; same = sym l.1; right = inr (refl, refl); fits = stays f.leaves f.operations f.pairs (enters (refused no_memory) l.1) }
 
   -- ---- each command
 
@@ -541,12 +528,10 @@ module _ (settings : Settings) (phases : List (List Order)) (opened : Opened) (r
       let commits = same_commits a b.commits since (told.sees.commits, told.commits) until.commits in
       record {
         pair = fits.pair;
-        segments = fits.segments;
-        waiting = fits.waiting;
-        store = fits.store;
-        is = fits.is ∙ shelf_same (labels_of a) (labels_of b) (documents_in a.operations) (documents_in b.operations) fits.pair fits.segments fits.waiting fits.store (ap (λ (l : Entries (List (List ℕ))). [] ∷ map (λ e. e.1) l) labels) (ap documents_in operations);
+        shut = fits.shut;
+        is = fits.is ∙ shelf_same (labels_of a) (labels_of b) (documents_in a.operations) (documents_in b.operations) fits.pair fits.shut (ap (λ (l : Entries (List (List ℕ))). [] ∷ map (λ e. e.1) l) labels) (ap documents_in operations);
         ends = subst (λ (ps : Entries (ℕ × ℕ)). EndsWith ps fits.pair) pairs fits.ends;
-        closed_so = subst (λ (cs : Entries CommitPoint). failures cs ≡ option_to_list fits.store.closed) commits fits.closed_so;
+        closed_so = subst (λ (cs : Entries CommitPoint). failures cs ≡ option_to_list fits.shut) commits fits.closed_so;
       }
 
   -- one step on a shelf of what was seen before it
@@ -567,14 +552,14 @@ module _ (settings : Settings) (phases : List (List Order)) (opened : Opened) (r
       (λ ops none begins. same_operations x.before ops since none (prefix_trans ops x.after.operations last.operations begins until.operations))
       (λ ps none begins. same_pairs x.before ps since none (prefix_trans ps x.after.pairs last.pairs begins until.pairs))
       (λ cs none begins. same_commits x.before cs since none (prefix_trans cs x.after.commits last.commits begins until.commits))
-      fits.pair fits.segments fits.waiting fits.store fits.ends fits.closed_so c x.answered.took x.answered.reply
+      fits.pair fits.shut fits.ends fits.closed_so c x.answered.took x.answered.reply
       (subst (λ (k : Command). Facts settings x.before x.after held session k x.answered.took x.answered.reply) is facts))
 
   -- the replies from a shelf on
   record Rest (orders : List words.Order) (answered : List Answered) (shelf : Shelf) : Type 0 where
     replies_to : List Reply
     end : Shelf
-    right : AreServed settings shelf orders replies_to end
+    right : words_answers.RightReplies settings shelf orders replies_to end
     labels : end.labels ≡ labels_of last
     documents : end.docs ≡ docs (history_of last)
     lines : reply_lines answered ≡ words_answers.reply_lines orders replies_to
@@ -597,7 +582,7 @@ module _ (settings : Settings) (phases : List (List Order)) (opened : Opened) (r
       record {
         replies_to = first.told ∷ rest.replies_to;
         end = rest.end;
-        right = (first.next, first.served, rest.right);
+        right = (first.next, first.right, rest.right);
         labels = rest.labels;
         documents = rest.documents;
         lines = λ i. (line_so x o order first.told first.same i) ++ rest.lines i;
@@ -610,39 +595,19 @@ module _ (settings : Settings) (phases : List (List Order)) (opened : Opened) (r
   opened_documents [] = refl
   opened_documents (d ∷ ds) = ap (λ (l : List Doc). d ∷ l) (opened_documents ds)
 
-  served : (store : Store) (orders : List words.Order) → map (λ (x : Step). x.answered.order) (steps_of ran) ≡ map order_of orders → store.closed ≡ None → Served settings opened store orders (map (λ (x : Step). x.answered) (steps_of ran)) last
-  served store orders are unclosed =
+  served : (orders : List words.Order) → map (λ (x : Step). x.answered.order) (steps_of ran) ≡ map order_of orders → Served settings opened orders (map (λ (x : Step). x.answered) (steps_of ran)) last
+  served orders are =
       let whole : own_steps session (steps_of ran) ≡ steps_of ran = filter_all (is_by session) (steps_of ran) one in
       let goes_on : SessionRan settings session [] start (steps_of ran) last = subst (λ (xs : List Step). SessionRan settings session [] start xs last) whole (all.sessions session) in
-      let fits : Fits start (words_answers.opened_shelf opened.labels opened.docs store) = record {
+      let fits : Fits start (words_answers.opened_shelf opened.labels opened.docs) = record {
         pair = (length opened.docs, length opened.labels);
-        segments = store.segments;
-        waiting = 0;
-        store = store;
-        is = shelf_same opened.labels (labels_of start) opened.docs (documents_in start.operations) (length opened.docs, length opened.labels) store.segments 0 store (sym (opened_first settings phases opened ran last all)) (sym (opened_documents opened.docs));
+        shut = None;
+        is = shelf_same opened.labels (labels_of start) opened.docs (documents_in start.operations) (length opened.docs, length opened.labels) None (sym (opened_first settings phases opened ran last all)) (sym (opened_documents opened.docs));
         ends = ([], 0, refl);
-        closed_so = ap option_to_list (sym unclosed);
+        closed_so = refl;
       } in
-      let r = serve [] start (steps_of ran) orders (λ x there. there) goes_on (sees_self start) are (words_answers.opened_shelf opened.labels opened.docs store) fits in
+      let r = serve [] start (steps_of ran) orders (λ x there. there) goes_on (sees_self start) are (words_answers.opened_shelf opened.labels opened.docs) fits in
       record { replies = r.replies_to; shelf = r.end; right = r.right; labels = r.labels; docs = r.documents; lines = r.lines }
 
 pub one_session_is_served : OneSessionIsServed
-one_session_is_served settings phases opened ran last session store orders all one are unclosed = served settings phases opened ran last session all one store orders are unclosed
-
--- ---- a right reply is so much
-
-ends_commit : (shelf : Shelf) (o : Option ℕ) → shelf.store.closed ≡ o → (reply : Reply) (next : Shelf) → words_answers.IsCommitted shelf o reply next → EndsCommit shelf o reply next
-ends_commit shelf (Some count) e reply next is = is
-ends_commit shelf None e reply next is = ⊎_elim
-    (λ d. (words_answers.committed_store shelf, d.3, inl (refl, inl d.2)))
-    (λ is. ⊎_elim
-    (λ s. (shelf.store, s.3, inl (e, inr (words_answers.last_taken shelf, s.0, s.2))))
-    (λ f. (record shelf.store { closed = Some f.0; faults = f.0 }, f.4, inr (f.0, refl, f.3))) is) is
-
-pub right_is_served : RightIsServed
-right_is_served settings shelf (words.add doc) reply next right = right
-right_is_served settings shelf words.refresh reply next right = right
-right_is_served settings shelf (words.search s) reply next right = right
-right_is_served settings shelf (words.document at) reply next right = right
-right_is_served settings shelf words.stats reply next right = right
-right_is_served settings shelf words.commit reply next right = ⊎_elim (λ is. inl (ends_commit (flushed shelf) shelf.store.closed refl reply next is)) (λ lacks. inr lacks) right
+one_session_is_served settings phases opened ran last session orders all one are = served settings phases opened ran last session all one orders are

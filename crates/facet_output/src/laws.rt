@@ -1,6 +1,6 @@
 ghost use Rattle.facet_output.specs.Commits.{CommitsHavePoints};
 ghost use Rattle.facet_output.specs.OneSession.{OneSessionHasItsLabels, OneSessionIsExact};
-ghost use Rattle.facet_output.specs.OneShelf.{OneSessionIsServed, RightIsServed};
+ghost use Rattle.facet_output.specs.OneShelf.{OneSessionIsServed};
 ghost use Rattle.facet_output.specs.Outputs.{FirstPhasesGivePart, SessionsGiveBytes, SessionsGivePart};
 ghost use Rattle.facet_output.specs.Sessions.{SessionsGiveOutput};
 
@@ -36,9 +36,7 @@ pub fn one_session_has_its_labels()
     ensures { OneSessionHasItsLabels }
 {}
 
-/// Where one session ran alone and named no held pair, it was served as `facet_words` says on a shelf, and its lines are those that are written today: all of
-/// `RightReplies` but the numbers of a commit's files and that the disk's count of faults rose. A reply that is right there is so much.
+/// Where one session ran alone and named no held pair, its replies are those that `facet_words` says on a shelf, and its lines are theirs.
 pub fn one_session_is_served()
-    ensures served { OneSessionIsServed }
-    ensures right { RightIsServed }
+    ensures { OneSessionIsServed }
 {}

@@ -56,7 +56,7 @@ module _ (settings : Settings) (phases : List (List Order)) (opened : Opened) (r
       record {
         exact = one_session_is_exact settings phases opened (labels_of last) (history_of last) last.pairs (answers_of ran) session (sessions_give_output settings phases opened ran last all) all.in_line_order one;
         labels = one_session_has_its_labels settings phases opened ran last session all by;
-        served = λ store orders are unclosed. one_session_is_served settings phases opened ran last session store orders all by (orders_are (steps_of ran) ∙ are) unclosed;
+        served = λ orders are. one_session_is_served settings phases opened ran last session orders all by (orders_are (steps_of ran) ∙ are);
       }
 
   abbrev pub ran_so : {D : Type 0} (ghosts : Ghosts D) (trace : Trace) (old new : D) → Opens ghosts settings.config old opened → IsTraceOf trace last → ((t : Told) → ghosts.told old ≡ Some t → All (SpendsFrom (next_after (greatest_number t.files)) last) (answers_of ran))

@@ -26,7 +26,6 @@ use Rattle.facet_output.specs.Seen.{CommitPoint as Point, Entries, Seen, history
 use Rattle.facet_replies.specs.ReplyLines.{fault_line}
 use Rattle.facet_replies.specs.Replies.{numbers_spent, refused}
 use Rattle.facet_replies.specs.declared.fault.ScriptFault.{ScriptFault}
-use Rattle.facet_words.specs.Answers.{Store}
 use Rattle.facet_words.specs.Commands as words
 use Rattle.facet_words.specs.Commands.{Settings}
 use Rattle.facet_words.specs.Sessions.Commands.{Order, Script}
@@ -109,13 +108,12 @@ pub record Keeps {D : Type 0} (ghosts : Ghosts D) (config : Config) (last : Seen
 
 -- ---- sessions
 
--- A session that runs alone sees no other: each number that it is answered is exact, and so are the labels. Where it names no held pair, it was served on a shelf
--- that no commit had closed.
+-- A session that runs alone sees no other: each number that it is answered is exact, and so are the labels. Where it names no held pair, it was served on a
+-- shelf.
 pub record IsAlone (settings : Settings) (opened : Opened) (last : Seen) (answered : List Answered) : Type 0 where
   pub exact : AreExact (length opened.docs) (length opened.docs) answered
   pub labels : AreExactLabels settings opened.labels (length opened.labels) answered (labels_of last)
-  pub served : (store : Store) (orders : List words.Order) → map (λ a. a.order) answered ≡ map order_of orders → store.closed ≡ None
-      → Served settings opened store orders answered last
+  pub served : (orders : List words.Order) → map (λ a. a.order) answered ≡ map order_of orders → Served settings opened orders answered last
 
 -- a commit that is refused for spent numbers tells one that so many commits may have taken, from this one on
 abbrev pub SpendsFrom : ℕ → Seen → Answered → Type 0

@@ -1,7 +1,6 @@
--- Which replies of one session are right, and which bytes are a script's output.
-use Rattle.std.specs.Prelude.{◌≡◌, ◌≤◌, ◌<◌, ◌⊎◌, ◌+◌, ◌-◌, ◌^◌, ℕ, max, nat_le, nat_lt, if◌then◌else◌, List, [], ◌∷◌, ◌++◌, length, take, map, filter, filter_map, flat_map, fold, slice_get, Option, Some, None, option_map}
+-- Which replies to a session that runs alone are right, and which lines they are.
+use Rattle.std.specs.Prelude.{◌≡◌, ◌≤◌, ◌⊎◌, ◌^◌, ℕ, max, nat_le, nat_lt, if◌then◌else◌, List, [], ◌∷◌, ◌++◌, length, take, map, filter, filter_map, flat_map, fold, slice_get, Option, Some, None, option_map}
 use Rattle.std.specs.List.{AllZip, enumerate_from}
-use Rattle.facet_io.specs.Faults.{Rose}
 use Rattle.facet_names.specs.Labels.{with_label, prefixes, place}
 use Rattle.facet_model.specs.Flags.{Config}
 use Rattle.facet_model.specs.Documents.{Doc}
@@ -13,31 +12,17 @@ use Rattle.facet_words.specs.Commands.{Settings, Search, Command, add, refresh, 
 use Rattle.facet_replies.specs.Replies.{Refusal, broken, labels_full, docs_full, top_zero, dim_value_not_kept, no_such_document, disk_failed, closed, numbers_spent, no_memory, Reply, placed, numbered, found, shown, stats as numbers, refused}
 use Rattle.facet_replies.specs.ReplyLines.{reply_line}
 
--- how a store stands: the disk's count of faults at which a commit failed, after which none is made; the count as it is now; the number that the next file takes; and how many labels and segments of documents are committed
-pub record Store : Type 0 where
-  pub closed : Option ℕ
-  pub faults : ℕ
-  pub next : ℕ
-  pub labels : ℕ
-  pub segments : ℕ
-
--- what a session works on: the labels with the root, the documents, how many documents and labels the last refresh took, how many segments have the documents but those that wait, how many wait, and the store
+-- what a session works on: the labels with the root, the documents, how many documents and labels the last refresh took, and the disk's count of faults at which a commit failed, after which none is made
 pub record Shelf : Type 0 where
   pub labels : List (List (List ℕ))
   pub docs : List Doc
   pub taken : ℕ
   pub taken_labels : ℕ
-  pub segments : ℕ
-  pub waiting : ℕ
-  pub store : Store
+  pub closed : Option ℕ
 
--- what was opened, all of which searches see, and is committed
-abbrev pub opened_shelf : List (List (List ℕ)) → List Doc → Store → Shelf
-opened_shelf labels docs store = record { labels = labels; docs = docs; taken = length docs; taken_labels = length labels; segments = store.segments; waiting = 0; store = store }
-
--- the documents that wait, if there are any, become a segment
-abbrev pub flushed : Shelf → Shelf
-flushed shelf = record shelf { segments = shelf.segments + (if nat_lt 0 shelf.waiting then 1 else 0); waiting = 0 }
+-- what was opened, all of which searches see
+abbrev pub opened_shelf : List (List (List ℕ)) → List Doc → Shelf
+opened_shelf labels docs = record { labels = labels; docs = docs; taken = length docs; taken_labels = length labels; closed = None }
 
 -- the documents that a search sees
 abbrev pub snapshot : Shelf → List Doc
@@ -60,7 +45,7 @@ added settings shelf doc None =
     let all = with_labels shelf.labels doc in
     if nat_lt (room settings shelf) (length all) then (refused (labels_full (room settings shelf)), record shelf { labels = take (room settings shelf) all })
     else (if nat_le settings.max_docs (length shelf.docs) then (refused (docs_full (length shelf.docs)), record shelf { labels = all })
-    else (placed (length shelf.docs), record shelf { labels = all; docs = shelf.docs ++ doc ∷ []; waiting = shelf.waiting + 1 }))
+    else (placed (length shelf.docs), record shelf { labels = all; docs = shelf.docs ++ doc ∷ [] }))
 
 -- without memory an add leaves the first of the labels that it would have left
 abbrev pub LeavesSome : Settings → Shelf → Doc → Option Broken → Shelf → Type 0
@@ -108,43 +93,19 @@ numbers_of shelf = numbers (record { operations = shelf.taken; labels = shelf.ta
 
 -- ---- commit
 
--- how many files a commit puts for labels: where some are new, a segment of them and a commit file
-abbrev pub label_files : Shelf → ℕ
-label_files shelf = if nat_lt shelf.store.labels (length shelf.labels) then 2 else 0
-
--- how many it puts for documents: where segments are new, each of them and a commit file
-abbrev pub document_files : Shelf → ℕ
-document_files shelf = if nat_lt shelf.store.segments shelf.segments then (shelf.segments - shelf.store.segments) + 1 else 0
-
--- the number that the next file takes after a commit
-abbrev pub number_after : Shelf → ℕ
-number_after shelf = shelf.store.next + (label_files shelf + document_files shelf)
-
--- the last number that a commit takes; where it puts no file, the one before the next
-abbrev pub last_taken : Shelf → ℕ
-last_taken shelf = number_after shelf - 1
-
--- how many files a commit puts at most: a segment of labels, a segment for each document, and two commit files
-abbrev pub most_files : ℕ
-most_files = 1000003
-
--- how the store stands after a commit of all labels and segments
-abbrev pub committed_store : Shelf → Store
-committed_store shelf = record { closed = None; faults = shelf.store.faults; next = number_after shelf; labels = length shelf.labels; segments = shelf.segments }
-
--- all documents are durable, and no call of the disk failed
+-- all documents are durable
 abbrev pub IsDurable : Shelf → Reply → Shelf → Type 0
-IsDurable shelf reply next = (last_taken shelf < 2 ^ 63) × (number_after shelf ≤ shelf.store.next + most_files) × (reply ≡ numbered (length shelf.docs)) × (next ≡ record shelf { store = committed_store shelf })
+IsDurable shelf reply next = (reply ≡ numbered (length shelf.docs)) × (next ≡ shelf)
 
--- the last file number would be 2^63 or more
+-- the last file number would be this one, which is 2^63 or more
 abbrev pub IsSpent : Shelf → Reply → Shelf → Type 0
-IsSpent shelf reply next = (2 ^ 63 ≤ last_taken shelf) × (last_taken shelf < shelf.store.next + most_files) × (reply ≡ refused (numbers_spent (last_taken shelf))) × (next ≡ shelf)
+IsSpent shelf reply next = (number : ℕ) × (2 ^ 63 ≤ number) × (reply ≡ refused (numbers_spent number)) × (next ≡ shelf)
 
--- the disk failed, which leaves what is committed and the next number
+-- the disk failed, at this count, and no later commit is made
 abbrev pub IsFailed : Shelf → Reply → Shelf → Type 0
-IsFailed shelf reply next = (count : ℕ) × (last_taken shelf < 2 ^ 63) × Rose shelf.store.faults count × (reply ≡ refused (disk_failed count)) × (next ≡ record shelf { store = record shelf.store { closed = Some count; faults = count } })
+IsFailed shelf reply next = (count : ℕ) × (reply ≡ refused (disk_failed count)) × (next ≡ record shelf { closed = Some count })
 
--- The reply to a commit, before which the documents that wait became a segment, given the count at which an earlier one failed.
+-- The reply to a commit and what it leaves, given the count at which an earlier one failed.
 abbrev pub IsCommitted : Shelf → Option ℕ → Reply → Shelf → Type 0
 IsCommitted shelf (Some count) reply next = (reply ≡ refused (closed count)) × (next ≡ shelf)
 IsCommitted shelf None reply next = IsDurable shelf reply next ⊎ IsSpent shelf reply next ⊎ IsFailed shelf reply next
@@ -154,11 +115,11 @@ IsCommitted shelf None reply next = IsDurable shelf reply next ⊎ IsSpent shelf
 -- the reply is right, and leaves the next shelf
 abbrev pub IsRight : Settings → Shelf → Command → Reply → Shelf → Type 0
 IsRight settings shelf (add doc) reply next = let r = added settings shelf doc (first_broken settings.config doc) in (reply ≡ r.0) × (next ≡ r.1)
-IsRight settings shelf refresh reply next = (reply ≡ numbered (length shelf.docs)) × (next ≡ record (flushed shelf) { taken = length shelf.docs; taken_labels = length shelf.labels })
+IsRight settings shelf refresh reply next = (reply ≡ numbered (length shelf.docs)) × (next ≡ record shelf { taken = length shelf.docs; taken_labels = length shelf.labels })
 IsRight settings shelf (search s) reply next = IsFound settings.config shelf.taken (snapshot shelf) s (first_refused settings.config s.asks) reply × (next ≡ shelf)
 IsRight settings shelf (document at) reply next = IsShown shelf at (slice_get (snapshot shelf) at) reply × (next ≡ shelf)
 IsRight settings shelf stats reply next = (reply ≡ numbers_of shelf) × (next ≡ shelf)
-IsRight settings shelf commit reply next = IsCommitted (flushed shelf) shelf.store.closed reply next
+IsRight settings shelf commit reply next = IsCommitted shelf shelf.closed reply next
 
 -- what a command leaves that found no memory
 abbrev pub IsLeft : Settings → Shelf → Command → Shelf → Type 0
@@ -167,7 +128,7 @@ IsLeft settings shelf refresh next = next ≡ shelf
 IsLeft settings shelf (search s) next = next ≡ shelf
 IsLeft settings shelf (document at) next = next ≡ shelf
 IsLeft settings shelf stats next = ⊥
-IsLeft settings shelf commit next = (next ≡ shelf) ⊎ (next ≡ flushed shelf)
+IsLeft settings shelf commit next = next ≡ shelf
 
 -- it is right, or there was no memory
 abbrev pub RightReply : Settings → Shelf → Command → Reply → Shelf → Type 0
@@ -187,14 +148,3 @@ abbrev pub reply_lines : List Order → List Reply → List ℕ
 reply_lines [] rs = []
 reply_lines (o ∷ os) [] = []
 reply_lines (o ∷ os) (r ∷ rs) = reply_line o.session o.line r ++ reply_lines os rs
-
--- how many documents a commit that was answered so has made durable
-abbrev pub durable_by : Command → Reply → ℕ
-durable_by commit (numbered n) = n
-durable_by _ _ = 0
-
--- how many documents the commits that were acknowledged have made durable
-abbrev pub durable : List Order → List Reply → ℕ
-durable [] rs = 0
-durable (o ∷ os) [] = 0
-durable (o ∷ os) (r ∷ rs) = max (durable_by o.command r) (durable os rs)

@@ -12,10 +12,7 @@ pub mod sessions;
 mod settings;
 mod shape;
 
-pub use facet_model::FacetAnswer;
-pub use facet_replies::{
-    Detail, HitLine, Refusal, Reply, ScriptFault, write_fault, write_named_fault, write_reply,
-};
+pub use facet_replies::{Detail, ScriptFault, write_fault, write_named_fault};
 pub use laws::levels_are_counted;
 pub use parts::SearchLine;
 pub use settings::Settings;
