@@ -22,7 +22,7 @@ use Rattle.facet_engine.specs.declared.notes.Notes.{Notes}
 use Rattle.facet_engine.specs.Notes.{noted}
 use Rattle.facet_engine.specs.Sessions.{HaveOneNumber}
 use Rattle.facet_engine.specs.Steps.{seen_of, point_of}
-use Rattle.facet_engine.specs.Telling.{Meets}
+use Rattle.facet_engine.specs.Telling.{Meets, longer_of}
 use Rattle.facet_engine.proofs.Seeing.{told, told_begins, labels_none, operations_none, pairs_none, commits_none}
 
 -- ---- the longer of two lists
@@ -59,6 +59,14 @@ pub record HasMet {A : Type 0} (old new other : Shown A) : Type 0 where
 
 many_told : {A B : Type 0} (f : A → B) (xs : List (ℕ × A)) → length (told f xs) ≡ length xs
 many_told {A} {B} f xs = let each : ℕ × A → ℕ × B = λ e. (e.0, f e.1) in length-map xs each
+
+-- the longer of two lists, each told so
+told_longer : {A B : Type 0} (f : A → B) (xs ys : List (ℕ × A)) → told f (longer xs ys) ≡ longer (told f xs) (told f ys)
+told_longer {A} {B} f xs ys = by (nat_lt (length xs) (length ys)) ∙ sym (λ i. cond (nat_lt (many_told f xs i) (many_told f ys i)) (told f ys) (told f xs))
+  where
+    by : (b : Bool) → told f (cond b ys xs) ≡ cond b (told f ys) (told f xs)
+    by true = refl
+    by false = refl
 
 module _ {A B : Type 0} (f : A → B) (old new other : Shown A) (met : HasMet old new other) where
   -- where it had seen no more than the other, it has seen just that
@@ -130,12 +138,20 @@ module _ (number : ℕ) (old new : Pass) (notes : Notes) (have : HaveOneNumber n
       let c = meets_all point_of old.commits new.commits notes.commits commits sees.commits in
       λ i. record { labels = l i; operations = told (λ (x : Operation). x.doc) (o i); pairs = told numbers (p i); commits = told point_of (c i) }
 
+  longest : seen_of new ≡ longer_of (seen_of old) (noted notes)
+  longest =
+      let o = ap (told (λ (x : Operation). x.doc)) operations.longest ∙ told_longer (λ (x : Operation). x.doc) old.operations.seen notes.operations.seen in
+      let p = ap (told numbers) pairs.longest ∙ told_longer numbers old.pairs.seen notes.pairs.seen in
+      let c = ap (told point_of) commits.longest ∙ told_longer point_of old.commits.seen notes.commits.seen in
+      λ i. record { labels = labels.longest i; operations = o i; pairs = p i; commits = c i }
+
   pub meets : Meets number old new (noted notes)
   meets = record {
     same = same;
     on = (labels.more, operations.more, pairs.more, commits.more);
     told = subst (λ k. IsTold k (seen_of old) (seen_of new)) have.0 is_told;
     knows = knows;
+    longest = longest;
     all = meets_just;
     counted = (labels.counted, operations.counted, pairs.counted, commits.counted);
   }

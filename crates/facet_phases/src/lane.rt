@@ -1,4 +1,4 @@
-ghost use Rattle.std.specs.Prelude.{All};
+ghost use Rattle.std.specs.Prelude.{◌<◌, All};
 ghost use Rattle.std.specs.List.{AllZip};
 ghost use Rattle.facet_phases.specs.Lanes.{LaneRan, MayRun};
 
@@ -38,7 +38,20 @@ fn run_lane<D: Disk, N: Name + Start, R: Wait, G: Gate, C: Collector>(
     lane.replies = answer_all(rt, alloc, system, gate, &mut lane.session, orders);
 }
 
-/// Carries out the orders of all lanes at once, each lane on a thread of its own, and waits for all of them.
+// How many threads a phase needs: one for each lane, but where at most one of them has orders.
+fn threads_for<C>(lanes: &[Lane<C>]) -> usize
+    ensures { 0 < result }
+{
+    let mut left = lanes.iter();
+    let some = left.any(|lane| !lane.orders.is_empty());
+    if some && left.any(|lane| !lane.orders.is_empty()) {
+        lanes.len().max(1)
+    } else {
+        1
+    }
+}
+
+/// Carries out the orders of all lanes at once, each lane on a thread of its own, and waits for all of them. Where at most one lane has orders no thread is made.
 pub(crate) fn run_at_once<
     D: Disk,
     N: Name + Start + Send + Sync,
@@ -49,7 +62,7 @@ pub(crate) fn run_at_once<
     requires run { All (MayRun system.now) lanes.old }
     ensures ran { AllZip (LaneRan C.holds system.now) lanes.old lanes.new }
 {
-    let threads = lanes.len().max(1);
+    let threads = threads_for(lanes);
     thread::for_each_mut(
         rt,
         lanes,
