@@ -160,31 +160,67 @@ const MADE_OUTPUT: &[u8] =
     b"{\"at\":0,\"line\":2,\"s\":1}\n{\"line\":3,\"n\":1,\"s\":1}\n{\"line\":4,\"n\":1,\"s\":1}\n\
 {\"labels\":[[0,\"Author\"],[1,\"Bob\"]],\"opened\":[0,1],\"order\":[1]}\n";
 
-// How many calls a run of two commits makes where the call of this number fails, and whether it writes what it should.
+const PHASE: &[u8] = b"{\"cmd\":\"phase\"}\n";
+
+// Session 1 commits while session 2 adds, and session 2 commits in the phase behind these.
+const BESIDE: &[&[u8]] = &[
+    CONFIG,
+    BOB,
+    PHASE,
+    COMMIT,
+    b"{\"s\":2,\"cmd\":\"add\",\"id\":\"b2\",\"facets\":[[\"Author\",\"Bob\"]]}\n",
+    PHASE,
+    b"{\"s\":2,\"cmd\":\"commit\"}\n",
+];
+
+const BESIDE_OUTPUT: &[u8] =
+    b"{\"at\":0,\"line\":2,\"s\":1}\n{\"count\":1,\"line\":4,\"refused\":\"disk\",\"s\":1}\n{\"at\":1,\"line\":5,\"s\":2}\n\
+{\"count\":1,\"line\":7,\"refused\":\"closed\",\"s\":2}\n{\"labels\":[[0,\"Author\"],[1,\"Bob\"]],\"opened\":[0,1],\"order\":[1,2]}\n";
+
+// How many calls a run makes where the call of this number fails, whether it writes what it should, whether documents then open, and how many labels.
 fn ended<R: AllocGlobal + Threads + Wait + Sync>(
     rt: &R,
+    lines: &[&[u8]],
     failing: u64,
     output: &[u8],
-) -> Result<(u64, bool), Fail> {
+) -> Result<(u64, bool, (bool, u32)), Fail> {
     let alloc = rt.alloc();
-    let script = joined(alloc, &[CONFIG, BOB, COMMIT, COMMIT])?;
+    let script = joined(alloc, lines)?;
     let disk = MemoryDisk::new(alloc, vec![in alloc; failing]?);
     let (ended, sink) = run_over(rt, &script, &[], disk)?;
-    Ok((
-        ended.disk.call_count(),
-        ended.status == Status::Done && sink.bytes() == output,
-    ))
+    let calls = ended.disk.call_count();
+    let written = ended.status == Status::Done && sink.bytes() == output;
+    let (documents, labels) = counts(alloc, ended.disk)?;
+    Ok((calls, written, (documents > 0, labels)))
 }
 
-// A commit makes its twelve calls behind the two of the opening, and none after one that failed.
+// Whether documents open, and how many labels, where this call of the run fails. The first two open the store; of those of the commit the ninth makes its
+// labels readable, the eleventh its documents.
+fn left_by(failing: u64) -> (bool, u32) {
+    match failing {
+        3..=11 => (false, 1),
+        12..=13 => (false, 3),
+        _ => (true, 3),
+    }
+}
+
+const TWICE: &[&[u8]] = &[CONFIG, BOB, COMMIT, COMMIT];
+
+// A commit makes its twelve calls behind the two of the opening, and none after one that failed, also where another session adds meanwhile.
 #[test]
 fn a_commit_ends_at_its_first_fault(rt: HostRuntime) -> Result<(), Fail> {
     for failing in 3..15u64 {
+        let right = (failing, true, left_by(failing));
         assert!(rt;
-            ended(&rt, failing, ENDED_OUTPUT)? == (failing, true),
+            ended(&rt, TWICE, failing, ENDED_OUTPUT)? == right,
+            "{failing}"
+        );
+        assert!(rt;
+            ended(&rt, BESIDE, failing, BESIDE_OUTPUT)? == right,
             "{failing}"
         );
     }
-    assert!(rt; ended(&rt, 15, MADE_OUTPUT)? == (14, true) && second_ends(&rt)?);
+    let unharmed = ended(&rt, TWICE, 0, MADE_OUTPUT)?;
+    assert!(rt; unharmed == (14, true, (true, 3)) && second_ends(&rt)?);
     Ok(())
 }

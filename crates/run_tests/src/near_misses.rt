@@ -48,11 +48,11 @@ impl Draws {
 const CONFIG: &str =
     "{\"cmd\":\"config\",\"dims\":[{\"dim\":\"a\",\"hierarchical\":true},{\"dim\":\"b\",\"multi_valued\":true}]}\n";
 
-// A script of 36 documents in three segments. Each has up to two words, and most have a label in `a`, which is hierarchical, up to two in `b`, and one in `c`.
+// A script of 156 documents in three segments, of 12, 12 and 132: the last is large enough that its usual ordinals are counted by bits. Each document has up to two words, and most have a label in `a`, which is hierarchical, up to two in `b`, and one in `c`.
 fn script(alloc: Global, draws: &mut Draws) -> Result<String, Fail> {
     let mut text = String::from_str(alloc, CONFIG)?;
-    for at in 0..36u32 {
-        if at % 12 == 0 {
+    for at in 0..156u32 {
+        if at == 12 || at == 24 {
             text.push_str("{\"s\":1,\"cmd\":\"refresh\"}\n")?;
         }
         let (word, other) = (draws.digit() % 3, draws.digit() % 3);
@@ -252,7 +252,7 @@ fn is_thinned_answered_alike(
     let segments = thinned(alloc, draws, segments, thin)?;
     let view = labels.view()?;
     match records(&segments) {
-        Some(36) => are_answered_alike(alloc, draws, &view, config, &segments),
+        Some(156) => are_answered_alike(alloc, draws, &view, config, &segments),
         _ => Ok(false),
     }
 }

@@ -44,12 +44,12 @@ pub(crate) fn path_of(alloc: Global, parts: &[&str]) -> Result<Path, PathFault> 
     Path::new(alloc, &texts)
 }
 
-// The ordinal of the whole path.
+// The ordinal of the first path, where they are resolved as an add resolves the labels of its document.
 fn ordinal_of<N: Name, R: Wait>(
     rt: &R,
     writer: &TaxoWriter<N>,
     token: &mut Token<Path>,
-    path: &Path,
+    paths: &[Path],
 ) -> Option<u32>
     requires own { token.old.identity ≡ writer.now.labels }
     requires rests { MayTake token.old × SeesLabels token.old }
@@ -57,18 +57,18 @@ fn ordinal_of<N: Name, R: Wait>(
     ensures rests { MayTake token.new × SeesLabels token.new }
     ensures frame { token.new.frame ≡ token.old.frame }
 {
-    let resolved = writer.resolve(rt, token, path);
-    resolved.ok()?.prefixes().last().copied()
+    let resolved = writer.resolve_each(rt, token, paths).ok()?;
+    resolved.first()?.prefixes().last().copied()
 }
 
-// The ordinals of two paths and of the first one again, with so many stripes of so much room.
+// The ordinals of two paths and of the first one again, each in a list of its own, with so many stripes of so much room.
 fn ordinals_of<N: Name, R: Wait>(
     rt: &R,
     alloc: Global,
     opened: Opened,
     room: (u32, u32),
-    one: &Path,
-    two: &Path,
+    one: &[Path],
+    two: &[Path],
 ) -> Option<(u32, u32, u32)>
     requires { opened.labels ≡ N.labels }
 {
@@ -118,13 +118,13 @@ fn resolve_again<N: Name, R: Wait>(
     rt: &R,
     writer: &TaxoWriter<N>,
     mut token: Token<Path>,
-    path: &Path,
+    paths: &[Path],
     answered: &AtomicBool,
 ) -> Option<u32>
     requires own { token.identity ≡ writer.now.labels }
     requires rests { MayTake token × SeesLabels token }
 {
-    let ordinal = ordinal_of(rt, writer, &mut token, path);
+    let ordinal = ordinal_of(rt, writer, &mut token, paths);
     answered.store(true, Ordering::SeqCst);
     ordinal
 }
@@ -134,14 +134,14 @@ fn known_beside<N: Name + Send + Sync, R: Threads + Wait + Clock + Sync>(
     rt: &R,
     alloc: Global,
     opened: Opened,
-    path: &Path,
+    paths: &[Path],
 ) -> Option<u32>
     requires { opened.labels ≡ N.labels }
 {
     let Opened { labels, mut first } = opened;
     let writer = TaxoWriter::<N>::open(alloc, labels, &mut first, 16, 4096, 1_000_000).ok()?;
     let second = writer.token(&mut first);
-    ordinal_of(rt, &writer, &mut first, path)?;
+    ordinal_of(rt, &writer, &mut first, paths)?;
     let answered = AtomicBool::new(false);
     let list = writer.labels().take(rt, &mut first);
     let (in_turn, ordinal) = join(
@@ -151,22 +151,22 @@ fn known_beside<N: Name + Send + Sync, R: Threads + Wait + Clock + Sync>(
         { hold(rt, &writer, first, list, &answered) },
         || -> Option<u32>
             requires { (second.identity ≡ writer.labels) × MayTake second × SeesLabels second }
-        { resolve_again(rt, &writer, second, path, &answered) },
+        { resolve_again(rt, &writer, second, paths, &answered) },
     );
     if in_turn { ordinal } else { None }
 }
 
 fn in_room_for<R: Wait>(rt: &R, alloc: Global, room: (u32, u32)) -> Option<(u32, u32, u32)> {
-    let one = path_of(alloc, &["Author", "Bob"]).ok()?;
-    let two = path_of(alloc, &["Year", "2010"]).ok()?;
+    let one = [path_of(alloc, &["Author", "Bob"]).ok()?];
+    let two = [path_of(alloc, &["Year", "2010"]).ok()?];
     let opened = open_labels(alloc)?;
     ordinals_of::<Brand, R>(rt, alloc, opened, room, &one, &two)
 }
 
 fn while_held<R: Threads + Wait + Clock + Sync>(rt: &R, alloc: Global) -> Option<u32> {
-    let path = path_of(alloc, &["Author", "Bob"]).ok()?;
+    let paths = [path_of(alloc, &["Author", "Bob"]).ok()?];
     let opened = open_labels(alloc)?;
-    known_beside::<Brand, R>(rt, alloc, opened, &path)
+    known_beside::<Brand, R>(rt, alloc, opened, &paths)
 }
 
 #[test]

@@ -10,9 +10,9 @@ use Rattle.run_tests.proofs.near_misses.is_thinned_answered_alike.Goals as goal
 pub are_answered_alike-requires : goal.are_answered_alike-requires
 are_answered_alike-requires c =
     let ss : List Records = map arc_value c.args.segments.now in
-    let ts : List Records = map arc_value c.deref-in-Some-eq36.result.now in
-    let alike : AllZip IsStoredAlike ss ts = subst (λ items. AllZip IsStoredAlike ss (map arc_value items)) (sym c.deref-in-Some-eq36.ensures.value) c.in_ok-segments.ensures in
+    let ts : List Records = map arc_value c.deref-in-Some-eq156.result.now in
+    let alike : AllZip IsStoredAlike ss ts = subst (λ items. AllZip IsStoredAlike ss (map arc_value items)) (sym c.deref-in-Some-eq156.ensures.value) c.in_ok-segments.ensures in
     let decodes : Decodes c.in_ok-view.view c.args.config.now ss (docs_in c.args.labels.now ss) = subst (λ v. Decodes v c.args.config.now ss (docs_in c.args.labels.now ss)) (sym c.in_ok-view.ensures) c.requires in
-    let sum : 36 ≡ sum_by (λ s. length s.records) ts =
-    sym c.in-Some-eq36.field-0-test ∙ c.in-Some-eq36.ensures ∙ ap (λ items. sum_by (λ s. length s.records) (map arc_value items)) (c.deref.ensures.value ∙ sym c.deref-in-Some-eq36.ensures.value) in
+    let sum : 156 ≡ sum_by (λ s. length s.records) ts =
+    sym c.in-Some-eq156.field-0-test ∙ c.in-Some-eq156.ensures ∙ ap (λ items. sum_by (λ s. length s.records) (map arc_value items)) (c.deref.ensures.value ∙ sym c.deref-in-Some-eq156.ensures.value) in
     decodes_alike c.in_ok-view.view c.args.config.now ss ts (docs_in c.args.labels.now ss) 1000000 alike decodes (subst (λ n. n ≤ 1000000) sum (omega arith))
