@@ -153,7 +153,8 @@ pub fn commit<D: Disk, N: Name + Start, R: Wait>(
         → (first moment faults failures : ℕ) → HasNumbers first moment faults failures pass.old.commits.frame → Rose faults count) }
     ensures limit { IfErr result (λ e. (number : ℕ) → e ≡ NumbersSpent number → 2 ^ 63 ≤ number) }
     ensures spent { IfErr result (λ e. (number : ℕ) → e ≡ NumbersSpent number
-        → (first moment faults failures : ℕ) → HasNumbers first moment faults failures pass.old.commits.frame → number < first + 1000003 * length pass.new.commits.seen) }
+        → (first moment faults failures : ℕ) → HasNumbers first moment faults failures pass.old.commits.frame
+        → number < first + 1000003 * length pass.new.commits.seen) }
 
     // The tokens are the same, and see on.
     ensures labels { ComesBack pass.old.labels pass.new.labels }

@@ -41,8 +41,8 @@ pub fn end_commits<
     requires idle { MayTake seen_labels.old × MayTake seen_operations.old × MayTake token.old }
     requires tied { token.old.frame.identities ≡ seen_operations.old.identity ∷ seen_labels.old.identity ∷ [] }
 
-    // The disk counts at least the faults of each commit that failed on it, whose count rose since opening began, and no fewer than then: just what the last commit
-    // was told, where that failed on it, and else what it counted then.
+    // The disk counts at least the faults of each commit that failed on it, whose count rose since opening began, and no fewer than then: just what the last
+    // commit was told, where that failed on it, and else what it counted then.
     ensures counts { All (λ p. (count : ℕ) → p.failed ≡ Some count → count ≤ D.faults result) (entries token.new.seen) }
     ensures rose { (first moment faults failures : ℕ) → HasNumbers first moment faults failures token.old.frame
         → All (λ p. (count : ℕ) → p.failed ≡ Some count → Rose faults count) (entries token.new.seen) }

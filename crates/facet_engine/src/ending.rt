@@ -60,8 +60,8 @@ impl<D: Disk, N: Name + Start> System<D, N> {
         ensures numbers { (made : ℕ) → HaveMade made first → AreUpTo made (noted result.notes) }
         ensures named { NamesSession 0 first → NamesOwn 0 result.notes }
 
-        // The disk counts at least the faults of each commit that failed on it, whose count rose since opening began, and no fewer than then: just what the last
-        // commit was told, where that failed on it, and else what it counted then.
+        // The disk counts at least the faults of each commit that failed on it, whose count rose since opening began, and no fewer than then: just what the
+        // last commit was told, where that failed on it, and else what it counted then.
         ensures counts { All (λ p. (count : ℕ) → p.failed ≡ Some count → count ≤ D.faults result.disk) (entries result.notes.commits.seen) }
         ensures rose { (next moment faults failures : ℕ) → HasNumbers next moment faults failures first.commits.frame
             → All (λ p. (count : ℕ) → p.failed ≡ Some count → Rose faults count) (entries result.notes.commits.seen) }
@@ -77,7 +77,8 @@ impl<D: Disk, N: Name + Start> System<D, N> {
         // Where it was settled too, what was committed lasts.
         ensures lasts { (config : Config) (next moment faults failures : ℕ) → N.settled → config_texts config ≡ first.commits.frame.texts
             → HasNumbers next moment faults failures first.commits.frame
-            → Lasts D.Disk config moment (labels_of (noted result.notes)) (docs_of result.notes.operations.seen) (entries result.notes.commits.seen) result.disk }
+            → Lasts D.Disk config moment (labels_of (noted result.notes)) (docs_of result.notes.operations.seen)
+            (entries result.notes.commits.seen) result.disk }
     {
         let Pass {
             mut labels,

@@ -17,7 +17,7 @@ use Rattle.facet_output.specs.Held.{Held, held_after}
 use Rattle.facet_output.specs.Output.{Opened}
 use Rattle.facet_output.specs.Seen.{Entries, CommitPoint, Seen, Sees, IsTold, entered_by, opened_seen, labels_of, history_of}
 use Rattle.facet_output.specs.Steps.{Step}
-use Rattle.facet_output.specs.Sessions.{SessionRan, PhasesRan, RanSoFar, AllRan, held_by, phase_in_order, steps_of, own_steps, is_by}
+use Rattle.facet_output.specs.Sessions.{SessionRan, PhasesRan, RanSoFar, AllRan, held_by, steps_of, own_steps, is_by}
 use Rattle.facet_words.specs.Sessions.Laws.{lines_rise}
 use Rattle.facet_output.proofs.Among.{In, all_at, in_filter, in_left, in_map, of_map}
 use Rattle.facet_output.proofs.Chain.{sees_self, sees_trans, sees_last}
@@ -96,6 +96,10 @@ none_ran settings opened = record { as_many = refl; asked = refl; in_line_order 
   where
     told_itself : (session : ℕ) (a : Seen) → IsTold session a a
     told_itself session a = record { sees = sees_self a; labels = refl; operations = refl; pairs = refl; commits = refl }
+
+-- the orders of one phase, as they are written
+abbrev phase_in_order : ℕ → List Order → List (ℕ × Order)
+phase_in_order phase orders = map {B = ℕ × Order} (λ o. (phase, o)) (by_session orders)
 
 written_append : (n : ℕ) (phases : List (List Order)) (orders : List Order) → flat_map (λ e. phase_in_order e.0 e.1) (enumerate_from n (phases ++ orders ∷ [])) ≡ flat_map (λ e. phase_in_order e.0 e.1) (enumerate_from n phases) ++ phase_in_order (n + length phases) orders
 written_append n [] orders = append-nil (phase_in_order n orders) ∙ ap (λ k. phase_in_order k orders) (let e : n ≡ n + 0 = omega arith in e)

@@ -6,7 +6,7 @@ use Rattle.facet_model.specs.Histories.{are_publications}
 use Rattle.facet_words.specs.Commands.{Settings}
 use Rattle.facet_words.specs.Sessions.Commands.{Order}
 use Rattle.facet_words.specs.Sessions.Laws.{lines_rise}
-use Rattle.facet_output.specs.Answered.{Answered, is_of, by_session, in_writing_order}
+use Rattle.facet_output.specs.Answered.{Answered, is_of, in_writing_order}
 use Rattle.facet_output.specs.Held.{Held, held_after}
 use Rattle.facet_output.specs.Output.{Opened, IsOutput}
 use Rattle.facet_output.specs.Seen.{Seen, Sees, IsTold, labels_of, history_of, opened_seen}
@@ -42,10 +42,6 @@ PhasesRan phase known (steps ∷ later) last = (next : Seen) × Sees known next
 -- what a session holds after these steps
 abbrev pub held_by : Held → List Step → Held
 held_by held steps = fold (λ h (x : Step). held_after h x.answered) held steps
-
--- the orders of one phase, as they are written
-abbrev pub phase_in_order : ℕ → List Order → List (ℕ × Order)
-phase_in_order phase orders = map {B = ℕ × Order} (λ o. (phase, o)) (by_session orders)
 
 -- These phases were carried out, from what was opened, and now this is known.
 pub record RanSoFar (settings : Settings) (phases : List (List Order)) (opened : Opened) (ran : List (List Step)) (known : Seen) : Type 0 where

@@ -51,7 +51,8 @@ fn threads_for<C>(lanes: &[Lane<C>]) -> usize
     }
 }
 
-/// Carries out the orders of all lanes at once, each lane on a thread of its own, and waits for all of them. Where at most one lane has orders no thread is made.
+/// Carries out the orders of all lanes at once, each lane on a thread of its own, and waits for all of them. Where at most one lane has orders no thread is
+/// made.
 pub(crate) fn run_at_once<
     D: Disk,
     N: Name + Start + Send + Sync,

@@ -77,7 +77,8 @@ fn run_sessions<
 }
 
 /// Carries out phases by the sessions 1 to `sessions`, each on a thread of its own, and hands over what is kept of each phase before the next begins. The first
-/// phase whose replies could not all be kept or handed over is the last. Then it ends the system, in each case, and tells each session what there is at the end.
+/// phase whose replies could not all be kept or handed over is the last. Then it ends the system, in each case, and tells each session what there is at the
+/// end.
 ///
 /// It waits until all sessions have ended, and for the turns that the end takes. It keeps what is wanted of one phase in memory, and lets the orders of each
 /// phase go when they were answered.
@@ -113,8 +114,8 @@ pub fn run_to_end<
     ensures sessions { result.ended.trace.sessions.items ≡ sessions_in (history_of (noted result.ended.notes)) }
     ensures list { IsLabelList (labels_of (noted result.ended.notes)) }
 
-    // The disk counts at least the faults of each commit that failed on it, whose count rose since opening began, and no fewer than then: just what the last commit
-    // was told, where that failed on it, and else what it counted then.
+    // The disk counts at least the faults of each commit that failed on it, whose count rose since opening began, and no fewer than then: just what the last
+    // commit was told, where that failed on it, and else what it counted then.
     ensures counts { All (λ p. (count : ℕ) → p.failed ≡ Some count → count ≤ D.faults result.ended.disk) (entries result.ended.notes.commits.seen) }
     ensures rose { (next moment faults failures : ℕ) → HasNumbers next moment faults failures first.commits.frame
         → All (λ p. (count : ℕ) → p.failed ≡ Some count → Rose faults count) (entries result.ended.notes.commits.seen) }

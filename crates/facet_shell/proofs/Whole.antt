@@ -1,12 +1,12 @@
 -- The lines of the phases before one that was cut off.
 use Rattle.std.proofs.Common.{◌≡◌, ◌∙◌, inl, inr, ⊎_elim, ℕ, ◌+◌, ◌<◌, ◌≤◌, Bool, true, false, cond, List, [], ◌∷◌, ◌++◌, length, map, take, refl, sym, ap, subst, arith, append-nil, append_assoc, length-append}
-use Rattle.std.specs.Prelude.{filter, flat_map, nat_lt}
-use Rattle.std.specs.List.{enumerate_from}
+use Rattle.std.specs.Prelude.{filter, nat_lt}
 use Rattle.std.proofs.lemmas.Bool.{lt-ltb, le-ltb}
 use Rattle.std.proofs.lemmas.List.{append_cancel_left, length-take, map-append}
 use Rattle.std.proofs.lemmas.List.Elements.{filter-append}
 use Rattle.facet_output.proofs.Among.{In, all_in, in_map, of_append, of_map}
 use Rattle.facet_output.proofs.Exact.{filter_all}
+use Rattle.facet_output.proofs.Ordered.{from_phase}
 use Rattle.facet_output.specs.Answered.{Answered, by_session, in_writing_order}
 use Rattle.facet_output.specs.OutputLines.{reply_lines}
 use Rattle.facet_output.specs.Steps.{Step}
@@ -14,10 +14,6 @@ use Rattle.facet_phases.specs.Phases.{asked}
 use Rattle.facet_phases.specs.Runs.{IsCutOff}
 use Rattle.facet_words.specs.Sessions.Commands.{Order}
 use Rattle.facet_shell.specs.Runs.{lines_before}
-
--- the orders of phases from a number on, as they are written
-abbrev from_phase : ℕ → List (List Order) → List (ℕ × Order)
-from_phase n phases = flat_map (λ e. map {B = ℕ × Order} (λ o. (e.0, o)) (by_session e.1)) (enumerate_from n phases)
 
 from_append : (n : ℕ) (xs ys : List (List Order)) → from_phase n (xs ++ ys) ≡ from_phase n xs ++ from_phase (n + length xs) ys
 from_append n [] ys = ap (λ k. from_phase k ys) (let e : n ≡ n + 0 = omega arith in e)

@@ -45,7 +45,8 @@ pub(crate) fn close<K: Sink, D: Disk>(
     requires labels { (0 < opened.1) × (opened.1 ≤ length ran.ended.trace.labels) }
     ensures trace { result.trace ≡ Some ran.ended.trace }
     ensures disk { result.disk ≡ ran.ended.disk }
-    ensures closes { Closes (last_line opened.0 opened.1 ran.ended.trace.labels (drop opened.0 ran.ended.trace.sessions.items)) ran.result K.Sink sink.old sink.new result.status }
+    ensures closes { Closes (last_line opened.0 opened.1 ran.ended.trace.labels (drop opened.0 ran.ended.trace.sessions.items))
+        ran.result K.Sink sink.old sink.new result.status }
 {
     let RanToEnd { result, ended } = ran;
     let EndedSystem {

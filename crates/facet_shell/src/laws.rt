@@ -24,8 +24,8 @@ pub fn adds_stand<D: Disk>(disk: &D)
 }
 
 /// Whatever a crash leaves at the end of a run has all that each acknowledged commit has acknowledged: the documents of the adds that came before it, and the
-/// labels that its session had been shown. Where the disk's count of faults does not rise and there are numbers, a commit is acknowledged, or finds no memory, in
-/// scripts that are read as in those of generated documents.
+/// labels that its session had been shown. Where the disk's count of faults does not rise and there are numbers, a commit is acknowledged, or finds no memory,
+/// in scripts that are read as in those of generated documents.
 pub fn commits_stay<D: Disk>(disk: &D)
     ensures stays { AcknowledgedStays D.Disk }
     ensures acknowledged { CommitsAreAcknowledged D.Disk }

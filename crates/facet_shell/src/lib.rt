@@ -1,5 +1,5 @@
-//! The program as a function: a script of sessions is read from a source to its end, carried out on the store of a disk, the sessions at once, and their replies
-//! are written to a sink.
+//! The program as a function: a script of sessions is read from a source to its end, carried out on the store of a disk, the sessions at once, and their
+//! replies are written to a sink.
 #![tactic(auto)]
 
 mod closing;

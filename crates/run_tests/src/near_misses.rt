@@ -48,7 +48,8 @@ impl Draws {
 const CONFIG: &str =
     "{\"cmd\":\"config\",\"dims\":[{\"dim\":\"a\",\"hierarchical\":true},{\"dim\":\"b\",\"multi_valued\":true}]}\n";
 
-// A script of 156 documents in three segments, of 12, 12 and 132: the last is large enough that its usual ordinals are counted by bits. Each document has up to two words, and most have a label in `a`, which is hierarchical, up to two in `b`, and one in `c`.
+// A script of 156 documents in three segments, of 12, 12 and 132: the last is large enough that its usual ordinals are counted by bits. Each document has up to
+// two words, and most have a label in `a`, which is hierarchical, up to two in `b`, and one in `c`.
 fn script(alloc: Global, draws: &mut Draws) -> Result<String, Fail> {
     let mut text = String::from_str(alloc, CONFIG)?;
     for at in 0..156u32 {
