@@ -11,6 +11,8 @@ mod failing;
 #[cfg(test)]
 mod gates;
 #[cfg(test)]
+mod generated;
+#[cfg(test)]
 mod lines;
 #[cfg(test)]
 mod near_misses;

@@ -100,6 +100,29 @@ pub fn run_behind<G: Gate + Sync, R: AllocGlobal + Threads + Wait + Sync>(
     Ok((ended.status, sink))
 }
 
+/// How a run over an empty disk ends with these words, and what it writes, from a source whose first read fails.
+pub fn run_unread<R: AllocGlobal + Threads + Wait + Sync>(
+    rt: &R,
+    words: &[&str],
+) -> Result<(Status, MemorySink), Fail> {
+    let alloc = rt.alloc();
+    let mut texts = Vec::new(alloc);
+    for word in words {
+        texts.push(String::from_str(alloc, *word)?)?;
+    }
+    let mut source = MemorySource::new(Vec::new(alloc), 1, vec![in alloc; 1]?);
+    let mut sink = MemorySink::new(alloc, Vec::new(alloc));
+    let ended = run(
+        rt,
+        &texts,
+        &mut source,
+        &mut sink,
+        empty_disk(alloc),
+        &OpenGate,
+    );
+    Ok((ended.status, sink))
+}
+
 /// Whether a run over an empty disk ends and writes so; the reads and writes with these numbers fail.
 pub fn ends_on<R: AllocGlobal + Threads + Wait + Sync>(
     rt: &R,

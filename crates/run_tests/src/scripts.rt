@@ -1,3 +1,4 @@
+use crate::generated::are_summed_up;
 use crate::lines::are_written;
 use facet_model::Query;
 use facet_words::Settings;
@@ -89,7 +90,7 @@ fn are_as_told(orders: &[Order], expected: &[Summary]) -> bool {
 
 #[test]
 fn what_is_read_and_what_is_written(rt: HostRuntime) -> Result<(), Fail> {
-    assert!(rt; are_written(rt.alloc())?);
+    assert!(rt; are_written(rt.alloc())? && are_summed_up(&rt)?);
     let script = read_script(rt.alloc(), SHOP)?;
     assert!(rt; has_settings(&script) && has_defaults(rt.alloc())?);
     assert!(rt; script.phases.len() == SUMMARIES.len());
