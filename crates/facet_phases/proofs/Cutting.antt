@@ -11,7 +11,8 @@ use Rattle.facet_words.specs.Sessions.Commands.{Order}
 use Rattle.facet_words.specs.Sessions.Laws.{lines_rise}
 use Rattle.facet_output.specs.Held.{Held}
 use Rattle.facet_output.specs.Seen.{Seen, IsTold}
-use Rattle.facet_output.specs.Sessions.{SessionRan, held_by, own_steps, phase_in_order, steps_of}
+use Rattle.facet_output.specs.Answered.{by_session}
+use Rattle.facet_output.specs.Sessions.{SessionRan, held_by, own_steps, steps_of}
 use Rattle.facet_output.specs.Steps.{Step}
 use Rattle.facet_phases.specs.Phases.{AreSpentWithin, PhaseRan, asked, in_phase, orders_by}
 use Rattle.facet_phases.specs.Runs.{HasFirstOf}
@@ -157,7 +158,7 @@ module _ (settings : Settings) (frame : Frame) (ran : List (List Step)) (phase :
   cut_spent count = parts_spent 1 count
 
   module _ (count : ℕ) (few : count ≤ 64) (within : All (λ (o : Order). (1 ≤ o.session) × (o.session ≤ count)) orders) where
-    pub cut_asked : asked (cut_steps count) ≡ phase_in_order phase cut
+    pub cut_asked : asked (cut_steps count) ≡ in_phase phase (by_session cut)
     cut_asked =
         let many = parts_many 1 count in
         let inside : All (λ (o : Order). o.session ≤ length (parts_from 1 count)) cut = cut_all (λ (o : Order). o.session ≤ length (parts_from 1 count)) (λ s. (short.asked s).0) orders

@@ -10,7 +10,7 @@ use Rattle.facet_output.specs.Answered.{by_session}
 use Rattle.facet_words.specs.Sessions.Commands.{Order}
 use Rattle.facet_output.specs.Held.{Held}
 use Rattle.facet_output.specs.Seen.{Seen, IsTold}
-use Rattle.facet_output.specs.Sessions.{SessionRan, own_steps, is_by, steps_of, phase_in_order}
+use Rattle.facet_output.specs.Sessions.{SessionRan, own_steps, is_by, steps_of}
 use Rattle.facet_output.specs.Steps.{Step}
 use Rattle.facet_phases.specs.Phases.{asked, in_phase, orders_by}
 use Rattle.facet_phases.proofs.Stepping.{AreBy, are_by, own_all, own_none, asked_append, in_phase_append}
@@ -127,5 +127,5 @@ all_by_session count orders few all =
     ∙ ap (λ (l : List Order). orders_from 1 count orders ++ l) (none_from (1 + count) (64 - count) orders (All-weaker (λ (o : Order). o.session ≤ count) (λ (o : Order). o.session < 1 + count) (λ o le. omega arith) orders all))
     ∙ append-nil (orders_from 1 count orders)
 
-pub phase_asked : (phase : ℕ) (dealt : List Order) (parts : List (List Step)) → length parts ≤ 64 → All (λ (o : Order). o.session ≤ length parts) dealt → AreWhole phase 1 dealt parts → asked (steps_of parts) ≡ phase_in_order phase dealt
+pub phase_asked : (phase : ℕ) (dealt : List Order) (parts : List (List Step)) → length parts ≤ 64 → All (λ (o : Order). o.session ≤ length parts) dealt → AreWhole phase 1 dealt parts → asked (steps_of parts) ≡ in_phase phase (by_session dealt)
 phase_asked phase dealt parts few all whole = asked_whole phase 1 dealt parts whole ∙ ap (in_phase phase) (sym (all_by_session (length parts) dealt few all))
