@@ -14,7 +14,7 @@ use Rattle.facet_codec.specs.Faults.{fault_at}
 use Rattle.facet_codec.specs.Spelling.{one_byte, be32, be64, vint, text}
 use Rattle.facet_codec.specs.Reading.{u32_at, u64_at, vint_at, bytes_at, text_at}
 use Rattle.facet_codec.specs.Laws.{ReadsBack, IsBelow, HasLength, IsText}
-use Rattle.facet_codec.proofs.Taking.{told_read_back}
+use Rattle.facet_codec.proofs.Taking.{told_read_back, place_at}
 use Rattle.facet_codec.proofs.EachKind.{u32_read_back, u64_read_back, vint_read_back, bytes_read_back, text_read_back}
 use Rattle.facet_model.specs.declared.flags.DimFlags.{DimFlags}
 use Rattle.facet_model.specs.Flags.{Config}
@@ -29,9 +29,6 @@ use Rattle.commit_file.specs.Limits.{IsLabelPart, IsDocumentPart, IsDeclaration}
 use Rattle.commit_file.specs.Reading.{told, word_at, number_at, head_at, some_at, digest_at, each_at, labels_at, first_at, count_at, label_part_at, taxonomy_at, taxonomy_commit, flags_at, dim_at, declaration_at, documents_at, document_part_at, index_at, index_commit}
 use Rattle.commit_file.proofs.Ordering.{is_set, kept_sorted, kept_set}
 use Rattle.commit_file.proofs.Digests.{unsealed_again}
-
-abbrev place : ℕ → List ℕ → Place
-place at rest = record { at = at; rest = rest }
 
 -- ---- numbers and texts
 
@@ -50,15 +47,15 @@ text_again = told_read_back (λ e. Malformed (fault_at e)) (text_at 1024) text (
 digest_again : ReadsBack digest_at (λ bytes. bytes) (HasLength 32)
 digest_again = told_read_back (λ e. Malformed (fault_at e)) (bytes_at 32) (λ bytes. bytes) (HasLength 32) (bytes_read_back 32)
 
-word_again : (n at : ℕ) (rest : List ℕ) → n < 2 ^ 32 → word_at n (place at (be32 n ++ rest)) ≡ Ok (place (at + length (be32 n)) rest)
+word_again : (n at : ℕ) (rest : List ℕ) → n < 2 ^ 32 → word_at n (place_at at (be32 n ++ rest)) ≡ Ok (place_at (at + length (be32 n)) rest)
 unfolding word_at
 word_again n at rest lt = rw (u32_again at n rest lt, eq-eqb n n refl) refl
 
-number_again : (n at : ℕ) (rest : List ℕ) → 0 < n → n < 2 ^ 64 → number_at n (place at (be64 n ++ rest)) ≡ Ok (place (at + length (be64 n)) rest)
+number_again : (n at : ℕ) (rest : List ℕ) → 0 < n → n < 2 ^ 64 → number_at n (place_at at (be64 n ++ rest)) ≡ Ok (place_at (at + length (be64 n)) rest)
 unfolding number_at
 number_again n at rest some lt = rw (u64_again at n rest lt, ne_eqb n 0 (λ e. omega (arith, e, some)), eq-eqb n n refl) refl
 
-head_again : (kind number at : ℕ) (rest : List ℕ) → kind < 2 ^ 32 → 0 < number → number < 2 ^ 64 → head_at kind number (place at (head_bytes kind number ++ rest)) ≡ Ok (place (at + length (head_bytes kind number)) rest)
+head_again : (kind number at : ℕ) (rest : List ℕ) → kind < 2 ^ 32 → 0 < number → number < 2 ^ 64 → head_at kind number (place_at at (head_bytes kind number ++ rest)) ≡ Ok (place_at (at + length (head_bytes kind number)) rest)
 unfolding head_at head_bytes
 head_again kind number at rest kind_fits some fits =
     let t2 : List ℕ = be64 number ++ rest in
@@ -70,9 +67,9 @@ head_again kind number at rest kind_fits some fits =
     let e2 = word_again 1 a1 t2 (omega arith) in
     let e3 = number_again number a2 rest some fits in
     let far : a2 + length (be64 number) ≡ at + length (head_bytes kind number) = simp length-append (omega arith) in
-    rw (regrouped, e1, e2, e3) (ap (λ (n : ℕ). Ok (place n rest)) far)
+    rw (regrouped, e1, e2, e3) (ap (λ (n : ℕ). Ok (place_at n rest)) far)
 
-some_again : (n at : ℕ) (rest : List ℕ) → 0 < n → n < 2 ^ 32 → some_at (place at (be32 n ++ rest)) ≡ Ok (n, place (at + length (be32 n)) rest)
+some_again : (n at : ℕ) (rest : List ℕ) → 0 < n → n < 2 ^ 32 → some_at (place_at at (be32 n ++ rest)) ≡ Ok (n, place_at (at + length (be32 n)) rest)
 unfolding some_at
 some_again n at rest some lt = rw (u32_again at n rest lt, ne_eqb n 0 (λ e. omega (arith, e, some))) refl
 
@@ -85,17 +82,17 @@ module _ {A S : Type 0} (read : ℕ → S → Place → Result (A × Place) File
   EachFits s (x ∷ xs) = Fits (length xs) s x × EachFits (next s x) xs
 
   abbrev ReadsEach : Type 0
-  ReadsEach = (left : ℕ) (s : S) (at : ℕ) (x : A) (rest : List ℕ) → Fits left s x → read left s (place at (spell x ++ rest)) ≡ Ok (x, place (at + length (spell x)) rest)
+  ReadsEach = (left : ℕ) (s : S) (at : ℕ) (x : A) (rest : List ℕ) → Fits left s x → read left s (place_at at (spell x ++ rest)) ≡ Ok (x, place_at (at + length (spell x)) rest)
 
-  each_again : ReadsEach → (s : S) (at : ℕ) (xs : List A) (rest : List ℕ) → EachFits s xs → each_at read next (length xs) s (place at (flat_map spell xs ++ rest)) ≡ Ok (xs, place (at + length (flat_map spell xs)) rest)
+  each_again : ReadsEach → (s : S) (at : ℕ) (xs : List A) (rest : List ℕ) → EachFits s xs → each_at read next (length xs) s (place_at at (flat_map spell xs ++ rest)) ≡ Ok (xs, place_at (at + length (flat_map spell xs)) rest)
   unfolding each_at
-  each_again law s at [] rest fit = ap (λ (n : ℕ). Ok ([], place n rest)) (omega arith)
+  each_again law s at [] rest fit = ap (λ (n : ℕ). Ok ([], place_at n rest)) (omega arith)
   each_again law s at (x ∷ xs) rest fit =
       let regrouped : flat_map spell (x ∷ xs) ++ rest ≡ spell x ++ (flat_map spell xs ++ rest) = append_assoc (spell x) (flat_map spell xs) rest in
       let first = law (length xs) s at x (flat_map spell xs ++ rest) fit.0 in
       let others = each_again law (next s x) (at + length (spell x)) xs rest fit.1 in
       let far : at + length (spell x) + length (flat_map spell xs) ≡ at + length (spell x ++ flat_map spell xs) = omega (arith, length-append (spell x) (flat_map spell xs)) in
-      rw (regrouped, first, others) (ap (λ (n : ℕ). Ok (x ∷ xs, place n rest)) far)
+      rw (regrouped, first, others) (ap (λ (n : ℕ). Ok (x ∷ xs, place_at n rest)) far)
 
 -- ---- a commit of the taxonomy
 
@@ -112,7 +109,7 @@ last_is_right labels left part last =
       | inr e ↦ rw (ne_eqb left 0 e) refl
     ]
 
-label_again : (labels left start at : ℕ) (part : LabelPart) (rest : List ℕ) → FitsBehind labels left start part → label_part_at labels left start (place at (label_bytes part ++ rest)) ≡ Ok (part, place (at + length (label_bytes part)) rest)
+label_again : (labels left start at : ℕ) (part : LabelPart) (rest : List ℕ) → FitsBehind labels left start part → label_part_at labels left start (place_at at (label_bytes part ++ rest)) ≡ Ok (part, place_at (at + length (label_bytes part)) rest)
 unfolding label_part_at first_at count_at label_bytes
 label_again labels left start at part rest fits =
     let t4 : List ℕ = part.digest ++ rest in
@@ -126,7 +123,7 @@ label_again labels left start at part rest fits =
     let e3 = u32_again a2 part.count t4 fits.fits.count in
     let e4 = digest_again a3 part.digest rest fits.fits.digest in
     let far : a3 + length part.digest ≡ at + length (label_bytes part) = simp length-append (omega arith) in
-    rw (e1, e2, eq-eqb part.first start fits.begins, e3, last_is_right labels left part fits.last, e4) (ap (λ (n : ℕ). Ok (part, place n rest)) far)
+    rw (e1, e2, eq-eqb part.first start fits.begins, e3, last_is_right labels left part fits.last, e4) (ap (λ (n : ℕ). Ok (part, place_at n rest)) far)
 
 labels_fit : (labels start : ℕ) (parts : List LabelPart) → AreInOrder labels start parts → AllByRecursion IsLabelPart parts → EachFits (label_part_at labels) (λ _ part. end_of part) label_bytes (FitsBehind labels) start parts
 labels_fit labels start [] order all = tt
@@ -154,11 +151,11 @@ taxonomy_again number c some fits few parts parts_fit order all =
 
 -- ---- a commit of the index
 
-flags_again : (at : ℕ) (f : DimFlags) (rest : List ℕ) → is_some_set f ≡ true → flags_at (place at (one_byte (flags_number f) ++ rest)) ≡ Ok (f, place (at + 1) rest)
+flags_again : (at : ℕ) (f : DimFlags) (rest : List ℕ) → is_some_set f ≡ true → flags_at (place_at at (one_byte (flags_number f) ++ rest)) ≡ Ok (f, place_at (at + 1) rest)
 unfolding flags_at
 flags_again at f rest some = by f.hierarchical f.multi_valued f.require_dim_count some
   where
-    by : (a b c : Bool) → (a || b || c) ≡ true → flags_at (place at (one_byte (flags_number (record { hierarchical = a; multi_valued = b; require_dim_count = c })) ++ rest)) ≡ Ok (record { hierarchical = a; multi_valued = b; require_dim_count = c }, place (at + 1) rest)
+    by : (a b c : Bool) → (a || b || c) ≡ true → flags_at (place_at at (one_byte (flags_number (record { hierarchical = a; multi_valued = b; require_dim_count = c })) ++ rest)) ≡ Ok (record { hierarchical = a; multi_valued = b; require_dim_count = c }, place_at (at + 1) rest)
     by false false false h = absurd cc
     by true false false h = refl
     by false true false h = refl
@@ -174,7 +171,7 @@ pub record FitsAfter (left : ℕ) (before : List ℕ) (d : List ℕ × DimFlags)
   pub after : is_lt (word_cmp before d.0) ≡ true
   pub set : is_some_set d.1 ≡ true
 
-declaration_again : (left : ℕ) (before : List ℕ) (at : ℕ) (d : List ℕ × DimFlags) (rest : List ℕ) → FitsAfter left before d → declaration_at before (place at (declaration_bytes d ++ rest)) ≡ Ok (d, place (at + length (declaration_bytes d)) rest)
+declaration_again : (left : ℕ) (before : List ℕ) (at : ℕ) (d : List ℕ × DimFlags) (rest : List ℕ) → FitsAfter left before d → declaration_at before (place_at at (declaration_bytes d ++ rest)) ≡ Ok (d, place_at (at + length (declaration_bytes d)) rest)
 unfolding declaration_at dim_at declaration_bytes
 declaration_again left before at d rest fits =
     let t2 : List ℕ = one_byte (flags_number d.1) ++ rest in
@@ -183,7 +180,7 @@ declaration_again left before at d rest fits =
     let e1 = text_again at d.0 t2 fits.fits.text in
     let e2 = flags_again a1 d.1 rest fits.set in
     let far : a1 + 1 ≡ at + length (declaration_bytes d) = omega (arith, length-append (text d.0) (one_byte (flags_number d.1))) in
-    rw (regrouped, e1, fits.after, e2) (ap (λ (n : ℕ). Ok (d, place n rest)) far)
+    rw (regrouped, e1, fits.after, e2) (ap (λ (n : ℕ). Ok (d, place_at n rest)) far)
 
 declarations_fit : (before : List ℕ) (ds : Config) → AllByRecursion (λ y. word_cmp before y ≡ Less) (keys_of ds) → IsStrictlySortedBy word_cmp (keys_of ds) → AllByRecursion (λ d. is_set d ≡ true) ds → AllByRecursion IsDeclaration ds → EachFits (λ _. declaration_at) (λ _ d. d.0) declaration_bytes FitsAfter before ds
 unfolding IsStrictlySortedBy
@@ -203,7 +200,7 @@ pub record FitsBeside (left before : ℕ) (part : DocumentPart) : Type 0 where
   pub fits : IsDocumentPart part
   pub few : before + part.documents ≤ 1000000
 
-document_again : (left before at : ℕ) (part : DocumentPart) (rest : List ℕ) → FitsBeside left before part → document_part_at before (place at (document_bytes part ++ rest)) ≡ Ok (part, place (at + length (document_bytes part)) rest)
+document_again : (left before at : ℕ) (part : DocumentPart) (rest : List ℕ) → FitsBeside left before part → document_part_at before (place_at at (document_bytes part ++ rest)) ≡ Ok (part, place_at (at + length (document_bytes part)) rest)
 unfolding document_part_at documents_at document_bytes
 document_again left before at part rest fits =
     let t3 : List ℕ = part.digest ++ rest in
@@ -214,7 +211,7 @@ document_again left before at part rest fits =
     let e2 = u32_again a1 part.documents t3 fits.fits.documents in
     let e3 = digest_again a2 part.digest rest fits.fits.digest in
     let far : a2 + length part.digest ≡ at + length (document_bytes part) = simp length-append (omega arith) in
-    rw (e1, e2, le-ltb 1000000 (before + part.documents) fits.few, e3) (ap (λ (n : ℕ). Ok (part, place n rest)) far)
+    rw (e1, e2, le-ltb 1000000 (before + part.documents) fits.few, e3) (ap (λ (n : ℕ). Ok (part, place_at n rest)) far)
 
 documents_fit : (before : ℕ) (parts : List DocumentPart) → before + sum_by documents_of parts ≤ 1000000 → AllByRecursion IsDocumentPart parts → EachFits (λ _. document_part_at) with_documents document_bytes FitsBeside before parts
 documents_fit before [] few all = tt

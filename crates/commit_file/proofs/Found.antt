@@ -10,7 +10,7 @@ use Rattle.std.specs.Str.{bytes_eq}
 use Rattle.std.specs.Cmp.Lexicographic.{bytes_decides}
 use Rattle.std.proofs.lemmas.List.{append-nil, take-append-drop}
 use Rattle.std.proofs.lemmas.List.Sums.{sum_by-cons}
-use Rattle.std.proofs.lemmas.Bool.{ltb-false, eqb-true, eqb-false, eq-eqb, not-false, agree_below_at}
+use Rattle.std.proofs.lemmas.Bool.{ltb-false, eqb-true, eqb-false, eq-eqb, not-false, agree_below_at, or_parts}
 use Rattle.sha2.specs.Sha256.{sha256}
 use Rattle.facet_codec.specs.Places.{Place, IsBytes}
 use Rattle.facet_codec.specs.Faults.{fault_at}
@@ -32,8 +32,9 @@ use Rattle.commit_file.specs.Spelling.{with_digest, head_bytes, label_bytes, tax
 use Rattle.commit_file.specs.Limits.{IsTaxonomy, IsIndex}
 use Rattle.commit_file.specs.Reading.{told, word_at, number_at, head_at, some_at, digest_at, each_at, body_of, digest_in, unsealed, labels_at, first_at, count_at, label_part_at, label_parts_at, taxonomy_at, taxonomy_commit, flags_of, flags_at, dim_at, declaration_at, declarations_at, documents_at, document_part_at, document_parts_at, index_at, index_commit}
 use Rattle.commit_file.proofs.Again.{EachFits, FitsBehind, FitsAfter, FitsBeside}
-use Rattle.commit_file.proofs.Rising.{is_less, some_byte}
+use Rattle.commit_file.proofs.Rising.{some_byte}
 use Rattle.commit_file.proofs.Ordering.{is_set, above_all, kept_whole}
+use Rattle.facet_names.proofs.Ordered.{is_less}
 
 -- ---- numbers and texts
 
@@ -55,10 +56,6 @@ text_told = told_spelled (λ e. Malformed (fault_at e)) (text_at 1024) text (IsT
 digest_told : IsSpelled digest_at (λ bytes. bytes) (HasLength 32)
 digest_told = told_spelled (λ e. Malformed (fault_at e)) (bytes_at 32) (λ bytes. bytes) (HasLength 32) (bytes_spelled 32)
 
-neither : (a b : Bool) → (a || b) ≡ false → (a ≡ false) × (b ≡ false)
-neither true b e = absurd cc
-neither false b e = (refl, e)
-
 word_found : (n : ℕ) (p q : Place) → IsBytes p.rest → word_at n p ≡ Ok q → Takes p (be32 n) q
 unfolding word_at
 word_found n p q fits e =
@@ -72,7 +69,7 @@ unfolding number_at
 number_found n p q fits e =
     let a = bind_ok (told (u64_at p)) (λ m. cond (eqb m.0 0 || not (eqb m.0 n)) (Err (Malformed p.at)) (done m.1)) q e in
     let g = guard_ok (eqb a.0.0 0 || not (eqb a.0.0 n)) (Malformed p.at) (done a.0.1) q a.2 in
-    let same : a.0.0 ≡ n = eqb-true a.0.0 n (not-false (eqb a.0.0 n) (neither (eqb a.0.0 0) (not (eqb a.0.0 n)) g.0).1) in
+    let same : a.0.0 ≡ n = eqb-true a.0.0 n (not-false (eqb a.0.0 n) (or_parts (eqb a.0.0 0) (not (eqb a.0.0 n)) g.0).1) in
     let k = u64_told p a.0.0 a.0.1 fits a.1 in
     subst (λ (m : ℕ). Takes p (be64 m) q) same (subst (λ (r : Place). Takes p (be64 a.0.0) r) (done_is FileFault a.0.1 q g.1) k.0)
 
@@ -249,7 +246,7 @@ unfolding flags_at
 flags_found p f q fits e =
     let a = bind_ok (told (u8_at p)) (λ n. cond (eqb n.0 0 || ltb 7 n.0) (Err (Malformed p.at)) (done (flags_of n.0, n.1))) (f, q) e in
     let g = guard_ok (eqb a.0.0 0 || ltb 7 a.0.0) (Malformed p.at) (done (flags_of a.0.0, a.0.1)) (f, q) a.2 in
-    let t = neither (eqb a.0.0 0) (ltb 7 a.0.0) g.0 in
+    let t = or_parts (eqb a.0.0 0) (ltb 7 a.0.0) g.0 in
     let lt : a.0.0 < 8 = omega (arith, ltb-false 7 a.0.0 t.1) in
     let k = u8_told p a.0.0 a.0.1 fits a.1 in
     subst (λ (x : DimFlags × Place). Takes p (one_byte (flags_number x.0)) x.1 × (is_some_set x.0 ≡ true)) (done_is FileFault (flags_of a.0.0, a.0.1) (f, q) g.1)

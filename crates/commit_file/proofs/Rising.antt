@@ -12,22 +12,11 @@ use Rattle.facet_model.specs.declared.flags.DimFlags.{DimFlags}
 use Rattle.facet_model.specs.Flags.{Config}
 use Rattle.facet_model.specs.Words.{word_cmp}
 use Rattle.facet_config.specs.Faults.{declare_fault}
-
-pub is_less : (o : Ordering) → is_lt o ≡ true → o ≡ Less
-is_less Less e = refl
-is_less Equal e = absurd cc
-is_less Greater e = absurd cc
+use Rattle.facet_names.proofs.Ordered.{is_less}
+use Rattle.facet_model.proofs.WordOrder.{not_less_itself}
 
 pub flipped : (x y : List ℕ) (o : Ordering) → word_cmp y x ≡ o → word_cmp x y ≡ ordering_reverse o
 flipped x y o e = nat_list_cmp_total.antisymm x y ∙ ap ordering_reverse e
-
-not_less_itself : (x : List ℕ) → is_lt (word_cmp x x) ≡ false
-not_less_itself x = by (word_cmp x x) (nat_list_cmp_total.antisymm x x)
-  where
-    by : (o : Ordering) → o ≡ ordering_reverse o → is_lt o ≡ false
-    by Less e = absurd cc
-    by Equal e = refl
-    by Greater e = absurd cc
 
 -- no dimension of the config is above this one
 abbrev pub AreUpTo : List ℕ → Config → Type 0

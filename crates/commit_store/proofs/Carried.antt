@@ -20,13 +20,11 @@ use Rattle.commit_store.specs.Plannings.{IsPlanOf, IsCommittedAt, AreLed, LeadsO
 use Rattle.commit_store.specs.Promised.{AreAmong, HasNamed}
 use Rattle.commit_store.specs.Results.{committed_told, IsCutShort}
 use Rattle.commit_store.proofs.Cleaning.{carried_is, cut_short_is, left_named}
-use Rattle.commit_store.proofs.Held.{Labels}
 use Rattle.commit_store.proofs.Listed.{are_listed}
 use Rattle.commit_store.proofs.Remaining.{named_stays}
 use Rattle.commit_store.proofs.Promises.{leaves_weaker, led, one_of_three}
-
-one_told : {a b : Told} → Some a ≡ Some b → a ≡ b
-one_told e = cc e
+use Rattle.std.proofs.lemmas.Option.{same_Some}
+use Rattle.facet_names.proofs.LabelLists.{Labels}
 
 -- a committer that took no fault
 abbrev pub left : {D : Type 0} → Config → Committed → D → CommitterView D
@@ -74,7 +72,7 @@ module _ {D : Type 0} (disk : Ghosts D) (own : (d : D) (s : Told) → disk.told 
   tells made s told = made s told ∙ ap (λ (t : Told). Some t) (carried_is config old view ss p after plan s)
 
   pub tells_same : ((s : Told) → disk.told now ≡ Some s → disk.told end ≡ Some (carried_told p s)) → (s u : Told) → disk.told now ≡ Some s → disk.told end ≡ Some u → u ≡ committed_told config old view ss s
-  tells_same made s u told then = one_told (sym then ∙ tells made s told)
+  tells_same made s u told then = same_Some _ _ (sym then ∙ tells made s told)
 
   pub cleaned : ((s : Told) → disk.told now ≡ Some s → disk.told end ≡ Some (carried_told p s)) → (s u : Told) → disk.told now ≡ Some s → disk.told end ≡ Some u
       → AreAmong s.files old.listed → AreAmong u.files after.listed

@@ -26,8 +26,11 @@ use Rattle.commit_store.specs.Strays.{in_order, is_among, strays}
 use Rattle.commit_store.specs.Plannings.{IsPlanOf}
 use Rattle.commit_store.specs.Results.{published_by, committed_told, IsCutShort}
 use Rattle.commit_store.proofs.InOrder.{in_order_has, among_has, has_among}
-use Rattle.commit_store.proofs.Held.{Labels}
-use Rattle.commit_store.proofs.Keeping.{all_push, all_weaker}
+use Rattle.commit_store.proofs.Keeping.{all_weaker}
+use Rattle.facet_codec.proofs.Lists.{each_push}
+use Rattle.std.proofs.lemmas.Option.{same_Some}
+use Rattle.std.proofs.lemmas.Bool.{both_ways}
+use Rattle.facet_names.proofs.LabelLists.{Labels}
 
 -- ---- strays
 
@@ -43,13 +46,10 @@ filter_has {X} p (x ∷ xs) = All-cons (λ y. p y ≡ true → Contains (filter 
     more true y has = Contains-append_right (x ∷ []) (filter p xs) y has
     more false y has = has
 
-clash : {b : Bool} → b ≡ true → b ≡ false → ⊥
-clash yes_is no_is = cc (sym yes_is ∙ no_is)
-
 -- a stray is not named
 pub no_stray : (listed named : List FileName) (n : FileName) → Contains (strays listed named) n → Contains named n → ⊥
 no_stray listed named n has also =
-    clash (All-contains (λ (m : FileName). not (is_among named m) ≡ true) (strays listed named) n (filter_passes (λ m. not (is_among named m)) (in_order listed)) has) (ap not (has_among named n also))
+    both_ways _ (ap not (has_among named n also)) (All-contains (λ (m : FileName). not (is_among named m) ≡ true) (strays listed named) n (filter_passes (λ m. not (is_among named m)) (in_order listed)) has)
 
 -- a listed file that is no stray is named
 named_else : (listed named : List FileName) (n : FileName) → Contains listed n → (Contains (strays listed named) n → ⊥) → Contains named n
@@ -85,7 +85,7 @@ published_left dir (Some m) s n left = by_name (λ (a : FileName). (with_at (wit
     (λ is some. inl (0, omega arith, sym is))
     (λ other some. by_name (λ (a : FileName). (with_at s.files from None a ≢ None) → Contains (to ∷ []) a ⊎ ((s.files a ≢ None) × ((k : ℕ) → Some m ≡ Some k → a ≢ file dir Pending k))) n from
     (λ is there. absurd (there (ap (with_at s.files from None) is ∙ with_here s.files from None)))
-    (λ apart there. inr ((λ none. there (with_other s.files from None n apart ∙ none)), λ k same. subst (λ (x : ℕ). n ≢ file dir Pending x) (one m k same) apart))
+    (λ apart there. inr ((λ none. there (with_other s.files from None n apart ∙ none)), λ k same. subst (λ (x : ℕ). n ≢ file dir Pending x) (same_Some m k same) apart))
     (λ none. some (with_other (with_at s.files from None) to (s.files from) n other ∙ none)))
     left
   where
@@ -94,9 +94,6 @@ published_left dir (Some m) s n left = by_name (λ (a : FileName). (with_at (wit
 
     to : FileName
     to = file dir Commit m
-
-    one : (a b : ℕ) → Some a ≡ Some b → a ≡ b
-    one a b is = cc is
 
 -- it was made, or it was there
 made_left : (fs : List (FileName × List ℕ)) (s : Told) (n : FileName) → (made_told fs s).files n ≢ None → Contains (map (λ f. f.0) fs) n ⊎ (s.files n ≢ None)
@@ -157,7 +154,7 @@ module _ (P : FileName → Type 0) where
       go (Some found) = still_placed p.kept (record { part = found.0; segment = s }) p.draft.files all
       go None =
           let k : Kept = record { part = new_part p.draft.next s; segment = s } in
-          all_push (IsPlaced (p.kept ++ k ∷ [])) p.draft.files (file Index Segment p.draft.next, seg_bytes s) (still_placed p.kept k p.draft.files all) (inr (kept_last p.kept k))
+          each_push (IsPlaced (p.kept ++ k ∷ [])) p.draft.files (file Index Segment p.draft.next, seg_bytes s) (still_placed p.kept k p.draft.files all) (inr (kept_last p.kept k))
 
   placed_all : (p : Placed) (ss : List Records) → AllByRecursion (IsPlaced p.kept) p.draft.files → AllByRecursion (IsPlaced (fold place p ss).kept) (fold place p ss).draft.files
   placed_all p [] all = all
@@ -179,8 +176,8 @@ index_meant P config needs old ss d before = go (is_index_left_out old ss)
     go true = all_weaker (λ f. P f.0) (λ f. P f.0 ⊎ Contains (document_names old.kept) f.0 ⊎ IsPendingOf Index None f.0) (λ f is. inl is) d.files before
     go false =
         let p = placed old ss d in
-        all_push (λ f. P f.0 ⊎ Contains (document_names p.kept) f.0 ⊎ IsPendingOf Index (Some p.draft.next) f.0) p.draft.files _
-        (all_weaker (IsPlaced P p.kept) (λ f. P f.0 ⊎ Contains (document_names p.kept) f.0 ⊎ IsPendingOf Index (Some p.draft.next) f.0) (λ f is. ⊎_elim (λ one. inl one) (λ has. inr (inl has)) is) p.draft.files all)
+        each_push (λ f. P f.0 ⊎ Contains (document_names p.kept) f.0 ⊎ IsPendingOf Index (Some p.draft.next) f.0) p.draft.files _
+        (all_weaker (IsPlaced P p.kept) (λ f. P f.0 ⊎ Contains (document_names p.kept) f.0 ⊎ IsPendingOf Index (Some p.draft.next) f.0) (λ f is. ⊎_elim (λ same_Some. inl same_Some) (λ has. inr (inl has)) is) p.draft.files all)
         (inr (inr (p.draft.next, refl, refl)))
 
 -- ---- all of it

@@ -1,7 +1,6 @@
 -- How many files a commit makes, where the committed segments are the first of those given.
 use Rattle.std.proofs.Common.{◌≡◌, ◌≤◌, ◌+◌, ◌-◌, ℕ, Bool, true, false, ◌||◌, nat_lt, nat_le, if◌then◌else◌, List, [], ◌∷◌, ◌++◌, length, fold, Option, Some, None, refl, sym, ap, ◌∙◌, arith, length-append, append_assoc}
-use Rattle.std.specs.Str.{bytes_eq}
-use Rattle.std.specs.Cmp.Lexicographic.{bytes_decides}
+use Rattle.std.specs.Cmp.Lexicographic.{nat_list_eq_equiv}
 use Rattle.std.proofs.lemmas.Bool.{leb-true, lt-leb, lt-ltb, le-ltb, ltb-false}
 use Rattle.std.proofs.lemmas.List.{length-map, map-append, append-nil}
 use Rattle.std.proofs.lemmas.List.Sums.{fold-append}
@@ -11,22 +10,19 @@ use Rattle.commit_file.specs.declared.index.DocumentPart.{DocumentPart}
 use Rattle.seg_grammar.specs.Spelling.{seg_bytes}
 use Rattle.commit_store.specs.Committed.{Committed, Kept, segments_in}
 use Rattle.commit_store.specs.Drafts.{Drafted, Placed, taken, placed_by, place, placed, are_same, with_index, with_labels, nothing_drafted, labels_first, is_longer, drafted, committed_after}
-use Rattle.commit_store.proofs.Held.{Labels}
 use Rattle.commit_store.proofs.SameBytes.{taken_none, same_length, lengths_differ}
-
-same_bytes : (bytes : List ℕ) → bytes_eq bytes bytes ≡ true
-same_bytes bytes = (bytes_decides bytes bytes).1 refl
+use Rattle.facet_names.proofs.LabelLists.{Labels}
 
 -- ---- which segments are committed
 
 taken_first : (k : Kept) (ks : List Kept) → taken (k ∷ ks) (seg_bytes k.segment) ≡ Some (k.part, ks)
 unfolding taken
-taken_first k ks = rw (same_bytes (seg_bytes k.segment)) refl
+taken_first k ks = rw (nat_list_eq_equiv.refl (seg_bytes k.segment)) refl
 
 same_again : (ks : List Kept) → are_same ks (segments_in ks) ≡ true
 unfolding are_same
 same_again [] = refl
-same_again (k ∷ ks) = rw (same_bytes (seg_bytes k.segment), same_again ks) refl
+same_again (k ∷ ks) = rw (nat_list_eq_equiv.refl (seg_bytes k.segment), same_again ks) refl
 
 -- ---- how they are placed
 

@@ -15,8 +15,8 @@ use Rattle.store_opening.specs.Newest.{AreListed}
 use Rattle.commit_store.specs.Committed.{Committed}
 use Rattle.commit_store.specs.Strays.{in_order, is_among, strays}
 use Rattle.commit_store.specs.Plannings.{IsPlanOf}
-use Rattle.commit_store.proofs.Held.{Labels}
 use Rattle.commit_store.proofs.InOrder.{in_order_only, in_order_once}
+use Rattle.facet_names.proofs.LabelLists.{Labels}
 
 -- names that differ, each of a file that is there
 each_there : (names : List FileName) (c : Image) → ((n : FileName) → Contains names n → c n ≢ None) → AllPairs (λ a b. a ≢ b) names → AreThere names c

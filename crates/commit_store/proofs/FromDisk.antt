@@ -34,8 +34,9 @@ use Rattle.store_opening.proofs.Held.{taxonomy_there, files_held}
 use Rattle.commit_store.specs.Committed.{IsKept, IsOwn, IsCommitted, segments_in}
 use Rattle.commit_store.specs.Openings.{kept_by, committed_read}
 use Rattle.commit_store.specs.Plannings.{IsKnown}
-use Rattle.commit_store.proofs.Held.{Labels, segment_there, found_files}
+use Rattle.commit_store.proofs.Held.{segment_there, found_files}
 use Rattle.commit_store.proofs.Keeping.{pair}
+use Rattle.facet_names.proofs.LabelLists.{Labels}
 
 -- ---- segments with their names
 

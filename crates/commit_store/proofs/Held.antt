@@ -26,9 +26,7 @@ use Rattle.seg_decoding.specs.Opening.{stored_segment}
 use Rattle.store_opening.specs.declared.fault.OpenFault.{OpenFault}
 use Rattle.store_opening.specs.declared.fault.OpenFault.TheVariants.{Damaged, Malformed, Uncovered}
 use Rattle.store_opening.specs.Files.{Found, Segments, of_file, segment_bytes, labels_behind, labels_of, taxonomy_in, same_flags, covered, agrees, segment_of, segments_of, index_in, held_segments, files_of}
-
-abbrev pub Labels : Type 0
-Labels = List (List (List ℕ))
+use Rattle.facet_names.proofs.LabelLists.{Labels}
 
 -- the second has what the first has
 abbrev pub AreWithin : Segments → Segments → Type 0

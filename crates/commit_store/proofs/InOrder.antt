@@ -23,6 +23,7 @@ use Rattle.facet_disk.specs.contracts.name.FileNameOrd.TheImpl as name_ord
 use Rattle.facet_disk.specs.FileNames.{same_dir, same_kind, same_name}
 use Rattle.facet_disk.specs.SameNames.{name_from, name_again}
 use Rattle.commit_store.specs.Strays.{dir_place, kind_place, name_cmp, in_order, is_among}
+use Rattle.std.proofs.lemmas.Bool.{true≢false}
 
 -- ---- the derived order
 
@@ -92,10 +93,7 @@ same_from : (a b : FileName) → name_cmp a b ≡ Equal → a ≡ b
 same_from a b e = name_from a b (sym (same_ties a b) ∙ ap is_eq e)
 
 not_less : (a : FileName) → name_cmp a a ≡ Less → ⊥
-not_less a e = clash (sym (name_again a) ∙ sym (same_ties a a) ∙ ap is_eq e)
-  where
-    clash : true ≡ false → ⊥
-    clash is = cc is
+not_less a e = true≢false (sym (name_again a) ∙ sym (same_ties a a) ∙ ap is_eq e)
 
 -- ---- one name more
 

@@ -21,6 +21,8 @@ use Rattle.store_opening.specs.Files.{Segments, segment_bytes, segment_of, segme
 use Rattle.commit_store.specs.Committed.{Kept, IsKept, IsOwn, segments_in, parts_in}
 use Rattle.commit_store.specs.Drafts.{Drafted, Placed, taken, placed_by, place, new_part}
 use Rattle.commit_store.proofs.Held.{held, held_front, held_new, held_one, held_has}
+use Rattle.std.proofs.lemmas.Option.{same_Some}
+use Rattle.facet_codec.proofs.Lists.{each_push}
 
 -- bytes are a segment's of one list of records and terms
 abbrev pub AreReadOnce : Type 0
@@ -38,10 +40,6 @@ pair k = (k.part.number, seg_bytes k.segment)
 
 abbrev pub pairs : List Kept → List (ℕ × List ℕ)
 pairs kept = map pair kept
-
-pub all_push : {X : Type 0} (P : X → Type 0) (xs : List X) (x : X) → AllByRecursion P xs → P x → AllByRecursion P (xs ++ x ∷ [])
-all_push P [] x all last = (last, tt)
-all_push P (y ∷ ys) x all last = (all.0, all_push P ys x all.1 last)
 
 pub all_weaker : {X : Type 0} (P Q : X → Type 0) → ((x : X) → P x → Q x) → (xs : List X) → AllByRecursion P xs → AllByRecursion Q xs
 all_weaker P Q weaker [] all = tt
@@ -68,11 +66,8 @@ unfolding taken
 taken_is P [] bytes all found e = absurd (cc e)
 taken_is P (k ∷ ks) bytes all found e = go (bytes_eq (seg_bytes k.segment) bytes) refl (taken_is P ks bytes all.1 found) e
   where
-    some_is : {X : Type 0} {a b : X} → Some a ≡ Some b → a ≡ b
-    some_is is = cc is
-
     go : (t : Bool) → bytes_eq (seg_bytes k.segment) bytes ≡ t → (taken ks bytes ≡ Some found → IsTaken P bytes found) → (if t then Some (k.part, ks) else taken ks bytes) ≡ Some found → IsTaken P bytes found
-    go true same others is = subst (IsTaken P bytes) (some_is is) (record { kept = k; is = all.0; same = (bytes_decides (seg_bytes k.segment) bytes).0 same; part = refl; behind = all.1 })
+    go true same others is = subst (IsTaken P bytes) (same_Some _ _ is) (record { kept = k; is = all.0; same = (bytes_decides (seg_bytes k.segment) bytes).0 same; part = refl; behind = all.1 })
     go false same others is = others is
 
 module _ (again : AreReadOnce) (n : ℕ) (Old : ℕ × List ℕ → Type 0) (low : (s : ℕ × List ℕ) → Old s → s.0 < n) (once : (m : ℕ) (a b : List ℕ) → Old (m, a) → Old (m, b) → a ≡ b) where
@@ -109,8 +104,8 @@ module _ (again : AreReadOnce) (n : ℕ) (Old : ℕ × List ℕ → Type 0) (low
       let all = map-append pair ks (k ∷ []) in
       let front = all_weaker (λ s. held (pairs ks) s.0 ≡ Some s.1) (λ s. held (pairs ks ++ pair k ∷ []) s.0 ≡ Some s.1) (λ s. held_front (pairs ks) (pair k ∷ []) s.0 s.1) (pairs ks) one in
       let last = last_found (pairs ks) k.part.number (seg_bytes k.segment) same in (
-        subst (AllByRecursion (HasFile e)) (sym all) (all_push (HasFile e) (pairs ks) (pair k) (all_weaker (HasFile d) (HasFile e) more (pairs ks) files) here),
-        subst (λ (xs : List (ℕ × List ℕ)). AllByRecursion (λ s. held xs s.0 ≡ Some s.1) xs) (sym all) (all_push (λ s. held (pairs ks ++ pair k ∷ []) s.0 ≡ Some s.1) (pairs ks) (pair k) front last),
+        subst (AllByRecursion (HasFile e)) (sym all) (each_push (HasFile e) (pairs ks) (pair k) (all_weaker (HasFile d) (HasFile e) more (pairs ks) files) here),
+        subst (λ (xs : List (ℕ × List ℕ)). AllByRecursion (λ s. held xs s.0 ≡ Some s.1) xs) (sym all) (each_push (λ s. held (pairs ks ++ pair k ∷ []) s.0 ≡ Some s.1) (pairs ks) (pair k) front last),
       )
 
   place_new : (ss : List Records) (p : Placed) (s : Records) → ArePlaced ss p → IsOwn s → ArePlaced (ss ++ s ∷ []) (placed_by p s None)
@@ -122,7 +117,7 @@ module _ (again : AreReadOnce) (n : ℕ) (Old : ℕ × List ℕ → Type 0) (low
       let both = pushed p.draft e p.kept k is.files more here is.one (λ a there. absurd (fresh (held_has (HasFile p.draft) (pairs p.kept) is.files p.draft.next a there))) in
       record {
         segments = map-append (λ (k : Kept). k.segment) p.kept (k ∷ []) ∙ ap (λ xs. xs ++ s ∷ []) is.segments;
-        kept = all_push IsKept p.kept k is.kept (record { segment = own; documents = refl; digest = refl });
+        kept = each_push IsKept p.kept k is.kept (record { segment = own; documents = refl; digest = refl });
         behind = is.behind;
         from = omega (arith, is.from);
         files = both.0;
@@ -142,7 +137,7 @@ module _ (again : AreReadOnce) (n : ℕ) (Old : ℕ × List ℕ → Type 0) (low
       let both = pushed p.draft p.draft p.kept k is.files (λ x has. has) (inl kept.1) is.one (λ a there. known a kept.1 (held_has (HasFile p.draft) (pairs p.kept) is.files k.part.number a there)) in
       record {
         segments = map-append (λ (k : Kept). k.segment) p.kept (k ∷ []) ∙ ap (λ xs. xs ++ s ∷ []) is.segments;
-        kept = all_push IsKept p.kept k is.kept kept.0;
+        kept = each_push IsKept p.kept k is.kept kept.0;
         behind = at.behind;
         from = is.from;
         files = both.0;
@@ -179,7 +174,7 @@ name_one again ss p s is own = go (taken p.behind (seg_bytes s)) refl
     kept_with : (k : Kept) (behind : List Kept) (d : Drafted) → k.segment ≡ s → IsKept k → AllByRecursion IsKept behind → AreNamed (ss ++ s ∷ []) (record { draft = d; behind = behind; kept = p.kept ++ k ∷ [] })
     kept_with k behind d same kept others = record {
       segments = map-append (λ (k : Kept). k.segment) p.kept (k ∷ []) ∙ (λ i. is.segments i ++ same i ∷ []);
-      kept = all_push IsKept p.kept k is.kept kept;
+      kept = each_push IsKept p.kept k is.kept kept;
       behind = others;
     }
 
@@ -224,3 +219,7 @@ segments_written config view later list on S (k ∷ ks) (docs ∷ pieces) kept t
     let opens = later k.segment docs list list on are.0 kept.0.segment in
     let same = (bytes_decides (sha256 (seg_bytes k.segment)) (sha256 (seg_bytes k.segment))).1 refl in
     rw (there.0, kept.0.digest, same, kept.0.documents, opens, segments_written config view later list on S ks pieces kept.1 there.1 are.1) refl
+
+pub document_numbers : (ks : List Kept) → map (λ x. x.0) (pairs ks) ≡ map (λ k. k.part.number) ks
+document_numbers [] = refl
+document_numbers (k ∷ ks) = λ i. k.part.number ∷ document_numbers ks i

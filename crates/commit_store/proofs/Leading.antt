@@ -14,7 +14,7 @@ use Rattle.facet_model.specs.Documents.{Doc}
 use Rattle.facet_model.specs.Flags.{Config, flags}
 use Rattle.facet_model.specs.Stored.{Records, IsSegmentOf}
 use Rattle.facet_names.specs.Labels.{IsLabelList, GoesOn}
-use Rattle.facet_names.proofs.LabelLists.{front_labels}
+use Rattle.facet_names.proofs.LabelLists.{front_labels, Labels}
 use Rattle.commit_calls.specs.declared.plan.Plan.{Plan}
 use Rattle.commit_calls.specs.Held.{Held, NamedBelow, file}
 use Rattle.commit_calls.specs.Plans.{Makes, PartLeads, Leads, IsPlan, IsAmong}
@@ -27,12 +27,12 @@ use Rattle.commit_store.specs.Strays.{in_order}
 use Rattle.commit_store.proofs.InOrder.{in_order_has}
 use Rattle.commit_store.proofs.Cleaning.{named_after, no_stray}
 use Rattle.commit_store.specs.Plannings.{IsKnown, IsPlanOf, IsReadAgain, AreLed, AreFirst}
-use Rattle.commit_store.proofs.Keeping.{AreReadOnce, pairs}
+use Rattle.commit_store.proofs.Keeping.{AreReadOnce, pairs, document_numbers}
 use Rattle.commit_store.proofs.LeadingIndex.{IndexLed, index_led, index_files, same_segments}
 use Rattle.commit_store.proofs.LeadingLabels.{LabelsLed, labels_led, made}
 use Rattle.commit_store.proofs.Numbers.{labels_numbers}
-use Rattle.commit_store.proofs.Ordering.{order_end}
-use Rattle.commit_store.proofs.Held.{Labels, files_found, found_files, index_longer}
+use Rattle.commit_store.proofs.Held.{files_found, found_files, index_longer}
+use Rattle.store_opening.proofs.Loops.{order_low}
 
 -- ---- the same flags
 
@@ -94,7 +94,7 @@ module _ (config : Config) (old : Committed) (view : Labels) (ss : List Records)
 
     list_before : IsLabelList labels
     list_before =
-        let some = order_end old.labels 1 old.label_parts committed.order in
+        let some = order_low old.labels 1 old.label_parts committed.order in
         subst IsLabelList on.1 (front_labels view list (length labels) (omega (arith, some, known.label_count)) on.0)
 
     led_t : (t' : Held) × LabelsLed p.writes.items old view (is_longer old view) t t'
@@ -134,12 +134,8 @@ module _ (config : Config) (old : Committed) (view : Labels) (ss : List Records)
           };
         }
       where
-        fronts : (ks : List Kept) → map (λ x. x.0) (pairs ks) ≡ map (λ k. k.part.number) ks
-        fronts [] = refl
-        fronts (k ∷ ks) = λ i. k.part.number ∷ fronts ks i
-
         numbers_of : (xs : List (ℕ × List ℕ)) (ks : List Kept) → xs ≡ pairs ks → map (λ x. x.0) xs ≡ map (λ k. k.part.number) ks
-        numbers_of xs ks same = ap (λ (ys : List (ℕ × List ℕ)). map (λ x. x.0) ys) same ∙ fronts ks
+        numbers_of xs ks same = ap (λ (ys : List (ℕ × List ℕ)). map (λ x. x.0) ys) same ∙ document_numbers ks
 
     last_files : (files_of config led_t.0 led_i.0 ≡ Ok (record { labels = view; segments = segs })) ⊎ (files_of config led_t.0 led_i.0 ≡ Ok (record { labels = view; segments = ss }))
     last_files = go (is_index_left_out old ss) refl

@@ -26,7 +26,8 @@ use Rattle.store_opening.specs.Files.{agrees, index_in, held_segments}
 use Rattle.commit_store.specs.Committed.{Committed, Kept, IsKept, IsOwn, segments_in, parts_in}
 use Rattle.commit_store.specs.Drafts.{Drafted, Placed, taken, place, placed_by, placed, with_index, are_same, is_index_left_out, index_drafted, IsIndexAgain}
 use Rattle.commit_store.proofs.Keeping.{AreReadOnce, ArePlaced, place_more, pair, pairs, one_segment, all_under, segments_written}
-use Rattle.commit_store.proofs.Held.{Labels, held}
+use Rattle.commit_store.proofs.Held.{held}
+use Rattle.facet_names.proofs.LabelLists.{Labels}
 
 -- ---- files stay
 

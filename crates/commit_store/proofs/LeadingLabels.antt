@@ -22,7 +22,8 @@ use Rattle.label_file.specs.LabelReading.{stored_labels}
 use Rattle.store_opening.specs.Files.{labels_of, taxonomy_in, held_segments}
 use Rattle.commit_store.specs.Committed.{Committed}
 use Rattle.commit_store.specs.Drafts.{new_label_part, label_parts_with, labels_first, is_longer, with_labels, nothing_drafted, AreLabelsAgain}
-use Rattle.commit_store.proofs.Held.{Labels, held, held_front, held_new, held_below, held_one, labels_more, labels_and, labels_one}
+use Rattle.commit_store.proofs.Held.{held, held_front, held_new, held_below, held_one, labels_more, labels_and, labels_one}
+use Rattle.facet_names.proofs.LabelLists.{Labels}
 
 -- a file that was drafted is made
 pub made : (ws : List Write) (files : List (FileName × List ℕ)) → map file_view ws ≡ files → (name : FileName) (bytes : List ℕ) → Contains files (name, bytes) → Makes name bytes ws

@@ -14,19 +14,17 @@ use Rattle.commit_calls.specs.Held.{Held, Holds, file, newest, newest_file}
 use Rattle.store_opening.specs.Files.{Segments, segments_in}
 use Rattle.store_opening.specs.Newest.{AreListed}
 use Rattle.store_opening.specs.Settled.{before, named, there, held_in}
-use Rattle.commit_store.specs.Committed.{Committed, Kept}
+use Rattle.commit_store.specs.Committed.{Committed}
 use Rattle.commit_store.specs.Drafts.{commit_names, committed_after}
 use Rattle.commit_store.specs.Plannings.{IsKnown}
 use Rattle.commit_store.specs.Promised.{HasNamed}
 use Rattle.commit_store.specs.Results.{committed_told}
 use Rattle.commit_store.proofs.Cleaning.{named_after, left_named}
-use Rattle.commit_store.proofs.Held.{Labels}
 use Rattle.commit_store.proofs.InOrder.{in_order_only, in_order_once}
-use Rattle.commit_store.proofs.Keeping.{all_mapped, pairs}
+use Rattle.commit_store.proofs.Keeping.{all_mapped, document_numbers}
 use Rattle.commit_store.proofs.Remaining.{named_stays}
-
-some_is : {X : Type 0} {a b : X} → Some a ≡ Some b → a ≡ b
-some_is is = cc is
+use Rattle.std.proofs.lemmas.Option.{same_Some}
+use Rattle.facet_names.proofs.LabelLists.{Labels}
 
 -- the newest commit file
 commit_there : (dir : Dir) (c : Image) (o : Option (ℕ × List ℕ)) (number : Option ℕ) → newest_file dir c ≡ o → option_map (λ x. x.0) o ≡ number → (n : FileName) → Contains (commit_names dir number) n → c n ≢ None
@@ -38,7 +36,7 @@ commit_there dir c o (Some k) is same n has none = go (newest dir c) refl (ap (o
 
     found : (m : ℕ) (b : Option (List ℕ)) → c (file dir Commit m) ≡ b → option_map (λ (x : ℕ × List ℕ). x.0) (option_map (λ bytes. (m, bytes)) b) ≡ Some k → ⊥
     found m None at e = cc e
-    found m (Some bytes) at e = absurd (cc (sym at ∙ ap (λ (x : ℕ). c (file dir Commit x)) (some_is e) ∙ ap c name ∙ none))
+    found m (Some bytes) at e = absurd (cc (sym at ∙ ap (λ (x : ℕ). c (file dir Commit x)) (same_Some _ _ e) ∙ ap c name ∙ none))
 
     go : (m : Option ℕ) → newest dir c ≡ m → option_map (λ (x : ℕ × List ℕ). x.0) (option_and_then (λ n. option_map (λ bytes. (n, bytes)) (c (file dir Commit n))) m) ≡ Some k → ⊥
     go None at e = cc e
@@ -66,10 +64,6 @@ there_again f (n ∷ ns) = go (there_again f ns) (f n) refl
     go rest (Some bytes) e = (e, rest)
 
 module _ (config : Config) (st : Committed) (t i : Held) (labels : Labels) (segs : List Records) (known : IsKnown config st t i labels segs) (c : Image) (taxonomy_held : Holds Taxonomy t c) (index_held : Holds Index i c) where
-  document_numbers : (ks : List Kept) → map (λ x. x.0) (pairs ks) ≡ map (λ k. k.part.number) ks
-  document_numbers [] = refl
-  document_numbers (k ∷ ks) = λ i. k.part.number ∷ document_numbers ks i
-
   -- each file of a directory's names
   segment_there : {P : Type 0} (number : P → ℕ) (dir : Dir) (xs : List (ℕ × List ℕ)) (ps : List P) → map (λ x. x.0) xs ≡ map number ps → All (λ s. c (file dir Segment s.0) ≡ Some s.1) xs
       → (n : FileName) → Contains (map (λ p. file dir Segment (number p)) ps) n → c n ≢ None

@@ -1,13 +1,9 @@
 -- Segments of labels that follow one another.
-use Rattle.std.proofs.Common.{◌≡◌, ◌≤◌, ◌<◌, ℕ, List, [], ◌∷◌, ◌++◌, length, refl, arith}
+use Rattle.std.proofs.Common.{◌≡◌, ◌<◌, ℕ, List, [], ◌∷◌, ◌++◌, length, refl, arith}
 use Rattle.commit_file.specs.declared.taxonomy.LabelPart.{LabelPart}
 use Rattle.commit_file.specs.Commits.{AreInOrder, end_of}
 use Rattle.commit_store.specs.Committed.{Committed}
 use Rattle.commit_store.specs.Drafts.{new_label_part, label_parts_with}
-
-pub order_end : (labels start : ℕ) (parts : List LabelPart) → AreInOrder labels start parts → start ≤ labels
-order_end labels start [] is = omega (arith, is)
-order_end labels start (part ∷ parts) is = omega (arith, is.0, order_end labels (end_of part) parts is.1)
 
 pub order_more : (labels longer start : ℕ) (parts : List LabelPart) (part : LabelPart) → AreInOrder labels start parts → part.first ≡ labels → end_of part ≡ longer → AreInOrder longer start (parts ++ part ∷ [])
 order_more labels longer start [] part is first last = (omega (arith, is, first), last)

@@ -12,8 +12,8 @@ use Rattle.store_opening.proofs.Held.{files_stand}
 use Rattle.commit_store.specs.Committed.{Committed}
 use Rattle.commit_store.specs.Committing.{HasOneOfThree}
 use Rattle.commit_store.specs.Plannings.{IsCommittedAt, AreLed, LeadsOn}
-use Rattle.commit_store.proofs.Held.{Labels}
 use Rattle.commit_store.proofs.Standing.{index_first}
+use Rattle.facet_names.proofs.LabelLists.{Labels}
 
 pub on_ok : {T E : Type 0} (r : Result T E) (X : Type 0) → OnOk r X → is_err r ≡ false → X
 on_ok (Ok x) X is fine = is

@@ -25,16 +25,15 @@ use Rattle.commit_store.specs.Strays.{in_order}
 use Rattle.commit_store.specs.Results.{published_by, committed_told}
 use Rattle.commit_store.proofs.Cleaning.{no_stray, label_names, document_names, named_after}
 use Rattle.commit_store.proofs.InOrder.{in_order_has}
-use Rattle.commit_store.proofs.Held.{Labels}
-use Rattle.commit_store.proofs.Keeping.{all_push, all_weaker, all_mapped, all_under, taken_is}
+use Rattle.commit_store.proofs.Keeping.{all_weaker, all_mapped, all_under, taken_is}
+use Rattle.facet_codec.proofs.Lists.{each_push}
+use Rattle.std.proofs.lemmas.Option.{same_Some}
+use Rattle.facet_names.proofs.LabelLists.{Labels}
 
 -- ---- what the calls keep
 
 some_none : (o : Option (List ℕ)) (bytes : List ℕ) → o ≡ Some bytes → o ≡ None → ⊥
 some_none o bytes some none = cc (sym some ∙ none)
-
-some_is : {a b : ℕ} → Some a ≡ Some b → a ≡ b
-some_is is = cc is
 
 -- a file that is no stray
 cleared_keeps : (names : List FileName) (s : Told) (n : FileName) → s.files n ≢ None → (Contains names n → ⊥) → (cleared_told names s).files n ≢ None
@@ -141,14 +140,14 @@ module _ (Q : FileName → Type 0) where
           let t = taken_is (λ k. Q (file Index Segment k.part.number)) p.behind (seg_bytes s) is.behind found e in
           record {
             behind = t.behind;
-            kept = all_push (λ (k : Kept). Q (file Index Segment k.part.number) ⊎ Has p.draft.files (file Index Segment k.part.number)) p.kept (record { part = found.0; segment = s }) is.kept
+            kept = each_push (λ (k : Kept). Q (file Index Segment k.part.number) ⊎ Has p.draft.files (file Index Segment k.part.number)) p.kept (record { part = found.0; segment = s }) is.kept
                 (inl (subst (λ (part : DocumentPart). Q (file Index Segment part.number)) t.part t.is));
           }
       go None e =
           let more : List (FileName × List ℕ) = p.draft.files ++ (file Index Segment p.draft.next, seg_bytes s) ∷ [] in
           record {
             behind = is.behind;
-            kept = all_push (λ (k : Kept). Q (file Index Segment k.part.number) ⊎ Has more (file Index Segment k.part.number)) p.kept (record { part = new_part p.draft.next s; segment = s })
+            kept = each_push (λ (k : Kept). Q (file Index Segment k.part.number) ⊎ Has more (file Index Segment k.part.number)) p.kept (record { part = new_part p.draft.next s; segment = s })
                 (all_weaker (λ (k : Kept). Q (file Index Segment k.part.number) ⊎ Has p.draft.files (file Index Segment k.part.number)) (λ (k : Kept). Q (file Index Segment k.part.number) ⊎ Has more (file Index Segment k.part.number))
                 (λ k one. ⊎_elim (λ q. inl q) (λ has. inr (has_more p.draft.files ((file Index Segment p.draft.next, seg_bytes s) ∷ []) (file Index Segment k.part.number) has)) one) p.kept is.kept)
                 (inr (has_last p.draft.files (file Index Segment p.draft.next, seg_bytes s)));
@@ -195,7 +194,7 @@ module _ (config : Config) (old : Committed) (view : Labels) (ss : List Records)
   labels_pending k = go (is_longer old view)
     where
       go : (b : Bool) → (if b then Some (old.next + 1) else None) ≡ Some k → Has (if b then with_labels old view (nothing_drafted old.next) else nothing_drafted old.next).files (file Taxonomy Pending k)
-      go true e = (1, omega arith, ap (file Taxonomy Pending) (some_is e))
+      go true e = (1, omega arith, ap (file Taxonomy Pending) (same_Some _ _ e))
       go false e = absurd (cc e)
 
   -- a segment of documents likewise
@@ -228,7 +227,7 @@ module _ (config : Config) (old : Committed) (view : Labels) (ss : List Records)
       go true e = absurd (cc e)
       go false e =
           let p = placed old ss first in
-          subst (λ (m : ℕ). Has (with_index config (length view) p).files (file Index Pending m)) (some_is e) (has_last p.draft.files (file Index Pending p.draft.next, _))
+          subst (λ (m : ℕ). Has (with_index config (length view) p).files (file Index Pending m)) (same_Some _ _ e) (has_last p.draft.files (file Index Pending p.draft.next, _))
 
   first_among : (n : FileName) → Has first.files n → Has all n
   first_among n has = go (is_index_left_out old ss)

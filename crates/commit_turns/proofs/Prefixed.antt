@@ -14,12 +14,7 @@ use Rattle.commit_turns.specs.Recovery.{AreFirst}
 use Rattle.taxo_cache.specs.Seen.{labels_of}
 use Rattle.commit_turns.specs.Seen.{docs_of}
 use Rattle.facet_model.specs.Histories.{Operation}
-
-pub labels_on : (xs ys : List (ℕ × List (List ℕ))) → IsPrefix xs ys → GoesOn (labels_of xs) (labels_of ys)
-labels_on xs ys p =
-    let q = entries-prefix xs ys p in
-    let e : labels_of xs ++ q.0 ≡ labels_of ys = ap (λ (l : Labels). [] ∷ l) q.1 in
-    subst (λ (l : Labels). GoesOn (labels_of xs) l) e (omega (arith, length-append (labels_of xs) q.0), take_at (labels_of xs) q.0 (length (labels_of xs)) refl)
+use Rattle.taxo_writer.proofs.Growing.{seen_goes_on}
 
 pub docs_on : (xs ys : List (ℕ × Operation)) → IsPrefix xs ys → AreFirst (docs_of xs) (docs_of ys)
 docs_on xs ys p =
@@ -45,6 +40,6 @@ docs_count seen = length-map (entries seen) (λ (o : Operation). o.doc) ∙ leng
 pub decodes_on : (config : Config) (xs ys : List (ℕ × List (List ℕ))) (view : Labels) (segments : List Records) (docs : List Doc) → IsPrefix xs ys → view ≡ labels_of ys → IsLabelList view
     → Decodes (labels_of xs) config segments docs → Decodes view config segments docs
 decodes_on config xs ys view segments docs p is list d =
-    let on : GoesOn (labels_of xs) view = subst (λ (l : Labels). GoesOn (labels_of xs) l) (sym is) (labels_on xs ys p) in
+    let on : GoesOn (labels_of xs) view = subst (λ (l : Labels). GoesOn (labels_of xs) l) (sym is) (seen_goes_on xs ys p) in
     let front : IsLabelList (labels_of xs) = subst IsLabelList on.1 (front_labels view list (length (labels_of xs)) (omega arith) on.0) in
     decodes_stay config (labels_of xs) view front list on segments docs d

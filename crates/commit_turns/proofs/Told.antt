@@ -31,7 +31,3 @@ entered_holds labels old new (Ok n) later P e on all =
     let is : entries new.seen ≡ entries e.before ++ made n labels ∷ [] = ap entries e.seen ∙ map-append (λ (x : ℕ × CommitPoint). x.1) e.before ((new.number, made n labels) ∷ []) in
     let here : All P ((entries e.before ++ made n labels ∷ []) ++ q.0) = subst (All P) (sym (ap (λ (l : List CommitPoint). l ++ q.0) (sym is) ∙ q.1)) all in
     All-contains P ((entries e.before ++ made n labels ∷ []) ++ q.0) (made n labels) here (Contains-append_left (entries e.before ++ made n labels ∷ []) q.0 (made n labels) (Contains-push (entries e.before) (made n labels)))
-
-pub if_ok : {T E : Type 0} (r : Result T E) (P Q : T → Type 0) → ((x : T) → P x → Q x) → IfOk r P → IfOk r Q
-if_ok (Ok x) P Q so is = so x is
-if_ok (Err e) P Q so is = is

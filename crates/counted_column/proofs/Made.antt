@@ -1,35 +1,28 @@
 -- A column that was made has the lists that it was made of.
-use Rattle.std.proofs.Common.{◌≡◌, ℕ, zero, suc, ◌+◌, ◌-◌, ◌/◌, ◌<◌, ◌≤◌, Bool, true, false, not, cond, eqb, ◌||◌, ◌&&◌, List, [], ◌∷◌, take, drop, get_or, length, refl, sym, ap, subst, ◌∙◌, inl, inr, ◌⊎◌, arith}
+use Rattle.std.proofs.Common.{◌≡◌, ℕ, suc, ◌+◌, ◌-◌, ◌/◌, ◌<◌, ◌≤◌, Bool, true, false, not, cond, eqb, ◌||◌, ◌&&◌, List, [], ◌∷◌, take, drop, get_or, length, refl, sym, ap, subst, ◌∙◌, inl, inr, ◌⊎◌, arith}
 use Rattle.std.specs.Prelude.{nat_eq}
 use Rattle.std.specs.List.{AllByRecursion}
 use Rattle.std.proofs.lemmas.Bool.{cases_eq, cases_lt, eq-eqb, ne_eqb, eqb-true, lt-ltb}
-use Rattle.std.proofs.lemmas.List.{ext_get_or}
+use Rattle.std.proofs.lemmas.List.{ext_get_or, nil_from_length}
 use Rattle.std.proofs.Math.Seq.{take-nil, drop-nil}
 use Rattle.std.proofs.lemmas.List.Elements.{All-from_recursion}
 use Rattle.std.proofs.lemmas.List.FromFn.{get_or-map-range_with_len, length-map-range_with_len}
 use Rattle.seg_postings.specs.Rising.{IsRising, is_in}
 use Rattle.seg_postings.proofs.Either.{rising_either}
-use Rattle.seg_postings.proofs.Members.{is_in-either, one_rising}
-use Rattle.seg_postings.proofs.Order.{below_get, rising_filter}
+use Rattle.seg_postings.proofs.Members.{is_in-either, one_rising, is_in_filter, is_there}
+use Rattle.seg_postings.proofs.Order.{rising_filter, rising_less}
 use Rattle.place_bits.specs.Misses.{HaveWords}
 use Rattle.place_bits.specs.Words.{Marked, empty_set}
-use Rattle.place_bits.proofs.Lists.{is_in_filter}
 use Rattle.counted_column.specs.Columns.{Parts, IsColumn, dense_at, sparse_at, list_at, lists_of}
 use Rattle.counted_column.specs.Making.{AreSlots, AreNoted, has_slot, without_slot}
-use Rattle.counted_column.proofs.Members.{is_there}
-
-rising_apart : (xs : List ℕ) → IsRising xs → (i j : ℕ) → i < j → j < length xs → get_or xs i 0 < get_or xs j 0
-rising_apart [] h i j l w = absurd (omega arith)
-rising_apart (x ∷ xs) h i zero l w = absurd (omega arith)
-rising_apart (x ∷ xs) h zero (suc j) l w = below_get x xs h.0 j (omega arith)
-rising_apart (x ∷ xs) h (suc i) (suc j) l w = rising_apart xs h.1 i j (omega arith) (omega arith)
+use Rattle.std.proofs.Math.Bool.{and-false}
 
 at_one_place : (xs : List ℕ) → IsRising xs → (i j : ℕ) → i < length xs → j < length xs → get_or xs i 0 ≡ get_or xs j 0 → i ≡ j
 at_one_place xs h i j l w e =
     elim (cases_lt i j) [
-      | inl less ↦ absurd (omega (arith, e, rising_apart xs h i j less w))
+      | inl less ↦ absurd (omega (arith, e, rising_less xs h i j less w))
       | inr ge ↦ elim (cases_lt j i) [
-        | inl more ↦ absurd (omega (arith, e, rising_apart xs h j i more l))
+        | inl more ↦ absurd (omega (arith, e, rising_less xs h j i more l))
         | inr le ↦ omega arith
       ]
     ]
@@ -74,11 +67,7 @@ dense_step q o r a b t h k = by (eqb q o) refl a h
   where
     by : (e : Bool) → eqb q o ≡ e → (a : Bool) → (e ≡ true → a ≡ t) → is_in q (cond a (o ∷ r) r) ≡ ((e || b) && t)
     by true e true h = ap (λ x. x || is_in q r) e ∙ h refl
-    by true e false h = k ∙ ap (λ x. b && x) (sym (h refl)) ∙ none b ∙ h refl
-      where
-        none : (b : Bool) → (b && false) ≡ false
-        none true = refl
-        none false = refl
+    by true e false h = k ∙ ap (λ x. b && x) (sym (h refl)) ∙ and-false b ∙ h refl
     by false e true h = ap (λ x. x || is_in q r) e ∙ k
     by false e false h = k
 
@@ -164,10 +153,6 @@ unneeded lists slots number docs maps starts ords noted none n l =
     ap (λ (xs : List ℕ). take (get_or starts (n + 1) 0 - get_or starts n 0) (drop (get_or starts n 0) xs)) none ∙ ap (take (get_or starts (n + 1) 0 - get_or starts n 0)) (drop-nil (get_or starts n 0)) ∙ take-nil (get_or starts (n + 1) 0 - get_or starts n 0) in
     sym some ∙ noted.sparse n l
 
-none_of : (xs : List ℕ) → length xs ≡ 0 → xs ≡ []
-none_of [] e = refl
-none_of (x ∷ xs) e = absurd (omega arith)
-
 -- all in one: the starts may be left out where no ordinal is sparse
 pub made : (lists : List (List ℕ)) (slots dense : List ℕ) (maps : List Marked) (starts ords kept : List ℕ) (number : ℕ) (placed : List Marked) → length lists ≤ 1000000 → AllByRecursion IsRising lists → AreSlots slots dense → number ≡ length dense
     → AreNoted lists slots number (length lists) maps starts ords → placed ≡ maps → (kept ≡ starts) ⊎ ((kept ≡ []) × (length ords ≡ 0))
@@ -192,10 +177,10 @@ made lists slots dense maps starts ords kept number placed few rising are as_man
         )
     by (inr none) =
         let sparse : (n : ℕ) → n < length lists → sparse_at kept ords n ≡ without_slot slots (get_or lists n []) =
-        λ n l. ap (λ (xs : List ℕ). sparse_at xs ords n) none.0 ∙ unneeded lists slots number (length lists) maps starts ords noted (none_of ords none.1) n l in (
+        λ n l. ap (λ (xs : List ℕ). sparse_at xs ords n) none.0 ∙ unneeded lists slots number (length lists) maps starts ords noted (nil_from_length ords none.1) n l in (
           column_made lists slots dense maps starts ords few rising are noted_all kept sparse
               (λ l. absurd (omega (arith, l, ap length none.0)))
-              (λ z. none_of ords none.1)
+              (λ z. nil_from_length ords none.1)
               (λ n l. omega (arith, ap (λ (xs : List ℕ). get_or xs n 0) none.0, ap (λ (xs : List ℕ). get_or xs (n + 1) 0) none.0))
               (λ n l. omega (arith, ap (λ (xs : List ℕ). get_or xs (n + 1) 0) none.0)),
           lists_made lists slots dense maps starts ords few rising are noted_all kept sparse,

@@ -1,26 +1,13 @@
 -- What is in lists, and how many of a list's elements pass a test.
-use Rattle.std.proofs.Common.{◌≡◌, ℕ, zero, suc, ◌+◌, ◌<◌, Bool, true, false, cond, eqb, ◌||◌, ◌&&◌, List, [], ◌∷◌, map, get_or, length, refl, sym, ap, subst, ◌∙◌, arith}
+use Rattle.std.proofs.Common.{◌≡◌, ℕ, ◌+◌, ◌<◌, Bool, true, false, cond, eqb, ◌||◌, ◌&&◌, List, [], ◌∷◌, map, length, refl, sym, ap, subst, ◌∙◌, arith}
 use Rattle.std.specs.Prelude.{count_by, nat_eq, All}
 use Rattle.std.specs.List.{filter, list_any}
-use Rattle.std.proofs.lemmas.Bool.{eq-eqb, eqb-true}
+use Rattle.std.proofs.lemmas.Bool.{eqb-true}
 use Rattle.std.proofs.lemmas.List.Elements.{All-head, All-tail}
 use Rattle.std.proofs.lemmas.List.Sums.{sum_by-cons}
 use Rattle.seg_postings.specs.Rising.{is_in}
-
-or_true : (b : Bool) → (b || true) ≡ true
-or_true true = refl
-or_true false = refl
-
-pub here_in : (x : ℕ) (xs : List ℕ) → is_in x (x ∷ xs) ≡ true
-here_in x xs = ap (λ b. b || is_in x xs) (eq-eqb x x refl)
-
-pub later_in : (n x : ℕ) (xs : List ℕ) → is_in n xs ≡ true → is_in n (x ∷ xs) ≡ true
-later_in n x xs h = ap (λ b. eqb n x || b) h ∙ or_true (eqb n x)
-
-pub is_there : (xs : List ℕ) (k : ℕ) → k < length xs → is_in (get_or xs k 0) xs ≡ true
-is_there [] k l = absurd (omega arith)
-is_there (x ∷ xs) zero l = here_in x xs
-is_there (x ∷ xs) (suc k) l = later_in (get_or xs k 0) x xs (is_there xs k (omega arith))
+use Rattle.std.proofs.Math.Bool.{or-true}
+use Rattle.seg_postings.proofs.Members.{here_in, later_in}
 
 pub any_is_in : (q : ℕ) (xs : List ℕ) → list_any (nat_eq q) xs ≡ is_in q xs
 any_is_in q [] = refl

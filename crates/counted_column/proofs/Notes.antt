@@ -6,13 +6,14 @@ use Rattle.std.proofs.lemmas.List.{get_or-set_same, get_or-set_other, length-set
 use Rattle.std.proofs.Math.Seq.{drop-append_seam}
 use Rattle.std.proofs.lemmas.List.Elements.{filter_more}
 use Rattle.std.proofs.lemmas.List.Folds.{list_any_more}
-use Rattle.seg_postings.specs.Rising.{IsBelowAll, IsRising, is_in}
+use Rattle.seg_postings.specs.Rising.{IsRising, is_in}
 use Rattle.seg_postings.specs.Sets.{either}
-use Rattle.seg_postings.proofs.Members.{is_in-either}
+use Rattle.seg_postings.proofs.Members.{is_in-either, here_in, later_in}
 use Rattle.place_bits.specs.Words.{Marked, empty_set, with_places}
 use Rattle.counted_column.specs.Columns.{sparse_at}
 use Rattle.counted_column.specs.Making.{AreSlots, AreAdded, AreNoted, has_slot, without_slot}
-use Rattle.counted_column.proofs.Members.{here_in, later_in}
+use Rattle.std.proofs.Math.Bool.{or-false, or_assoc, and-false}
+use Rattle.seg_postings.proofs.Written.{below_push}
 
 -- what would lie before a bound is false past it
 false_past : (b : Bool) (x k : ℕ) → k ≤ x → (b ≡ true → x < k) → b ≡ false
@@ -40,28 +41,16 @@ none_slotted old = record {
   some = λ ord j l e. absurd (omega arith);
 }
 
-below_push : (x y : ℕ) (xs : List ℕ) → x < y → IsBelowAll x xs → IsBelowAll x (xs ++ y ∷ [])
-below_push x y [] l h = (l, tt)
-below_push x y (z ∷ zs) l h = (h.0, below_push x y zs l h.1)
-
 rising_push : (xs : List ℕ) (y : ℕ) → IsRising xs → ((q : ℕ) → is_in q xs ≡ true → q < y) → IsRising (xs ++ y ∷ [])
 rising_push [] y h below = (tt, tt)
 rising_push (x ∷ xs) y h below = (below_push x y xs (below x (here_in x xs)) h.0, rising_push xs y h.1 (λ q i. below q (later_in q x xs i)))
 
-or_grouped : (a b c : Bool) → (a || (b || c)) ≡ ((a || b) || c)
-or_grouped true b c = refl
-or_grouped false b c = refl
-
 is_in_push : (q y : ℕ) (xs : List ℕ) → is_in q (xs ++ y ∷ []) ≡ (is_in q xs || (eqb q y || false))
 is_in_push q y [] = refl
-is_in_push q y (x ∷ xs) = ap (λ b. eqb q x || b) (is_in_push q y xs) ∙ or_grouped (eqb q x) (is_in q xs) (eqb q y || false)
-
-or_false : (b : Bool) → (b || false) ≡ b
-or_false true = refl
-or_false false = refl
+is_in_push q y (x ∷ xs) = ap (λ b. eqb q x || b) (is_in_push q y xs) ∙ sym (or_assoc (eqb q x) (is_in q xs) (eqb q y || false))
 
 in_push_other : (q y : ℕ) (xs : List ℕ) → (q ≡ y → ⊥) → is_in q (xs ++ y ∷ []) ≡ is_in q xs
-in_push_other q y xs other = is_in_push q y xs ∙ ap (λ b. is_in q xs || (b || false)) (ne_eqb q y other) ∙ or_false (is_in q xs)
+in_push_other q y xs other = is_in_push q y xs ∙ ap (λ b. is_in q xs || (b || false)) (ne_eqb q y other) ∙ or-false (is_in q xs)
 
 -- the ordinal k is dense
 pub one_slotted : (k : ℕ) (slots dense old : List ℕ) → AreSlotted k slots dense old → k < length old → AreSlotted (k + 1) (set (set slots k 0) k (length (dense ++ k ∷ []))) (dense ++ k ∷ []) old
@@ -134,16 +123,11 @@ pub record AreTaken (slots : List ℕ) (doc : ℕ) (list : List ℕ) (k : ℕ) (
   pub members : (j n : ℕ) → j < length old → is_in n (get_or new j (empty_set 0)).places ≡ (is_in n (get_or old j (empty_set 0)).places || (nat_eq n doc && has_slot slots j (take k list)))
   pub others : after ≡ before ++ without_slot slots (take k list)
 
-and_none : (a b : Bool) → (a || (b && false)) ≡ a
-and_none true b = refl
-and_none false true = refl
-and_none false false = refl
-
 pub none_taken : (slots : List ℕ) (doc : ℕ) (list : List ℕ) (maps : List Marked) (ords : List ℕ) → AreTaken slots doc list 0 maps maps ords ords
 none_taken slots doc list maps ords = record {
   len = refl;
   words = λ j l. refl;
-  members = λ j n l. sym (and_none (is_in n (get_or maps j (empty_set 0)).places) (nat_eq n doc));
+  members = λ j n l. sym (ap (λ z. (is_in n (get_or maps j (empty_set 0)).places) || z) (and-false (nat_eq n doc)) ∙ or-false (is_in n (get_or maps j (empty_set 0)).places));
   others = sym (append-nil ords);
 }
 
@@ -198,7 +182,7 @@ one_marked slots doc list k old now before after slot set_now set_new d h within
             | inr other ↦
                 let no : nat_eq (get_or slots ord 0) (j + 1) ≡ false = ne_eqb (get_or slots ord 0) (j + 1) (λ z. other (omega arith)) in
                 ap (λ (m : Marked). is_in n m.places) (get_or-set_other now (slot - 1) j set_new (empty_set 0) other) ∙ h.members j n l
-                ∙ ap (λ b. was || (nat_eq n doc && b)) (sym (or_false (has_slot slots j (take k list))) ∙ ap (λ b. has_slot slots j (take k list) || b) (sym no) ∙ sym more)
+                ∙ ap (λ b. was || (nat_eq n doc && b)) (sym (or-false (has_slot slots j (take k list))) ∙ ap (λ b. has_slot slots j (take k list) || b) (sym no) ∙ sym more)
           ];
       others =
           h.others ∙ ap (λ (xs : List ℕ). before ++ xs) (sym (filter_more (λ o. nat_eq (get_or slots o 0) 0) list k 0 within ∙ ap (λ b. without_slot slots (take k list) ++ cond b (ord ∷ []) []) none ∙ append-nil (without_slot slots (take k list))));
@@ -217,7 +201,7 @@ one_put slots doc list k old now before after h within e =
           let no : nat_eq (get_or slots ord 0) (j + 1) ≡ false = ne_eqb (get_or slots ord 0) (j + 1) (λ z. omega arith) in
           h.members j n l
           ∙ ap (λ b. is_in n (get_or old j (empty_set 0)).places || (nat_eq n doc && b))
-          (sym (or_false (has_slot slots j (take k list))) ∙ ap (λ b. has_slot slots j (take k list) || b) (sym no) ∙ sym (list_any_more (λ o. nat_eq (get_or slots o 0) (j + 1)) list k 0 within));
+          (sym (or-false (has_slot slots j (take k list))) ∙ ap (λ b. has_slot slots j (take k list) || b) (sym no) ∙ sym (list_any_more (λ o. nat_eq (get_or slots o 0) (j + 1)) list k 0 within));
       others =
           ap (λ (xs : List ℕ). xs ++ ord ∷ []) h.others ∙ append_assoc before (without_slot slots (take k list)) (ord ∷ [])
           ∙ ap (λ (xs : List ℕ). before ++ xs) (sym (filter_more (λ o. nat_eq (get_or slots o 0) 0) list k 0 within ∙ ap (λ b. without_slot slots (take k list) ++ cond b (ord ∷ []) []) none));
@@ -264,8 +248,8 @@ set_step n d c e same =
     elim (cases_eq n d) [
       | inl is ↦ ap (λ b. (ltb n d && c) || (nat_eq n d && b)) (same is) ∙ and_or (ltb n d) (nat_eq n d) c ∙ ap (λ b. b && c) (next_below n d)
       | inr other ↦
-          ap (λ b. (ltb n d && c) || (b && e)) (ne_eqb n d other) ∙ or_false (ltb n d && c)
-          ∙ ap (λ b. b && c) (sym (or_false (ltb n d)) ∙ ap (λ b. ltb n d || b) (sym (ne_eqb n d other)) ∙ next_below n d)
+          ap (λ b. (ltb n d && c) || (b && e)) (ne_eqb n d other) ∙ or-false (ltb n d && c)
+          ∙ ap (λ b. b && c) (sym (or-false (ltb n d)) ∙ ap (λ b. ltb n d || b) (sym (ne_eqb n d other)) ∙ next_below n d)
     ]
 
 pub one_noted : (lists : List (List ℕ)) (slots : List ℕ) (number d : ℕ) (old new : List Marked) (starts before after list : List ℕ) → AreNoted lists slots number d old starts before → list ≡ get_or lists d [] → AreAdded slots d list old new before after

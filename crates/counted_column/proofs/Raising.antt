@@ -6,12 +6,14 @@ use Rattle.std.proofs.lemmas.Bool.{cases_eq, cases_lt, eq-eqb, ne_eqb, eqb-true,
 use Rattle.std.proofs.lemmas.List.{get_or-set_same, get_or-set_other, length-set, drop_more, drop_all}
 use Rattle.std.proofs.lemmas.List.Sums.{length-filter, count_by-le-length}
 use Rattle.seg_postings.specs.Rising.{IsBelowAll, IsRising, is_in, from_place}
-use Rattle.seg_postings.proofs.Order.{IsFrom, rising_drop, below_weaker, from_all, from_below, from_later}
+use Rattle.seg_postings.proofs.Order.{rising_drop, below_weaker, from_all, from_below, from_later}
 use Rattle.seg_postings.proofs.Either.{from_none, after_head}
 use Rattle.seg_postings.proofs.Sets.{is_in_below}
 use Rattle.place_bits.specs.Words.{Marked}
 use Rattle.counted_column.specs.Columns.{dense_at, sparse_at}
-use Rattle.counted_column.proofs.Members.{here_in, later_in, count_cons, count_none, count_split, count_and, some_passes}
+use Rattle.counted_column.proofs.Members.{count_cons, count_none, count_split, count_and, some_passes}
+use Rattle.std.proofs.Math.Bool.{and-true}
+use Rattle.seg_postings.proofs.Members.{here_in, later_in}
 
 -- The numbers now and what is still to be added are the old ones and what is to be added in all.
 pub record AreRaised (still all : ℕ → ℕ) (now old : List ℕ) : Type 0 where
@@ -76,16 +78,12 @@ below_dense o n (x ∷ xs) [] h = tt
 below_dense o n (x ∷ xs) (m ∷ ms) h =
     elim (is_in n m.places) as (λ b. IsBelowAll o (cond b (x ∷ dense_at xs ms n) (dense_at xs ms n))) [ true ↦ (h.0, below_dense o n xs ms h.1) | false ↦ below_dense o n xs ms h.1 ]
 
-and_same : (b : Bool) → (b && true) ≡ b
-and_same true = refl
-and_same false = refl
-
 none_and : (b : Bool) → ◌≡◌ {A = ℕ} (cond (b && false) 1 0) 0
 none_and true = refl
 none_and false = refl
 
 has_or : (ord o : ℕ) (r : List ℕ) (b : Bool) → (eqb ord o ≡ true → is_in ord r ≡ false) → cond (is_in ord (cond b (o ∷ r) r)) 1 0 ≡ cond (eqb ord o && b) 1 0 + cond (is_in ord r) 1 0
-has_or ord o r true h = one_or (eqb ord o) (is_in ord r) h ∙ ap (λ e. cond e 1 0 + cond (is_in ord r) 1 0) (sym (and_same (eqb ord o)))
+has_or ord o r true h = one_or (eqb ord o) (is_in ord r) h ∙ ap (λ e. cond e 1 0 + cond (is_in ord r) 1 0) (sym (and-true (eqb ord o)))
 has_or ord o r false h = omega (arith, none_and (eqb ord o))
 
 -- at how many of the places the ordinal is one of these, by their sets
@@ -158,13 +156,6 @@ raised_by before after step all new now old h len plus more = record {
 -- at how many of the places the ordinal is sparse
 abbrev pub sparse_in : List ℕ → List ℕ → List ℕ → ℕ → ℕ
 sparse_in starts ords places ord = count_by (λ n. is_in ord (sparse_at starts ords n)) places
-
-from_zero : (xs : List ℕ) → IsFrom 0 xs
-from_zero [] = tt
-from_zero (x ∷ xs) = (omega arith, from_zero xs)
-
-pub walk_start : (xs : List ℕ) → from_place 0 xs ≡ xs
-walk_start xs = from_all 0 xs (from_zero xs)
 
 pub walk_in : (p : ℕ) (xs : List ℕ) → IsRising xs → is_in p xs ≡ true → from_place p xs ≡ p ∷ from_place (p + 1) xs
 walk_in p [] rising h = let t : false ≡ true = h in absurd cc

@@ -5,12 +5,13 @@ use Rattle.std.specs.List.{list_any}
 use Rattle.std.proofs.lemmas.List.Sums.{count_by-le-length}
 use Rattle.std.proofs.lemmas.List.FromFn.{get_or-map-range_with_len, length-map-range_with_len}
 use Rattle.seg_postings.specs.Rising.{is_in}
-use Rattle.seg_postings.proofs.Members.{is_in-either}
+use Rattle.seg_postings.proofs.Members.{is_in-either, later_in}
 use Rattle.place_bits.specs.Misses.{HaveWords}
 use Rattle.place_bits.specs.Words.{Marked}
 use Rattle.counted_column.specs.Columns.{Parts, IsColumn, dense_at, sparse_at, list_at, lists_of}
-use Rattle.counted_column.proofs.Members.{later_in, all_in, any_is_in, count_none, count_split, count_map}
+use Rattle.counted_column.proofs.Members.{all_in, any_is_in, count_none, count_split, count_map}
 use Rattle.counted_column.proofs.Raising.{dense_in, sparse_in}
+use Rattle.std.proofs.Math.Bool.{or-true}
 
 -- what the sets of dense ordinals tell is dense
 is_dense : (q n : ℕ) (ords : List ℕ) (maps : List Marked) → is_in q (dense_at ords maps n) ≡ true → is_in q ords ≡ true
@@ -42,15 +43,11 @@ module _ (p : Parts) (is : IsColumn p) (value : List (List ℕ)) (e : lists_of p
   has_either : (n : ℕ) → n < length value → (q : ℕ) → is_in q (get_or value n []) ≡ (is_in q (dense_at p.dense p.maps n) || is_in q (sparse_at p.starts p.ords n))
   has_either n l q = ap (is_in q) (list_is n l) ∙ is_in-either q (dense_at p.dense p.maps n) (sparse_at p.starts p.ords n)
 
-  or_true : (b : Bool) → (b || true) ≡ true
-  or_true true = refl
-  or_true false = refl
-
   pub has_dense : (n : ℕ) → n < length value → (q : ℕ) → is_in q (dense_at p.dense p.maps n) ≡ true → is_in q (get_or value n []) ≡ true
   has_dense n l q h = has_either n l q ∙ ap (λ b. b || is_in q (sparse_at p.starts p.ords n)) h
 
   pub has_sparse : (n : ℕ) → n < length value → (q : ℕ) → is_in q (sparse_at p.starts p.ords n) ≡ true → is_in q (get_or value n []) ≡ true
-  has_sparse n l q h = has_either n l q ∙ ap (λ b. is_in q (dense_at p.dense p.maps n) || b) h ∙ or_true (is_in q (dense_at p.dense p.maps n))
+  has_sparse n l q h = has_either n l q ∙ ap (λ b. is_in q (dense_at p.dense p.maps n) || b) h ∙ or-true (is_in q (dense_at p.dense p.maps n))
 
   pub rooms_are : (words : ℕ) (maps : List Marked) → maps ≡ p.maps → words ≡ (length value + 63) / 64 → HaveWords words maps
   rooms_are words maps same w = subst (HaveWords words) (sym same) (subst (λ n. HaveWords n p.maps) (sym (w ∙ ap (λ n. (n + 63) / 64) docs_are)) is.rooms)

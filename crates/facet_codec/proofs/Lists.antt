@@ -2,6 +2,7 @@
 use Rattle.std.proofs.Common.{◌≡◌, ℕ, zero, suc, ◌+◌, ◌-◌, ◌<◌, ◌≤◌, List, [], ◌∷◌, ◌++◌, length, Result, Ok, Err, refl, sym, ap, subst, ◌∙◌, append_assoc, length-append, arith}
 use Rattle.std.specs.List.{flat_map, AllByRecursion}
 use Rattle.std.proofs.lemmas.List.{flat_map_more, append-nil}
+use Rattle.std.proofs.lemmas.List.Concat.{flat_map-append}
 use Rattle.facet_codec.specs.Places.{Place}
 use Rattle.facet_codec.specs.Reading.{◌>>=◌}
 use Rattle.facet_codec.specs.Lists.{list_at, AreSoMany, offsets}
@@ -13,6 +14,18 @@ with_front front read = read >>= λ x. Ok (front ++ x.0, x.1)
 
 abbrev pub one_more : {A F : Type 0} → A → Result (List A × Place) F → Result (List A × Place) F
 one_more x read = read >>= λ o. Ok (x ∷ o.0, o.1)
+
+pub each_push : {A : Type 0} (Fits : A → Type 0) (xs : List A) (x : A) → AllByRecursion Fits xs → Fits x → AllByRecursion Fits (xs ++ x ∷ [])
+each_push Fits [] x all fits = (fits, tt)
+each_push Fits (y ∷ xs) x all fits = (all.0, each_push Fits xs x all.1 fits)
+
+-- the bytes of one value behind those of others
+pub bytes_push : {A : Type 0} (f : A → List ℕ) (start mid new : List ℕ) (xs : List A) (x : A) → mid ≡ start ++ flat_map f xs → new ≡ mid ++ f x → new ≡ start ++ flat_map f (xs ++ x ∷ [])
+bytes_push f start mid new xs x so_far one =
+    one
+    ∙ ap (λ bytes. bytes ++ f x) so_far
+    ∙ append_assoc start (flat_map f xs) (f x)
+    ∙ ap (λ bytes. start ++ bytes) (sym (flat_map-append f xs (x ∷ []) ∙ ap (λ ys. flat_map f xs ++ ys) (append-nil (f x))))
 
 -- ---- laws
 

@@ -59,3 +59,6 @@ told_spelled f read spell Fits law p x q fits e = law p x q fits (told_ok f (rea
 
 pub told_read_back : {A F G : Type 0} (f : F → G) (read : Place → Result (A × Place) F) (spell : A → List ℕ) (Fits : A → Type 0) → ReadsBack read spell Fits → ReadsBack (λ p. told_as f (read p)) spell Fits
 told_read_back f read spell Fits law at x rest fits = rw (law at x rest fits) refl
+
+abbrev pub place_at : ℕ → List ℕ → Place
+place_at at rest = record { at = at; rest = rest }

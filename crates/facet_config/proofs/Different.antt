@@ -5,55 +5,42 @@ use Rattle.std.specs.List.{list_any}
 use Rattle.std.specs.Str.{bytes_eq}
 use Rattle.std.specs.declared.cmp.Ordering.{Ordering}
 use Rattle.std.specs.declared.cmp.Ordering.TheVariants.{Less, Equal, Greater}
-use Rattle.std.specs.Ordering.{nat_cmp, is_lt, ordering_reverse}
-use Rattle.std.specs.Cmp.Lexicographic.{slice_cmp, nat_list_cmp_total, bytes_decides}
-use Rattle.std.proofs.lemmas.Bool.{true≢false}
+use Rattle.std.specs.Ordering.{is_lt, ordering_reverse}
+use Rattle.std.specs.Cmp.Lexicographic.{nat_list_cmp_total, bytes_decides}
+use Rattle.std.proofs.lemmas.Bool.{true≢false, or_parts}
 use Rattle.std.proofs.lemmas.Map.Lookups.{exact_bytes}
 use Rattle.facet_model.specs.declared.flags.DimFlags.{DimFlags}
 use Rattle.facet_model.specs.Flags.{Config, flags, no_flags}
 use Rattle.facet_config.specs.Differences.{IsFirstDifference, IsFoundDifference, OneDifference, is_one_true, is_different, lesser, nearer}
-
-abbrev cmp : List ℕ → List ℕ → Ordering
-cmp = slice_cmp nat_cmp
+use Rattle.facet_names.proofs.Ordered.{is_less}
+use Rattle.facet_model.specs.Words.{word_cmp}
+use Rattle.facet_model.proofs.WordOrder.{not_less_itself}
 
 -- ---- the order
 
-not_less_itself : (x : List ℕ) → is_lt (cmp x x) ≡ false
-not_less_itself x = by (cmp x x) (nat_list_cmp_total.antisymm x x)
+not_less_than_lesser : (d x m : List ℕ) → is_lt (word_cmp d m) ≡ false → is_lt (word_cmp x m) ≡ true → is_lt (word_cmp d x) ≡ false
+not_less_than_lesser d x m above low = by (is_lt (word_cmp d x)) refl
   where
-    by : (o : Ordering) → o ≡ ordering_reverse o → is_lt o ≡ false
-    by Less e = absurd cc
-    by Equal e = refl
-    by Greater e = refl
-
-is_less : (o : Ordering) → is_lt o ≡ true → o ≡ Less
-is_less Less e = refl
-is_less Equal e = absurd cc
-is_less Greater e = absurd cc
-
-not_less_than_lesser : (d x m : List ℕ) → is_lt (cmp d m) ≡ false → is_lt (cmp x m) ≡ true → is_lt (cmp d x) ≡ false
-not_less_than_lesser d x m above low = by (is_lt (cmp d x)) refl
-  where
-    by : (b : Bool) → is_lt (cmp d x) ≡ b → is_lt (cmp d x) ≡ false
-    by true e = absurd (true≢false (sym (ap is_lt (nat_list_cmp_total.trans d x m (is_less (cmp d x) e) (is_less (cmp x m) low))) ∙ above))
+    by : (b : Bool) → is_lt (word_cmp d x) ≡ b → is_lt (word_cmp d x) ≡ false
+    by true e = absurd (true≢false (sym (ap is_lt (nat_list_cmp_total.trans d x m (is_less (word_cmp d x) e) (is_less (word_cmp x m) low))) ∙ above))
     by false e = e
 
 -- there is one, and the dimension is not less
 abbrev IsFrom : Option (List ℕ) → List ℕ → Type 0
-IsFrom o d = (m : List ℕ) × (o ≡ Some m) × (is_lt (cmp d m) ≡ false)
+IsFrom o d = (m : List ℕ) × (o ≡ Some m) × (is_lt (word_cmp d m) ≡ false)
 
 lesser_keeps : (first : Option (List ℕ)) (x d : List ℕ) → IsFrom first d → IsFrom (lesser first x) d
-lesser_keeps first x d from = subst (λ o. IsFrom (lesser o x) d) (sym from.1) (by (is_lt (cmp x from.0)) refl)
+lesser_keeps first x d from = subst (λ o. IsFrom (lesser o x) d) (sym from.1) (by (is_lt (word_cmp x from.0)) refl)
   where
-    by : (b : Bool) → is_lt (cmp x from.0) ≡ b → IsFrom (cond b (Some x) (Some from.0)) d
+    by : (b : Bool) → is_lt (word_cmp x from.0) ≡ b → IsFrom (cond b (Some x) (Some from.0)) d
     by true e = (x, refl, not_less_than_lesser d x from.0 from.2 e)
     by false e = (from.0, refl, from.2)
 
 lesser_takes : (first : Option (List ℕ)) (x : List ℕ) → IsFrom (lesser first x) x
 lesser_takes None x = (x, refl, not_less_itself x)
-lesser_takes (Some m) x = by (is_lt (cmp x m)) refl
+lesser_takes (Some m) x = by (is_lt (word_cmp x m)) refl
   where
-    by : (b : Bool) → is_lt (cmp x m) ≡ b → IsFrom (cond b (Some x) (Some m)) x
+    by : (b : Bool) → is_lt (word_cmp x m) ≡ b → IsFrom (cond b (Some x) (Some m)) x
     by true e = (x, refl, not_less_itself x)
     by false e = (m, refl, e)
 
@@ -90,7 +77,7 @@ module _ (one other : Config) where
     where
       least : (first : Option (List ℕ)) → is_different one other x ≡ true → Differs first → Differs (lesser first x)
       least None e before = e
-      least (Some m) e before = pick (is_lt (cmp x m))
+      least (Some m) e before = pick (is_lt (word_cmp x m))
         where
           pick : (b : Bool) → Differs (cond b (Some x) (Some m))
           pick true = e
@@ -139,14 +126,10 @@ module _ (one other : Config) where
       same false true e = absurd cc
       same false false e = refl
 
-      parts : (x y : Bool) → (x || y) ≡ false → (x ≡ false) × (y ≡ false)
-      parts true y e = absurd cc
-      parts false y e = (refl, e)
-
       by : (a b c d e f : Bool) → (is_one_true a b || is_one_true c d || is_one_true e f) ≡ false → (a ≡ b) × (c ≡ d) × (e ≡ f)
       by a b c d e f h =
-          let last = parts (is_one_true a b || is_one_true c d) (is_one_true e f) h in
-          let first = parts (is_one_true a b) (is_one_true c d) last.0 in
+          let last = or_parts (is_one_true a b || is_one_true c d) (is_one_true e f) h in
+          let first = or_parts (is_one_true a b) (is_one_true c d) last.0 in
           (same a b first.0, same c d first.1, same e f last.1)
 
   abbrev pub first_of_both : Option (List ℕ)
@@ -180,10 +163,10 @@ module _ (one other : Config) where
       same_name : (m n : List ℕ) → ◌≡◌ {A = Option (List ℕ)} (Some m) (Some n) → m ≡ n
       same_name m n e = cc
 
-      not_before : (d : List ℕ) → flags one d ≢ flags other d → (b : Bool) → is_different one other d ≡ b → is_lt (cmp d dim) ≡ false
+      not_before : (d : List ℕ) → flags one d ≢ flags other d → (b : Bool) → is_different one other d ≡ b → is_lt (word_cmp d dim) ≡ false
       not_before d apart true e =
           let from = found_first d e in
-          subst (λ m. is_lt (cmp d m) ≡ false) (same_name from.0 dim (sym from.1 ∙ some)) from.2
+          subst (λ m. is_lt (word_cmp d m) ≡ false) (same_name from.0 dim (sym from.1 ∙ some)) from.2
       not_before d apart false e = absurd (apart (flags_are_same d e))
 
   -- whatever the names are kept as
@@ -204,9 +187,9 @@ greater_less : Greater ≡ Less → ⊥
 greater_less e = cc
 
 pub first_alone : (one other : Config) (d e : List ℕ) → IsFirstDifference one other d → IsFirstDifference one other e → d ≡ e
-first_alone one other d e first second = by (cmp d e) (cmp e d) refl refl (second.first d first.differs) (first.first e second.differs)
+first_alone one other d e first second = by (word_cmp d e) (word_cmp e d) refl refl (second.first d first.differs) (first.first e second.differs)
   where
-    by : (o r : Ordering) → cmp d e ≡ o → cmp e d ≡ r → is_lt (cmp d e) ≡ false → is_lt (cmp e d) ≡ false → d ≡ e
+    by : (o r : Ordering) → word_cmp d e ≡ o → word_cmp e d ≡ r → is_lt (word_cmp d e) ≡ false → is_lt (word_cmp e d) ≡ false → d ≡ e
     by Less r is back low high = absurd (true≢false (sym (ap is_lt is) ∙ low))
     by Equal r is back low high = exact_bytes d e is
     by Greater Less is back low high = absurd (true≢false (sym (ap is_lt back) ∙ high))

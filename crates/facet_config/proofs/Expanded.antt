@@ -7,7 +7,7 @@ use Rattle.std.specs.List.{list_any, enumerate_from, zip, AllZip, AllByRecursion
 use Rattle.std.specs.List.Sorted.{IsStrictlySortedBy, IsPermutation, IsSorted, IsStrictlyIncreasing}
 use Rattle.std.specs.Cmp.{nat_eq_equiv, both_ways}
 use Rattle.std.proofs.lemmas.Bool.{or_cases, or_left, or_right, and_parts, true≢false, eqb-true, eq-eqb, ne_eqb, ltb-true, lt-ltb}
-use Rattle.std.proofs.lemmas.List.{length-take-le, get_or-map, length-map}
+use Rattle.std.proofs.lemmas.List.{length-take-le, get_or-map, length-map, take_all}
 use Rattle.std.proofs.lemmas.List.Folds.{list_any-append}
 use Rattle.std.proofs.lemmas.List.FromFn.{get_or-map-range_with_len, length-map-range_with_len}
 use Rattle.std.proofs.lemmas.List.Concat.{flat_map-cons}
@@ -153,11 +153,7 @@ prefix_eq n path some within = both_ways (path_eq path (take n path)) (eqb n (le
     there e = eq-eqb n (length path) (omega (arith, ap length (same_path path (take n path) e), length-take-le n path within))
 
     back : eqb n (length path) ≡ true → path_eq path (take n path) ≡ true
-    back e = subst (λ q. path_eq path q ≡ true) (sym (ap (λ m. take m path) (eqb-true n (length path) e) ∙ whole path)) (path_eq_equiv.refl path)
-      where
-        whole : (path : List (List ℕ)) → take (length path) path ≡ path
-        whole [] = refl
-        whole (p ∷ ps) = ap (λ qs. p ∷ qs) (whole ps)
+    back e = subst (λ q. path_eq path q ≡ true) (sym (ap (λ m. take m path) (eqb-true n (length path) e) ∙ take_all (length path) path (omega arith))) (path_eq_equiv.refl path)
 
 pub prefix_under : (n : ℕ) (path : List (List ℕ)) → n ≤ length path → is_under path (take n path) ≡ true
 prefix_under n path within = subst (λ m. path_eq (take n path) (take m path) ≡ true) (sym (length-take-le n path within)) (path_eq_equiv.refl (take n path))
@@ -179,10 +175,6 @@ under_is_front path other e = same_path other (take (length other) path) e
 pub counted_is_prefix : (f : DimFlags) (label path : List (List ℕ)) → 0 < length label → is_counted_for f label path ≡ true → (0 < length path) × (length path ≤ length label) × (path ≡ take (length path) label)
 counted_is_prefix f label path some e = by (or_cases (path_eq label path) _ e)
   where
-    whole : (path : List (List ℕ)) → take (length path) path ≡ path
-    whole [] = refl
-    whole (p ∷ ps) = ap (λ qs. p ∷ qs) (whole ps)
-
     within : (n : ℕ) (qs ps : List (List ℕ)) → qs ≡ take n ps → length qs ≤ length ps
     within n qs ps e = subst (λ (xs : List (List ℕ)). length xs ≤ length ps) (sym e) (shorter n ps)
       where
@@ -196,7 +188,7 @@ counted_is_prefix f label path some e = by (or_cases (path_eq label path) _ e)
     by (inl e) =
         let same : label ≡ path = same_path label path e in
         let size : length label ≡ length path = ap length same in
-        (omega arith, omega arith, sym same ∙ sym (whole label) ∙ ap (λ n. take n label) size)
+        (omega arith, omega arith, sym same ∙ sym (take_all (length label) label (omega arith)) ∙ ap (λ n. take n label) size)
     by (inr e) =
         let four = and_parts (is_under label path && nat_lt 0 (length path) && f.multi_valued && (f.hierarchical || f.require_dim_count)) (nat_lt 1 (length path) || f.require_dim_count) e in
         let three = and_parts (is_under label path && nat_lt 0 (length path) && f.multi_valued) (f.hierarchical || f.require_dim_count) four.0 in

@@ -9,29 +9,27 @@ use Rattle.std.specs.Str.{bytes_eq}
 use Rattle.facet_model.specs.declared.flags.DimFlags.{DimFlags}
 use Rattle.facet_model.specs.Flags.{Config, flags, no_flags}
 use Rattle.facet_config.specs.Declarations.{declarations, AreDimensions, IsDimension}
+use Rattle.facet_names.proofs.Keys.{is_key}
 
 abbrev Entry : Type 0
 Entry = String Global × DimFlags
 
-abbrev pub is_dim : List ℕ → String Global → Bool
-is_dim dim key = bytes_eq dim (string_bytes key)
-
 abbrev pub or_default : Option DimFlags → DimFlags
 or_default o = option_map_or (λ f. f) o no_flags
 
-pub lookup_is_flags : (dim : List ℕ) (es : List Entry) → or_default (lookup (is_dim dim) es) ≡ flags (declarations es) dim
+pub lookup_is_flags : (dim : List ℕ) (es : List Entry) → or_default (lookup (is_key dim) es) ≡ flags (declarations es) dim
 lookup_is_flags dim [] = refl
-lookup_is_flags dim (e ∷ es) = by (is_dim dim e.0) refl (lookup_is_flags dim es)
+lookup_is_flags dim (e ∷ es) = by (is_key dim e.0) refl (lookup_is_flags dim es)
   where
-    by : (b : Bool) → is_dim dim e.0 ≡ b → or_default (lookup (is_dim dim) es) ≡ flags (declarations es) dim → or_default (lookup (is_dim dim) (e ∷ es)) ≡ flags (declarations (e ∷ es)) dim
+    by : (b : Bool) → is_key dim e.0 ≡ b → or_default (lookup (is_key dim) es) ≡ flags (declarations es) dim → or_default (lookup (is_key dim) (e ∷ es)) ≡ flags (declarations (e ∷ es)) dim
     by true h rest = rw h refl
     by false h rest = rw h rest
 
-pub lookup_is_any : (dim : List ℕ) (es : List Entry) → is_some (lookup (is_dim dim) es) ≡ list_any (λ d. bytes_eq dim d.0) (declarations es)
+pub lookup_is_any : (dim : List ℕ) (es : List Entry) → is_some (lookup (is_key dim) es) ≡ list_any (λ d. bytes_eq dim d.0) (declarations es)
 lookup_is_any dim [] = refl
-lookup_is_any dim (e ∷ es) = by (is_dim dim e.0) refl (lookup_is_any dim es)
+lookup_is_any dim (e ∷ es) = by (is_key dim e.0) refl (lookup_is_any dim es)
   where
-    by : (b : Bool) → is_dim dim e.0 ≡ b → is_some (lookup (is_dim dim) es) ≡ list_any (λ d. bytes_eq dim d.0) (declarations es) → is_some (lookup (is_dim dim) (e ∷ es)) ≡ list_any (λ d. bytes_eq dim d.0) (declarations (e ∷ es))
+    by : (b : Bool) → is_key dim e.0 ≡ b → is_some (lookup (is_key dim) es) ≡ list_any (λ d. bytes_eq dim d.0) (declarations es) → is_some (lookup (is_key dim) (e ∷ es)) ≡ list_any (λ d. bytes_eq dim d.0) (declarations (e ∷ es))
     by true h rest = rw h refl
     by false h rest = rw h rest
 
@@ -43,8 +41,8 @@ one_more es new key f dim is made = ap declarations made ∙ by es
     by [] = λ i. (is i, f) ∷ []
     by (e ∷ es) = ap (λ (xs : Config). (string_bytes e.0, e.1) ∷ xs) (by es)
 
-pub not_there : (dim : List ℕ) (es : List Entry) → list_any (λ d. bytes_eq dim d.0) (declarations es) ≡ false → lookup (is_dim dim) es ≡ None
-not_there dim es none = by (lookup (is_dim dim) es) (lookup_is_any dim es ∙ none)
+pub not_there : (dim : List ℕ) (es : List Entry) → list_any (λ d. bytes_eq dim d.0) (declarations es) ≡ false → lookup (is_key dim) es ≡ None
+not_there dim es none = by (lookup (is_key dim) es) (lookup_is_any dim es ∙ none)
   where
     by : (o : Option DimFlags) → is_some o ≡ false → o ≡ None
     by None e = refl

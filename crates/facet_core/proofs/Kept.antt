@@ -10,6 +10,7 @@ use Rattle.facet_model.proofs.Fronts.{weaker, knows_its_labels}
 use Rattle.facet_model.specs.Histories.{Operation, docs, knows, covers, never_falls, is_pair, are_publications}
 use Rattle.facet_model.specs.Core.{State, Refresh, Commit, with_index, with_labels_taken, publish_pair, with_publication, without_refresh, with_commit, without_commit}
 use Rattle.facet_model.specs.CoreStates.{Valid, is_at_least, operations_of, labels_of, are_labels_taken, is_good_refresh, is_good_index}
+use Rattle.facet_model.proofs.Histories.{never_falls_push}
 
 -- ---- lists
 
@@ -20,15 +21,6 @@ all_taken p (suc n) (x ∷ xs) h = let both = and_parts (p x) (list_all p xs) h 
 
 pub itself : (n : ℕ) → nat_le n n ≡ true
 itself n = le-leb n n (omega arith)
-
--- a number that is at least each is the next
-never_falls_push : (xs : List ℕ) (n : ℕ) → never_falls xs ≡ true → list_all (λ k. nat_le k n) xs ≡ true → never_falls (xs ++ n ∷ []) ≡ true
-never_falls_push [] n h below = refl
-never_falls_push (x ∷ []) n h below = below
-never_falls_push (x ∷ y ∷ ys) n h below =
-    let both = and_parts (nat_le x y) (never_falls (y ∷ ys)) h in
-    let rest = and_parts (nat_le x n) (list_all (λ k. nat_le k n) (y ∷ ys)) below in
-    and_from (nat_le x y) (never_falls (y ∷ ys ++ n ∷ [])) both.0 (never_falls_push (y ∷ ys) n both.1 rest.1)
 
 -- ---- the parts of a valid state
 

@@ -12,7 +12,8 @@ use Rattle.facet_model.specs.Documents.{Doc}
 use Rattle.facet_model.specs.Histories.{Operation, docs, knows, covers, never_falls, is_pair}
 use Rattle.facet_model.specs.Core.{State, Refresh, Commit, with_label}
 use Rattle.facet_model.specs.CoreStates.{Valid, is_at_least, operations_of, labels_of, are_labels_taken, is_good_refresh, is_good_commit, is_good_index}
-use Rattle.facet_model.proofs.Fronts.{weaker, take_front}
+use Rattle.facet_model.proofs.Fronts.{weaker}
+use Rattle.std.proofs.lemmas.List.{take-append-le}
 
 -- ---- a longer list
 
@@ -24,7 +25,7 @@ module _ (labels : List (List (List ℕ))) (path : List (List ℕ)) where
   still_in_place k [] fits h = refl
   still_in_place k (x ∷ xs) fits h =
       let both = and_parts (is_in_place labels (k, x)) (list_all (is_in_place labels) (enumerate_from (k + 1) xs)) h in
-      let front : take k (labels ++ path ∷ []) ≡ take k labels = take_front k labels (path ∷ []) (omega arith) in
+      let front : take k (labels ++ path ∷ []) ≡ take k labels = take-append-le k labels (path ∷ []) (omega arith) in
       let here : is_in_place (labels ++ path ∷ []) (k, x) ≡ true = ap (λ before. not (stands before x) && (if k == 0 then length x == 0 else stands before (above x))) front ∙ both.0 in
       and_from _ _ here (still_in_place (k + 1) xs (omega arith) both.1)
 
@@ -35,7 +36,7 @@ module _ (labels : List (List (List ℕ))) (path : List (List ℕ)) where
   longer_list : IsLabelList labels → stands labels path ≡ false → stands labels (above path) ≡ true → IsLabelList (labels ++ path ∷ [])
   longer_list good new parent =
       let both = and_parts (nat_lt 0 (length labels)) (list_all (is_in_place labels) (enumerate_from 0 labels)) good in
-      let whole : take (length labels) (labels ++ path ∷ []) ≡ labels = take_front (length labels) labels (path ∷ []) (omega arith) ∙ take_all (length labels) labels (omega arith) in
+      let whole : take (length labels) (labels ++ path ∷ []) ≡ labels = take-append-le (length labels) labels (path ∷ []) (omega arith) ∙ take_all (length labels) labels (omega arith) in
       let there : 0 < length labels = ltb-true 0 (length labels) both.0 in
       let not_first : (length labels == 0) ≡ false = ne_eqb (length labels) 0 (λ e. omega arith) in
       let last : is_in_place (labels ++ path ∷ []) (length labels, path) ≡ true =

@@ -11,7 +11,8 @@ use Rattle.facet_model.specs.Documents.{Doc}
 use Rattle.facet_model.specs.Histories.{Operation, docs, knows, covers, never_falls, is_pair}
 use Rattle.facet_model.specs.Core.{State, Refresh, Commit, with_operation}
 use Rattle.facet_model.specs.CoreStates.{Valid, is_at_least, operations_of, labels_of, are_labels_taken, is_good_refresh, is_good_commit, is_good_index}
-use Rattle.facet_model.proofs.Fronts.{weaker, take_front}
+use Rattle.facet_model.proofs.Fronts.{weaker}
+use Rattle.std.proofs.lemmas.List.{take-append-le}
 
 -- ---- more operations change nothing of what was taken
 
@@ -19,7 +20,7 @@ still_le : (more history : List Operation) (n : ℕ) → nat_le n (length histor
 still_le more history n h = le-leb n (length (history ++ more)) (let le : n ≤ length history = leb-true n (length history) h in omega (arith, le, length-append history more))
 
 still_covers : (more : List Operation) (labels : List (List (List ℕ))) (m : ℕ) (history : List Operation) (n : ℕ) → nat_le n (length history) ≡ true → covers labels m history n ≡ true → covers labels m (history ++ more) n ≡ true
-still_covers more labels m history n le h = ap (λ front. list_all (knows (take m labels)) (docs front)) (take_front n history more (leb-true n (length history) le)) ∙ h
+still_covers more labels m history n le h = ap (λ front. list_all (knows (take m labels)) (docs front)) (take-append-le n history more (leb-true n (length history) le)) ∙ h
 
 module _ (s : State) (o : Operation) where
   abbrev longer : State

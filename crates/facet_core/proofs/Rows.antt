@@ -1,5 +1,5 @@
 -- The events of two documents, replayed by the definitions.
-use Rattle.std.specs.Prelude.{false, ◌≡◌, ◌++◌, ℕ, true, List, [], ◌∷◌, codes, fold, length, replicate, refl, Bool, zero, suc, nat_lt, nat_le, ◌&&◌, ◌==◌}
+use Rattle.std.specs.Prelude.{false, ◌≡◌, ◌++◌, ℕ, true, List, [], ◌∷◌, codes, length, replicate, refl, Bool, zero, suc, nat_lt, nat_le, ◌&&◌, ◌==◌}
 use Rattle.std.specs.List.{list_all, list_any, enumerate_from}
 use Rattle.std.specs.Option.{option_map_or}
 use Rattle.facet_names.specs.Labels.{is_in_place, stands}
@@ -7,9 +7,7 @@ use Rattle.facet_model.specs.Histories.{are_publications}
 use Rattle.facet_model.specs.Documents.{Doc}
 use Rattle.facet_model.specs.Core.{State, empty_core, CoreEvent, label, append, take_index, take_labels, publish, drop_refresh, begin_commit, drop_commit, device, crash, step}
 use Rattle.facet_model.specs.CoreStates.{Valid, is_good_refresh, is_good_commit, has_renamed, is_good_index, is_kept, is_same_pair}
-
-abbrev run : State → List CoreEvent → State
-run s events = fold step s events
+use Rattle.facet_core.specs.Laws.{ran}
 
 abbrev author : List ℕ → List (List ℕ)
 author name = codes "Author" ∷ name ∷ []
@@ -35,7 +33,7 @@ abbrev committing : ℕ → List CoreEvent
 committing calls = first_added ++ begin_commit 1 ∷ replicate 12 (device true) ++ second_added ++ begin_commit 1 ∷ replicate calls (device true)
 
 abbrev after : ℕ → List CoreEvent → State
-after calls events = run (run empty_core (committing calls)) events
+after calls events = ran (ran empty_core (committing calls)) events
 
 -- a crash behind the taxonomy's rename
 abbrev crashed : State
@@ -65,15 +63,15 @@ no_third = refl
 
 -- a refresh between whose takes a label and a document come
 abbrev refreshed : State
-refreshed = run empty_core (first_added ++ take_index 1 ∷ second_added ++ take_labels 1 ∷ publish 1 ∷ [])
+refreshed = ran empty_core (first_added ++ take_index 1 ∷ second_added ++ take_labels 1 ∷ publish 1 ∷ [])
 
 refreshed_published : refreshed.published ≡ (0, 1) ∷ (1, 4) ∷ []
 refreshed_published = refl
 
 abbrev with_first : State
-with_first = run empty_core first_added
+with_first = ran empty_core first_added
 
-labels_first : run with_first (take_labels 1 ∷ []) ≡ with_first
+labels_first : ran with_first (take_labels 1 ∷ []) ≡ with_first
 labels_first = refl
 
 -- ---- each of these states is valid

@@ -1,5 +1,5 @@
 -- One more list that is counted.
-use Rattle.std.proofs.Common.{◌≡◌, ℕ, ◌+◌, ◌<◌, ◌≤◌, ◌⊎◌, Bool, true, false, ◌||◌, cond, List, [], ◌∷◌, ◌++◌, length, take, drop, get_or, set, nat_eq, refl, sym, ap, subst, ◌∙◌, arith, inl, inr}
+use Rattle.std.proofs.Common.{◌≡◌, ℕ, ◌+◌, ◌<◌, ◌≤◌, ◌⊎◌, Bool, true, false, ◌||◌, cond, List, [], ◌∷◌, ◌++◌, length, take, drop, get_or, set, nat_eq, sym, ap, subst, ◌∙◌, arith, inl, inr}
 use Rattle.std.specs.Prelude.{count_by}
 use Rattle.std.specs.List.{list_any, AllPairs}
 use Rattle.std.proofs.lemmas.Bool.{cases_eq, cases_lt, eq-eqb, ne_eqb, eqb-true, false_from_ne_true}
@@ -10,6 +10,7 @@ use Rattle.facet_counts.specs.Lists.{IsCounted}
 use Rattle.facet_counts.specs.Tallies.{Tally, HasAdded}
 use Rattle.facet_counts.specs.Kept.{IsCounter}
 use Rattle.taxo_list.proofs.Labels.{place_of}
+use Rattle.std.proofs.Math.Bool.{or-false}
 
 -- an ordinal of distinct ones is none of those before it
 pub not_yet : (ords : List ℕ) → AllPairs (λ a b. a ≡ b → ⊥) ords → (k : ℕ) → k < length ords → list_any (nat_eq (get_or ords k 0)) (take k ords) ≡ false
@@ -39,10 +40,6 @@ pub added_next : (start counts ords : List ℕ) (k : ℕ) → AllPairs (λ a b. 
     → (i : ℕ) → i < length counts → get_or (set counts (get_or ords k 0) (get_or counts (get_or ords k 0) 0 + 1)) i 0 ≡ get_or start i 0 + cond (list_any (nat_eq i) (take (k + 1) ords)) 1 0
 added_next start counts ords k distinct lt within so_far i low = by (cases_eq i (get_or ords k 0))
   where
-    or_false : (a : Bool) → (a || false) ≡ a
-    or_false true = refl
-    or_false false = refl
-
     by : (i ≡ get_or ords k 0) ⊎ (i ≡ get_or ords k 0 → ⊥) → get_or (set counts (get_or ords k 0) (get_or counts (get_or ords k 0) 0 + 1)) i 0 ≡ get_or start i 0 + cond (list_any (nat_eq i) (take (k + 1) ords)) 1 0
     by (inl same) =
         let none : list_any (nat_eq i) (take k ords) ≡ false = ap (λ o. list_any (nat_eq o) (take k ords)) same ∙ not_yet ords distinct k lt in
@@ -51,7 +48,7 @@ added_next start counts ords k distinct lt within so_far i low = by (cases_eq i 
         ap (λ o. get_or (set counts (get_or ords k 0) (get_or counts (get_or ords k 0) 0 + 1)) o 0) same ∙ get_or-set_same counts (get_or ords k 0) (get_or counts (get_or ords k 0) 0 + 1) 0 within
         ∙ ap (λ o. get_or counts o 0 + 1) (sym same) ∙ omega (arith, before) ∙ ap (λ b. get_or start i 0 + cond b 1 0) (sym more)
     by (inr other) =
-        let same : list_any (nat_eq i) (take (k + 1) ords) ≡ list_any (nat_eq i) (take k ords) = list_any_more (nat_eq i) ords k 0 lt ∙ ap (λ b. list_any (nat_eq i) (take k ords) || b) (ne_eqb i (get_or ords k 0) other) ∙ or_false (list_any (nat_eq i) (take k ords)) in
+        let same : list_any (nat_eq i) (take (k + 1) ords) ≡ list_any (nat_eq i) (take k ords) = list_any_more (nat_eq i) ords k 0 lt ∙ ap (λ b. list_any (nat_eq i) (take k ords) || b) (ne_eqb i (get_or ords k 0) other) ∙ or-false (list_any (nat_eq i) (take k ords)) in
         get_or-set_other counts (get_or ords k 0) i (get_or counts (get_or ords k 0) 0 + 1) 0 other ∙ so_far i low ∙ ap (λ b. get_or start i 0 + cond b 1 0) (sym same)
 
 count_push : (p : List ℕ → Bool) (lists : List (List ℕ)) (list : List ℕ) → count_by p (lists ++ list ∷ []) ≡ count_by p lists + cond (p list) 1 0

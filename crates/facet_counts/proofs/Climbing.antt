@@ -6,16 +6,9 @@ use Rattle.std.specs.List.{list_any}
 use Rattle.std.proofs.lemmas.Bool.{cases_order, cases_lt, eq-eqb, ne_eqb, eqb-true, le-leb, lt-leb, true≢false}
 use Rattle.std.proofs.lemmas.List.Sums.{sum_by-cons}
 use Rattle.facet_counts.specs.Climbs.{climbs, climbed}
+use Rattle.std.proofs.Math.Bool.{and-false, or-false}
 
 -- ---- tests
-
-or_false : (a : Bool) → (a || false) ≡ a
-or_false true = refl
-or_false false = refl
-
-and_false : (a : Bool) → (a && false) ≡ false
-and_false true = refl
-and_false false = refl
 
 -- two pairs, regrouped
 regrouped : (a b c d x : Bool) → ((a || (b && x)) || (c || (d && x))) ≡ ((a || c) || ((b || d) && x))
@@ -23,7 +16,7 @@ regrouped true b c d x = refl
 regrouped false true true d true = refl
 regrouped false true true d false = refl
 regrouped false true false d true = refl
-regrouped false true false d false = and_false d
+regrouped false true false d false = and-false d
 regrouped false false true d x = refl
 regrouped false false false d x = refl
 
@@ -53,7 +46,7 @@ module _ (up : ℕ → Option ℕ) (small : (j : ℕ) → IfSome (up j) (λ p. p
   -- below the first there is no step
   pub no_step : (first n i j : ℕ) → j < first → climbs up first n i j ≡ nat_eq i j
   no_step first zero i j low = refl
-  no_step first (suc n) i j low = ap (λ b. nat_eq i j || (b && option_map_or (climbs up first n i) (up j) false)) (lt-leb first j low) ∙ or_false (nat_eq i j)
+  no_step first (suc n) i j low = ap (λ b. nat_eq i j || (b && option_map_or (climbs up first n i) (up j) false)) (lt-leb first j low) ∙ or-false (nat_eq i j)
 
   at_zero : (f : ℕ → Bool) → option_map_or f (up 0) false ≡ false
   at_zero f = by (up 0) (small 0)
@@ -64,12 +57,12 @@ module _ (up : ℕ → Option ℕ) (small : (j : ℕ) → IfSome (up j) (λ p. p
 
   -- What reaches an ordinal by steps from k on reaches it by later steps, or reaches k so and k's count goes to the ordinal.
   pub one_step : (k i n j : ℕ) → j ≤ n → climbs up k n i j ≡ (climbs up (k + 1) n i j || (climbs up (k + 1) n k j && option_map_or (nat_eq i) (up k) false))
-  one_step k i zero j low = sym (ap (λ b. nat_eq i j || b) (by (cases_order k j)) ∙ or_false (nat_eq i j))
+  one_step k i zero j low = sym (ap (λ b. nat_eq i j || b) (by (cases_order k j)) ∙ or-false (nat_eq i j))
     where
       by : (k ≡ j) ⊎ ((k < j) ⊎ (j < k)) → (nat_eq k j && option_map_or (nat_eq i) (up k) false) ≡ false
       by (inl e) =
           let none : k ≡ 0 = omega arith in
-          ap (λ b. nat_eq k j && b) (ap (λ n. option_map_or (nat_eq i) (up n) false) none ∙ at_zero (nat_eq i)) ∙ and_false (nat_eq k j)
+          ap (λ b. nat_eq k j && b) (ap (λ n. option_map_or (nat_eq i) (up n) false) none ∙ at_zero (nat_eq i)) ∙ and-false (nat_eq k j)
       by (inr (inl less)) = absurd (omega arith)
       by (inr (inr more)) = ap (λ b. b && option_map_or (nat_eq i) (up k) false) (ne_eqb k j (λ e. absurd (omega arith)))
   one_step k i (suc n) j low = by (cases_order j k) (λ p less. one_step k i n p (omega arith))
@@ -124,7 +117,7 @@ module _ (up : ℕ → Option ℕ) (small : (j : ℕ) → IfSome (up j) (λ p. p
   pub others_keep : (k i : ℕ) (lists : List (List ℕ)) → option_map_or (nat_eq i) (up k) false ≡ false → climbed up k lists i ≡ climbed up (k + 1) lists i
   others_keep k i [] other = refl
   others_keep k i (list ∷ lists) other =
-      let same : reaches k i list ≡ reaches (k + 1) i list = list_step k i list ∙ ap (λ b. reaches (k + 1) i list || (reaches (k + 1) k list && b)) other ∙ ap (λ b. reaches (k + 1) i list || b) (and_false (reaches (k + 1) k list)) ∙ or_false (reaches (k + 1) i list) in
+      let same : reaches k i list ≡ reaches (k + 1) i list = list_step k i list ∙ ap (λ b. reaches (k + 1) i list || (reaches (k + 1) k list && b)) other ∙ ap (λ b. reaches (k + 1) i list || b) (and-false (reaches (k + 1) k list)) ∙ or-false (reaches (k + 1) i list) in
       sum_by-cons (λ l. cond (reaches k i l) 1 0) list lists ∙ (λ t. cond (same t) 1 0 + others_keep k i lists other t) ∙ sym (sum_by-cons (λ l. cond (reaches (k + 1) i l) 1 0) list lists)
 
   -- the one that it goes to gets the lists that reach k, where none reaches both

@@ -22,6 +22,7 @@ use Rattle.facet_counts.specs.Children.{falling, entry_of, entries_of, children_
 use Rattle.taxo_list.proofs.Labels.{place_at, label_at, root_first}
 use Rattle.facet_counts.proofs.Entries.{has_parent}
 use Rattle.facet_counts.proofs.Walk.{parent_of_child}
+use Rattle.std.proofs.Math.Bool.{and-false, and-true}
 
 -- the count at a path, and 0 where it is no label
 abbrev pub count_at : List (List (List ℕ)) → List ℕ → List (List ℕ) → ℕ
@@ -132,18 +133,10 @@ module _ (labels : List (List (List ℕ))) (is : IsLabelList labels) (totals : L
   times_entries part [] = refl
   times_entries part (c ∷ cs) = by (nat_lt 0 (get_or totals c 0)) refl (times_entries part cs) ∙ sym (count_cons (λ c. bytes_eq part (last_part (get_or labels c [])) && nat_lt 0 (get_or totals c 0)) c cs)
     where
-      and_true : (a : Bool) → (a && true) ≡ a
-      and_true true = refl
-      and_true false = refl
-
-      and_false : (a : Bool) → (a && false) ≡ false
-      and_false true = refl
-      and_false false = refl
-
       by : (b : Bool) → nat_lt 0 (get_or totals c 0) ≡ b → count_by (λ (e : PartCount). bytes_eq part e.0) (entries_of labels totals cs) ≡ count_by (λ c. bytes_eq part (last_part (get_or labels c [])) && nat_lt 0 (get_or totals c 0)) cs
           → count_by (λ (e : PartCount). bytes_eq part e.0) (cond b (entry_of labels totals c ∷ entries_of labels totals cs) (entries_of labels totals cs)) ≡ cond (bytes_eq part (last_part (get_or labels c [])) && b) 1 0 + count_by (λ c. bytes_eq part (last_part (get_or labels c [])) && nat_lt 0 (get_or totals c 0)) cs
-      by true e rest = count_cons (λ (e : PartCount). bytes_eq part e.0) (entry_of labels totals c) (entries_of labels totals cs) ∙ ap (λ m. cond (bytes_eq part (last_part (get_or labels c []))) 1 0 + m) rest ∙ ap (λ b. cond b 1 0 + count_by (λ c. bytes_eq part (last_part (get_or labels c [])) && nat_lt 0 (get_or totals c 0)) cs) (sym (and_true (bytes_eq part (last_part (get_or labels c [])))))
-      by false e rest = rest ∙ sym (ap (λ b. cond b 1 0 + count_by (λ c. bytes_eq part (last_part (get_or labels c [])) && nat_lt 0 (get_or totals c 0)) cs) (and_false (bytes_eq part (last_part (get_or labels c [])))) ∙ plain)
+      by true e rest = count_cons (λ (e : PartCount). bytes_eq part e.0) (entry_of labels totals c) (entries_of labels totals cs) ∙ ap (λ m. cond (bytes_eq part (last_part (get_or labels c []))) 1 0 + m) rest ∙ ap (λ b. cond b 1 0 + count_by (λ c. bytes_eq part (last_part (get_or labels c [])) && nat_lt 0 (get_or totals c 0)) cs) (sym (and-true (bytes_eq part (last_part (get_or labels c [])))))
+      by false e rest = rest ∙ sym (ap (λ b. cond b 1 0 + count_by (λ c. bytes_eq part (last_part (get_or labels c [])) && nat_lt 0 (get_or totals c 0)) cs) (and-false (bytes_eq part (last_part (get_or labels c [])))) ∙ plain)
         where
           plain : 0 + count_by (λ c. bytes_eq part (last_part (get_or labels c [])) && nat_lt 0 (get_or totals c 0)) cs ≡ count_by (λ c. bytes_eq part (last_part (get_or labels c [])) && nat_lt 0 (get_or totals c 0)) cs
           plain = omega arith

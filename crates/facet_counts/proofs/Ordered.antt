@@ -1,8 +1,6 @@
 -- The first of some children in the order of a listing, with one more child.
 use Rattle.std.proofs.Common.{◌≡◌, ℕ, zero, suc, ◌+◌, ◌-◌, ◌<◌, ◌≤◌, ◌⊎◌, Bool, true, false, cond, List, [], ◌∷◌, ◌++◌, length, take, drop, map, get_or, refl, sym, ap, subst, ◌∙◌, arith, inl, inr, rules, Ordering, Less, Equal, Greater, min}
 use Rattle.std.specs.Prelude.{sum_by, nat_lt, All}
-use Rattle.std.specs.Cmp.{IsTotalOrder}
-use Rattle.std.specs.Cmp.Rules.{comparing}
 use Rattle.std.specs.List.{insert}
 use Rattle.std.specs.List.Sorted.{IsPermutation, IsSorted}
 use Rattle.std.specs.Ordering.{is_lt, ordering_reverse}
@@ -22,9 +20,7 @@ use Rattle.facet_counts.specs.Firsts.{AreFirst, standing}
 use Rattle.facet_counts.proofs.Below.{sum_of_children}
 use Rattle.facet_counts.proofs.Listed.{child_cmp, ordered_images}
 use Rattle.facet_counts.proofs.Walk.{parent_of_child}
-
-pub listing_total : IsTotalOrder listing_cmp
-listing_total = search (comparing, rules)
+use Rattle.facet_model.proofs.Unique.{listing_total}
 
 abbrev before : PartCount → PartCount → Bool
 before x y = is_lt (listing_cmp x y)

@@ -14,6 +14,7 @@ use Rattle.taxo_list.proofs.Labels.{place_of}
 use Rattle.facet_counts.proofs.Entries.{has_parent}
 use Rattle.facet_counts.proofs.Climbing.{no_step, one_end, reaches}
 use Rattle.facet_counts.proofs.Parents.{goes_smaller, goes_dim, climbs_dim, parent_rolled}
+use Rattle.std.proofs.Math.Bool.{and-false, or-false}
 
 -- two tests that agree on each element agree on the list, and on how many lists pass
 alike : (p q : ℕ → Bool) (list : List ℕ) → All (λ j. p j ≡ q j) list → list_any p list ≡ list_any q list
@@ -106,16 +107,11 @@ module _ (config : Config) (labels : List (List (List ℕ))) (is : IsLabelList l
   climbs_plain zero i j plain = refl
   climbs_plain (suc n) i j plain = by (goes_to config labels j) refl (λ p. climbs_plain n i p plain)
     where
-      plain_or : (a b : Bool) → (a || (b && false)) ≡ a
-      plain_or true b = refl
-      plain_or false true = refl
-      plain_or false false = refl
-
       by : (o : Option ℕ) → goes_to config labels j ≡ o → ((p : ℕ) → climbs (goes_to config labels) 1 n i p ≡ nat_eq i p) → climbs (goes_to config labels) 1 (suc n) i j ≡ nat_eq i j
-      by None goes again = ap (λ o. nat_eq i j || (nat_le 1 j && option_map_or (climbs (goes_to config labels) 1 n i) o false)) goes ∙ plain_or (nat_eq i j) (nat_le 1 j)
+      by None goes again = ap (λ o. nat_eq i j || (nat_le 1 j && option_map_or (climbs (goes_to config labels) 1 n i) o false)) goes ∙ ap (λ z. (nat_eq i j) || z) (and-false (nat_le 1 j)) ∙ or-false (nat_eq i j)
       by (Some p) goes again =
           let other : nat_eq i p ≡ false = ne_eqb i p (λ e. true≢false (sym (goes_dim config labels is j p goes).2 ∙ sym (ap (is_rolled config labels) e) ∙ plain)) in
-          ap (λ o. nat_eq i j || (nat_le 1 j && option_map_or (climbs (goes_to config labels) 1 n i) o false)) goes ∙ ap (λ b. nat_eq i j || (nat_le 1 j && b)) (again p ∙ other) ∙ plain_or (nat_eq i j) (nat_le 1 j)
+          ap (λ o. nat_eq i j || (nat_le 1 j && option_map_or (climbs (goes_to config labels) 1 n i) o false)) goes ∙ ap (λ b. nat_eq i j || (nat_le 1 j && b)) (again p ∙ other) ∙ ap (λ z. (nat_eq i j) || z) (and-false (nat_le 1 j)) ∙ or-false (nat_eq i j)
 
   all_steps : (i : ℕ) → 0 < i → (list : List ℕ) → IsCounted config labels list → list_any (λ j. climbs (goes_to config labels) 1 j i j) list ≡ counts_for config labels i list
   all_steps i some list counted = by (is_rolled config labels i) refl

@@ -1,5 +1,5 @@
 -- What two counters have counted together, and what a counter has with more lists.
-use Rattle.std.proofs.Common.{◌≡◌, ℕ, ◌+◌, ◌<◌, ◌≤◌, ◌^◌, Bool, true, false, ◌||◌, eqb, List, [], ◌∷◌, ◌++◌, map, length, get_or, set, nat_eq, refl, sym, ap, subst, ◌∙◌, inl, inr, arith}
+use Rattle.std.proofs.Common.{◌≡◌, ℕ, ◌+◌, ◌<◌, ◌≤◌, ◌^◌, Bool, true, ◌||◌, eqb, List, [], ◌∷◌, ◌++◌, map, length, get_or, set, nat_eq, refl, sym, ap, subst, ◌∙◌, inl, inr, arith}
 use Rattle.std.specs.Prelude.{cond, count_by, All}
 use Rattle.std.specs.List.{list_any}
 use Rattle.std.proofs.lemmas.Bool.{cases_eq, eq-eqb}
@@ -10,6 +10,7 @@ use Rattle.seg_postings.specs.Rising.{is_in}
 use Rattle.facet_counts.specs.Kept.{IsCounter}
 use Rattle.facet_counts.specs.Lists.{IsCounted}
 use Rattle.facet_counts.specs.Tallies.{Tally, HasAdded}
+use Rattle.std.proofs.Math.Bool.{or-true}
 
 -- The numbers before k are sums, and the others are as they were.
 pub record AreSummed (k : ℕ) (now old others : List ℕ) : Type 0 where
@@ -80,15 +81,11 @@ module _ (a b : Tally) (labels : b.labels ≡ a.labels) (config : b.config ≡ a
 
 -- ---- more lists
 
-or_true : (b : Bool) → (b || true) ≡ true
-or_true true = refl
-or_true false = refl
-
 -- what holds at each of the places holds of all that stands there
 pub all_at : (P : List ℕ → Type 0) (f : ℕ → List ℕ) (places : List ℕ) → ((n : ℕ) → is_in n places ≡ true → P (f n)) → All P (map f places)
 all_at P f [] h = All-nil P
 all_at P f (x ∷ xs) h =
-    All-cons P (f x) (map f xs) (h x (ap (λ b. b || is_in x xs) (eq-eqb x x refl))) (all_at P f xs (λ n i. h n (ap (λ b. eqb n x || b) i ∙ or_true (eqb n x))))
+    All-cons P (f x) (map f xs) (h x (ap (λ b. b || is_in x xs) (eq-eqb x x refl))) (all_at P f xs (λ n i. h n (ap (λ b. eqb n x || b) i ∙ or-true (eqb n x))))
 
 module _ (tally : Tally) (own : List ℕ) (f : ℕ → List ℕ) (places : List ℕ) (counted : (n : ℕ) → is_in n places ≡ true → IsCounted tally.config tally.labels (f n))
     (plus : (i : ℕ) → i < length tally.labels → get_or own i 0 ≡ get_or tally.own i 0 + count_by (list_any (nat_eq i)) (map f places)) where

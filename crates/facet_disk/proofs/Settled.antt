@@ -18,6 +18,7 @@ use Rattle.facet_disk.specs.SameNames.{name_from, name_again, dir_from, dir_agai
 use Rattle.facet_disk.specs.Settling.{touches, is_put, IsInPlace, Settles, IsLastSettled, IsLeft}
 use Rattle.facet_disk.specs.Stopped.{Standing, standing_at_first, standing_step, standing_after, in_place_step, settles, picked, picked_file, left_image}
 use Rattle.facet_disk.proofs.Standings.{standing_told, undone_settled, undone_kept}
+use Rattle.facet_disk.proofs.Replays.{told_more}
 
 -- ---- one more in a list
 
@@ -39,10 +40,6 @@ last_get (z ∷ xs) x = last_get xs x
 more_length : {X : Type 0} (xs : List X) (x : X) → length (xs ++ x ∷ []) ≡ length xs + 1
 more_length [] x = refl
 more_length (z ∷ xs) x = omega (arith, more_length xs x)
-
-told_more : (s : Told) (changes : List Noted) (noted : Noted) → told_after s (changes ++ noted ∷ []) ≡ told_step (told_after s changes) noted.change
-told_more s [] noted = refl
-told_more s (c ∷ changes) noted = told_more (told_step s c.change) changes noted
 
 -- ---- tests that decide
 

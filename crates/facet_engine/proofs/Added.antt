@@ -2,7 +2,7 @@
 use Rattle.std.proofs.Common.{◌≡◌, ◌≢◌, ◌∙◌, inl, inr, eqb, ◌<◌, ◌≤◌, ℕ, Bool, true, false, List, [], ◌∷◌, ◌++◌, length, map, slice_get, Option, Some, None, Result, Ok, Err, refl, sym, ap, subst, arith}
 use Rattle.std.specs.Prelude.{All, Contains, IfSome, flat_map, is_none}
 use Rattle.std.specs.List.{list_all}
-use Rattle.std.proofs.lemmas.Bool.{and_from}
+use Rattle.std.proofs.lemmas.Bool.{and_from, both_ways}
 use Rattle.std.proofs.lemmas.List.{length-map, map_push}
 use Rattle.std.proofs.lemmas.List.Elements.{All-contains, All-push, filter-append}
 use Rattle.std.proofs.lemmas.List.Sums.{AllPass-from_list_all}
@@ -48,9 +48,6 @@ use Rattle.facet_engine.proofs.Seeing.{enters_behind, told, told_behind, labels_
 
 -- ---- labels that are lacking
 
-not_both : (b : Bool) → b ≡ true → b ≡ false → ⊥
-not_both b t f = absurd (let e : true ≡ false = sym t ∙ f in cc)
-
 -- where a prefix of one of the document's labels is lacking, the labels do not know it
 lacks_one : (labels : Labels) (doc : Doc) (path : List (List ℕ)) → Contains doc.labels path → list_all (stands labels) (prefixes path) ≡ false → knows labels doc ≡ false
 lacks_one labels doc path within lacks = by (knows labels doc) refl
@@ -60,7 +57,7 @@ lacks_one labels doc path within lacks = by (knows labels doc) refl
 
     by : (b : Bool) → knows labels doc ≡ b → knows labels doc ≡ false
     by false e = e
-    by true e = absurd (not_both (has_all path) (All-contains (λ p. has_all p ≡ true) doc.labels path (AllPass-from_list_all has_all doc.labels e) within) lacks)
+    by true e = absurd (both_ways (has_all path) lacks (All-contains (λ p. has_all p ≡ true) doc.labels path (AllPass-from_list_all has_all doc.labels e) within))
 
 -- a fault that tells a size tells of a full list
 pub full_for : (size limit : ℕ) (labels paths : Labels) (fault : TaxoFault) → fault ≡ ListFull size → (fault ≢ ListNoMemory → IsFullForOne fault limit labels paths) → IsFullForOne (ListFull size) limit labels paths

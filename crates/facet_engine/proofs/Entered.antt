@@ -17,9 +17,7 @@ use Rattle.seg_terms.specs.declared.entry.Entry.{Entry}
 use Rattle.seg_decoding.specs.Entries.{IsEntry, IsShort}
 use Rattle.facet_engine.specs.Adding.{leaf_of}
 use Rattle.seg_decoding.proofs.Ordinals.{resolved_known}
-
-all_tail : {X : Type 0} (P : X → Type 0) (x : X) (xs : List X) → All P (x ∷ xs) → All P xs
-all_tail P x xs all = λ i d lt. all (suc i) d (omega arith)
+use Rattle.std.proofs.lemmas.List.Elements.{All-tail}
 
 -- ---- the last ordinal is the path's own
 
@@ -38,7 +36,7 @@ leaves_at known [] (r ∷ rs) short at = absurd at
 leaves_at known (p ∷ ps) [] short at = absurd at
 leaves_at known (p ∷ ps) (r ∷ rs) short at =
     let here : slice_get known (leaf_of r) ≡ Some p = leaf_at known r p (short 0 [] (omega arith)) at.0 in
-    let rest : map (slice_get known) (map leaf_of rs) ≡ map Some ps = leaves_at known ps rs (all_tail IsShort p ps short) at.1 in
+    let rest : map (slice_get known) (map leaf_of rs) ≡ map Some ps = leaves_at known ps rs (All-tail IsShort p ps short) at.1 in
     λ i. here i ∷ rest i
 
 -- there are as many leaves as labels

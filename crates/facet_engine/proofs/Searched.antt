@@ -3,7 +3,7 @@ use Rattle.std.proofs.Common.{◌≡◌, ℕ, suc, ◌+◌, ◌<◌, ◌≤◌, 
 use Rattle.std.specs.Prelude.{filter, filter_map, All}
 use Rattle.std.specs.List.{AllZip, cons_option, enumerate_from}
 use Rattle.std.proofs.lemmas.List.{take-map, take_more, get_or-map, length-map}
-use Rattle.std.proofs.lemmas.List.Elements.{All-take}
+use Rattle.std.proofs.lemmas.List.Elements.{All-take, All-from_recursion}
 use Rattle.facet_model.specs.Asks.{Asked, AskFault, ask_fault, top_of_none, value_not_kept}
 use Rattle.facet_model.specs.CountedPaths.{places}
 use Rattle.facet_model.specs.Documents.{Doc}
@@ -26,21 +26,20 @@ use Rattle.sideways.specs.declared.ask.AskRefused.{AskRefused}
 use Rattle.sideways.specs.declared.ask.AskRefused.TheVariants.{NoMemory as Memory}
 use Rattle.seg_decoding.specs.Decoding.{doc_in, docs_in, records_in, record_at}
 use Rattle.facet_engine.specs.Searches.{IsFoundIn, refusal_as, search_view}
-use Rattle.seg_decoding.proofs.Ordinals.{all_zip_push}
-use Rattle.seg_decoding.proofs.Stored.{each_at}
+use Rattle.std.proofs.lemmas.Slice.Zip.{all_zipped_more}
 
 -- ---- answers
 
 -- one ask more is answered
 pub asks_more : {A B : Type 0} (R : A → B → Type 0) (asks : List A) (i : ℕ) (d : A) (found now : List B) (one : B) → i < length asks → now ≡ found ++ one ∷ [] → AllZip R (take i asks) found → R (get_or asks i d) one → AllZip R (take (i + 1) asks) now
 asks_more R asks i d found now one lt pushed before here =
-    subst (λ (l : List _). AllZip R (take (i + 1) asks) l) (sym pushed) (subst (λ (l : List _). AllZip R l (found ++ one ∷ [])) (sym (take_more asks i d lt)) (all_zip_push R (take i asks) found (get_or asks i d) one before here))
+    subst (λ (l : List _). AllZip R (take (i + 1) asks) l) (sym pushed) (subst (λ (l : List _). AllZip R l (found ++ one ∷ [])) (sym (take_more asks i d lt)) (all_zipped_more R (take i asks) found (get_or asks i d) one before here))
 
 -- ---- hits
 
 -- at each place there is a document
 pub places_within : (passes : Doc → Bool) (docs : List Doc) (limit n : ℕ) (found : List ℕ) → found ≡ take limit (places passes docs) → length docs ≡ n → All (λ at. at < n) found
-places_within passes docs limit n found is size = subst (All (λ at. at < n)) (sym is) (All-take (λ at. at < n) limit (places passes docs) (each_at (λ at. at < n) (places passes docs) (places_below passes docs 0 n (omega (arith, size)))))
+places_within passes docs limit n found is size = subst (All (λ at. at < n)) (sym is) (All-take (λ at. at < n) limit (places passes docs) (All-from_recursion (λ at. at < n) (places passes docs) (places_below passes docs 0 n (omega (arith, size)))))
 
 map_twice : {A B C : Type 0} (f : B → C) (g : A → B) (xs : List A) → map f (map g xs) ≡ map (λ x. f (g x)) xs
 map_twice f g [] = refl

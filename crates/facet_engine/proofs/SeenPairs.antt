@@ -17,6 +17,7 @@ use Rattle.pair_manager.specs.Passes.{SamePass}
 use Rattle.pair_manager.specs.Published.{Published, frame_of}
 use Rattle.facet_engine.specs.HeldPairs.{HeldPair, without}
 use Rattle.facet_engine.specs.Sessions.{AreFirst, HasSeen, NamesSession}
+use Rattle.facet_engine.specs.Systems.{Engine, BelongsTo}
 
 -- the first of a list begin it
 pub begins : {A : Type 0} (some all : List A) → AreFirst some all → IsPrefix some all
@@ -54,6 +55,13 @@ config_of pass pair config is seen = config_told config pair.config (is ∙ sym 
 
 pub same_pass : (pass : Pass) → SamePass pass pass
 same_pass pass = record { labels = (refl, refl, refl, refl, refl, refl); operations = (refl, refl, refl, refl, refl, refl); pairs = (refl, refl, refl, refl, refl, refl); commits = (refl, refl, refl, refl, refl, refl) }
+
+pub still_belongs : (engine : Engine) (old new : Pass) → SamePass old new → BelongsTo engine old → BelongsTo engine new
+still_belongs engine old new same own = record {
+  manager = record { labels = same.labels.3 ∙ own.manager.labels; operations = same.operations.3 ∙ own.manager.operations; pairs = same.pairs.3 ∙ own.manager.pairs };
+  commits = same.commits.3 ∙ own.commits;
+  config = own.config ∙ ap (λ (f : Frame). f.texts) (sym same.operations.4);
+}
 
 pub sees_self : {A : Type 0} (token : Shown A) → SeesOn token token
 sees_self token = (prefix_self token.seen, refl)

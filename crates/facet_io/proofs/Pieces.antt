@@ -4,7 +4,7 @@ use Rattle.std.specs.Prelude.{min}
 use Rattle.std.proofs.lemmas.List.{take-append-drop, length-take, take_at, nil_from_length, length-drop, drop-drop}
 use Rattle.std.specs.Io.KnownBytes.{Appends, Consumes, Keeps}
 
-appends_then : (old mid new : Option (List ℕ)) (a b : List ℕ) → Appends old mid a → Appends mid new b → Appends old new (a ++ b)
+pub appends_then : (old mid new : Option (List ℕ)) (a b : List ℕ) → Appends old mid a → Appends mid new b → Appends old new (a ++ b)
 appends_then None mid new a b p q = tt
 appends_then (Some xs) None new a b p q = absurd p
 appends_then (Some xs) (Some ys) None a b p q = absurd q

@@ -1,5 +1,5 @@
 -- The pieces of a text between blanks are texts.
-use Rattle.std.proofs.Common.{◌≡◌, ℕ, zero, suc, ◌+◌, ◌≤◌, ◌<◌, true, false, List, [], ◌∷◌, length, map, get_or, refl, arith, inl, inr, length-drop}
+use Rattle.std.proofs.Common.{◌≡◌, ℕ, zero, suc, ◌+◌, ◌≤◌, ◌<◌, true, false, List, [], ◌∷◌, length, map, refl, arith, inl, inr, length-drop}
 use Rattle.std.specs.List.{AllByRecursion, slice_split, position_or_len, after_first}
 use Rattle.std.specs.Str.{IsUtf8}
 use Rattle.std.proofs.lemmas.Bool.{cases_lt, ne_eqb}
@@ -32,11 +32,6 @@ pieces_within (suc n) bs le h =
 
 pub pieces_utf8 : (bs : List ℕ) → IsUtf8 bs → AllByRecursion IsUtf8 (slice_split is_blank bs)
 pieces_utf8 bs h = pieces_within (length bs) bs (omega arith) h
-
-pub fits_at : {X : Type 0} (P : X → Type 0) (xs : List X) (i : ℕ) (d : X) → AllByRecursion P xs → i < length xs → P (get_or xs i d)
-fits_at P [] i d h lt = absurd (omega arith)
-fits_at P (x ∷ xs) zero d h lt = h.0
-fits_at P (x ∷ xs) (suc i) d h lt = fits_at P xs i d h.1 (omega arith)
 
 pub unmapped : {X Y : Type 0} (P : Y → Type 0) (f : X → Y) (xs : List X) → AllByRecursion P (map f xs) → AllByRecursion (λ x. P (f x)) xs
 unmapped P f [] h = tt

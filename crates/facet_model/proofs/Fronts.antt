@@ -1,5 +1,5 @@
 -- First parts of a label list, and what stands in them.
-use Rattle.std.proofs.Common.{zero, suc, ◌≡◌, ℕ, ◌+◌, ◌-◌, ◌<◌, ◌≤◌, Bool, true, false, List, [], ◌∷◌, ◌++◌, length, map, take, refl, sym, ap, ◌∙◌, ◌⊎◌, inl, inr, arith, rules, take_all, length-take-le}
+use Rattle.std.proofs.Common.{zero, suc, ◌≡◌, ℕ, ◌+◌, ◌-◌, ◌<◌, ◌≤◌, Bool, true, false, List, [], ◌∷◌, length, map, take, refl, sym, ap, ◌∙◌, ◌⊎◌, inl, inr, arith, rules, take_all, length-take-le}
 use Rattle.std.specs.Prelude.{◌==◌, ◌||◌, not, nat_lt, if◌then◌else◌}
 use Rattle.std.specs.List.{list_all, enumerate_from, range_with_len}
 use Rattle.std.proofs.lemmas.Bool.{and_parts, and_from, eqb-true, cases_lt}
@@ -9,15 +9,11 @@ use Rattle.facet_names.specs.Paths.{path_eq}
 use Rattle.facet_names.specs.Labels.{above, stands, is_in_place, IsLabelList, prefixes}
 use Rattle.facet_model.specs.Documents.{Doc}
 use Rattle.facet_model.specs.Histories.{knows}
+use Rattle.facet_names.proofs.LabelLists.{root_stands}
 
 pub weaker : {A : Type 0} (p q : A → Bool) → ((x : A) → p x ≡ true → q x ≡ true) → (xs : List A) → list_all p xs ≡ true → list_all q xs ≡ true
 weaker p q so [] h = refl
 weaker p q so (x ∷ xs) h = let both = and_parts (p x) (list_all p xs) h in and_from (q x) (list_all q xs) (so x both.0) (weaker p q so xs both.1)
-
-pub take_front : {A : Type 0} (m : ℕ) (xs ys : List A) → m ≤ length xs → take m (xs ++ ys) ≡ take m xs
-take_front zero xs ys h = refl
-take_front (suc m) [] ys h = absurd (omega arith)
-take_front (suc m) (x ∷ xs) ys h = ap (λ (zs : List _). x ∷ zs) (take_front m xs ys (omega arith))
 
 -- ---- a label list has every prefix of its labels
 
@@ -74,17 +70,6 @@ module _ (labels : List (List (List ℕ))) where
   knows_its_labels good doc each = weaker (stands labels) (λ label. list_all (stands labels) (prefixes label)) (λ label some. fronts_stand good label some 1 (length label) (omega arith) (omega arith)) doc.labels each
 
 -- ---- a path stands where its prefixes do
-
-root_stands : (labels : List (List (List ℕ))) → IsLabelList labels → stands labels [] ≡ true
-root_stands [] good = absurd cc
-root_stands (root ∷ labels) good =
-    let each = (and_parts (nat_lt 0 (length (root ∷ labels))) _ good).1 in
-    let first = (and_parts (is_in_place (root ∷ labels) (0, root)) _ each).0 in
-    by root (and_parts (not (stands [] root)) (length root == 0) first).1
-  where
-    by : (root : List (List ℕ)) → (length root == 0) ≡ true → stands (root ∷ labels) [] ≡ true
-    by [] h = refl
-    by (p ∷ ps) h = let none : length (p ∷ ps) ≡ 0 = eqb-true (length (p ∷ ps)) 0 h in absurd (omega (arith, none))
 
 in_range : (p : ℕ → Bool) (a m n : ℕ) → list_all p (range_with_len a m) ≡ true → a ≤ n → n < a + m → p n ≡ true
 in_range p a zero n each low high = absurd (omega arith)

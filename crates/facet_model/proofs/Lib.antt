@@ -4,3 +4,6 @@ pub mod Cut
 pub mod Fronts
 pub mod ConfigTexts
 pub mod Drills
+pub mod Each
+pub mod Histories
+pub mod WordOrder

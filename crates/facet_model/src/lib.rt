@@ -21,4 +21,4 @@ pub use laws::{one_config, one_listing, one_top};
 pub use query::Query;
 pub use result::{Child, FacetAnswer, FacetResult};
 pub use word::Word;
-pub use word_list::{WordList, words};
+pub use word_list::{WordList, is_blank, words};

@@ -38,8 +38,8 @@ impl WordList {
     }
 }
 
-// A space, a tab, a carriage return or a line feed.
-fn is_blank(byte: u8) -> bool
+/// A space, a tab, a carriage return or a line feed.
+pub fn is_blank(byte: u8) -> bool
     ensures { result ≡ is_blank byte }
 {
     matches!(byte, b' ' | b'\t' | b'\r' | b'\n')

@@ -259,10 +259,6 @@ front_block n text rest whole is parts =
     ∙ block-append (take n (parts_of text)) (drop n (parts_of text))
     ∙ ap (λ t. block (take n (parts_of text)) ++ t) (ap block (sym parts) ∙ sym is.1)
 
-pub path_has_some : (ps : List (List ℕ)) → IsPath ps → 0 < length ps
-path_has_some [] fits = absurd cc
-path_has_some (p ∷ ps) fits = omega arith
-
 -- ---- a path's front
 
 module _ (n : ℕ) (text rest : List ℕ) (whole : IsPathBlock text) (is : IsBlock rest) (parts : parts_of rest ≡ drop n (parts_of text)) where

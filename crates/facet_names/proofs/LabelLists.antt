@@ -1,12 +1,12 @@
 -- What holds in a list of labels: an ordinal names one label, and a parent stands before its child.
 use Rattle.std.proofs.Common.{◌≡◌, ℕ, ◌⊎◌, ltb, zero-add, zero, suc, ◌+◌, ◌<◌, ◌≤◌, ◌-◌, ◌==◌, Bool, true, false, not, if◌then◌else◌, List, [], ◌∷◌, ◌++◌, length, take, get_or, slice_get, Some, None, position, refl, sym, ap, ◌∙◌, arith, inl, inr}
-use Rattle.std.specs.Prelude.{option_and_then, cond, is_some}
+use Rattle.std.specs.Prelude.{option_and_then, cond, is_some, ◌||◌}
 use Rattle.facet_names.specs.Faults.{IsPath}
 use Rattle.std.specs.List.{list_any, list_all, enumerate_from, position_or_len}
 use Rattle.std.specs.Cmp.Lexicographic.{pointwise_decides, bytes_decides}
 use Rattle.std.proofs.lemmas.Bool.{leb-true, or_parts, ltb-true, and_parts, and_from, not-true, not_from_false, false_from_ne_true, true_from_ne_false, true≢false, cases_lt, cond-true, cond-false, ne_eqb, eqb-true, lt-ltb, le-ltb}
 use Rattle.std.proofs.lemmas.List.{get_or-take, length-take-le, take-take, take-append-le, get_or_append_left, length-append, get_or_push, take_at, take_more, take_all, get_or_default, nil_from_length}
-use Rattle.std.proofs.lemmas.List.Folds.{list_all_at, list_any_at, Any-from_list_any}
+use Rattle.std.proofs.lemmas.List.Folds.{list_all_at, list_any-append, list_any_at, Any-from_list_any}
 use Rattle.std.proofs.lemmas.List.Sums.{fails_before_first, list_all-from_AllPass, position_or_len_is}
 use Rattle.std.proofs.lemmas.List.FromFn.{get_or-enumerate_from, length-enumerate_from}
 use Rattle.std.proofs.lemmas.List.Quantifiers.{position-Some}
@@ -69,6 +69,12 @@ module _ {X : Type 0} (test : X → Bool) where
 pub path_has_part : (path : List (List ℕ)) → IsPath path → 0 < length path
 path_has_part [] fits = absurd cc
 path_has_part (part ∷ path) fits = omega arith
+
+pub label_stands : (labels : Labels) (k : ℕ) (path : List (List ℕ)) → slice_get labels k ≡ Some path → stands labels path ≡ true
+label_stands labels k path at = list_any_at (path_eq path) labels k [] (slice_get_within labels k path at) (ap (path_eq path) (get_or_from_slice_get labels k path [] at) ∙ path_eq_equiv.refl path)
+
+pub still_stands : (labels more : Labels) (path : List (List ℕ)) → stands labels path ≡ true → stands (labels ++ more) path ≡ true
+still_stands labels more path there = list_any-append (path_eq path) labels more ∙ ap (λ b. b || stands more path) there
 
 -- ---- a list of labels, ordinal by ordinal
 

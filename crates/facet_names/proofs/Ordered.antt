@@ -12,6 +12,11 @@ neither_is_less Less p f s r = absurd (search (rules, f))
 neither_is_less Equal p f s r = refl
 neither_is_less Greater p f s r = let g : is_lt p ≡ true = rw r refl in absurd (search (rules, s, g))
 
+pub is_less : (o : Ordering) → is_lt o ≡ true → o ≡ Less
+is_less Less e = refl
+is_less Equal e = absurd cc
+is_less Greater e = absurd cc
+
 -- where two answers in turn say equal, the second does
 pub second_is_equal : (o p : Ordering) → ordering_then o p ≡ Equal → p ≡ Equal
 second_is_equal Less p e = absurd (search (rules, e))

@@ -14,6 +14,8 @@ use Rattle.facet_names.proofs.Parts.{part_of_path, no_fault}
 use Rattle.facet_names.specs.Faults.{IsPath, part_fault, path_fault}
 use Rattle.facet_names.specs.declared.fault.PathFault.{PathFault}
 use Rattle.facet_names.specs.Terms.{is_special, escaped_byte, escaped, behind, HasSome, term_text, IsTermText}
+use Rattle.std.proofs.lemmas.Option.{none-some, same_Some}
+use Rattle.facet_names.proofs.LabelLists.{path_has_part}
 
 -- the components of a text: whether an escape was just read, the components that are whole, and the one that is being read
 unfoldable pub read : List ℕ → Bool → List (List ℕ) → List ℕ → Option (List (List ℕ))
@@ -21,12 +23,6 @@ read [] true whole part = None
 read [] false whole part = Some (whole ++ part ∷ [])
 read (b ∷ bs) true whole part = if is_special b then read bs false whole (part ++ b ∷ []) else None
 read (b ∷ bs) false whole part = if b == 31 then read bs false (whole ++ part ∷ []) [] else (if b == 30 then read bs true whole part else read bs false whole (part ++ b ∷ []))
-
-same_some : {X : Type 0} {x y : X} → Some x ≡ Some y → x ≡ y
-same_some h = cc
-
-none_is_not_some : {X : Type 0} {x : X} → None ≡ Some x → ⊥
-none_is_not_some h = absurd cc
 
 -- ---- what was joined is read back
 
@@ -71,11 +67,11 @@ read_back (p ∷ ps) some = read_joined p ps []
 -- a text that can't be read was joined of nothing
 pub none_joined : (text : List ℕ) → read text false [] [] ≡ None → (ps : List (List ℕ)) → ¬ (text ≡ term_text ps)
 unfolding read term_text
-none_joined text e [] is = none_is_not_some (sym e ∙ ap (λ bs. read bs false [] []) is)
-none_joined text e (p ∷ ps) is = none_is_not_some (sym e ∙ ap (λ bs. read bs false [] []) is ∙ read_joined p ps [])
+none_joined text e [] is = none-some _ (sym e ∙ ap (λ bs. read bs false [] []) is)
+none_joined text e (p ∷ ps) is = none-some _ (sym e ∙ ap (λ bs. read bs false [] []) is ∙ read_joined p ps [])
 
 pub joined_once : (ps qs : List (List ℕ)) → 0 < length ps → 0 < length qs → term_text ps ≡ term_text qs → ps ≡ qs
-joined_once ps qs some others same = same_some (sym (read_back ps some) ∙ ap (λ bs. read bs false [] []) same ∙ read_back qs others)
+joined_once ps qs some others same = same_Some _ _ (sym (read_back ps some) ∙ ap (λ bs. read bs false [] []) same ∙ read_back qs others)
 
 -- ---- what is read was joined
 
@@ -122,9 +118,9 @@ one_byte b bs whole part text is = ap (λ t. front whole ++ t) (ap (λ t. escape
 
 pub read_is_joined : (bs : List ℕ) (after_escape : Bool) (whole : List (List ℕ)) (part : List ℕ) (ps : List (List ℕ)) → read bs after_escape whole part ≡ Some ps → IsJoined (whole_text bs after_escape whole part) ps
 unfolding read escaped
-read_is_joined [] true whole part ps e = absurd (none_is_not_some e)
+read_is_joined [] true whole part ps e = absurd (none-some _ e)
 read_is_joined [] false whole part ps e =
-    subst (IsJoined (whole_text [] false whole part)) (same_some e) (record {
+    subst (IsJoined (whole_text [] false whole part)) (same_Some _ _ e) (record {
       some = grind (arith, length-append);
       is = ap (λ bs. front whole ++ bs) (append-nil (escaped part)) ∙ joined_last whole part;
     })
@@ -133,7 +129,7 @@ read_is_joined (b ∷ bs) true whole part ps e = by (is_special b) refl (read_is
     by : (t : Bool) → is_special b ≡ t → (read bs false whole (part ++ b ∷ []) ≡ Some ps → IsJoined (whole_text bs false whole (part ++ b ∷ [])) ps)
         → (if t then read bs false whole (part ++ b ∷ []) else None) ≡ Some ps → IsJoined (whole_text (b ∷ bs) true whole part) ps
     by true s again e = subst (λ t. IsJoined t ps) (sym (one_byte b bs whole part (30 ∷ b ∷ bs) (rw s refl))) (again e)
-    by false s again e = absurd (none_is_not_some e)
+    by false s again e = absurd (none-some _ e)
 read_is_joined (b ∷ bs) false whole part ps e =
     by (b == 31) (b == 30) refl refl (read_is_joined bs false (whole ++ part ∷ []) [] ps) (read_is_joined bs true whole part ps) (read_is_joined bs false whole (part ++ b ∷ []) ps) e
   where
@@ -159,10 +155,6 @@ text_is_joined text ps e = read_is_joined text false [] [] ps e
 
 -- ---- the laws
 
-path_has_parts : (ps : List (List ℕ)) → IsPath ps → 0 < length ps
-path_has_parts [] fits = absurd (search (rules, fits))
-path_has_parts (p ∷ ps) fits = omega arith
-
 first_is_short : (at : ℕ) (p : List ℕ) (ps : List (List ℕ)) → part_fault at (p ∷ ps) ≡ None → length p ≤ 1024
 first_is_short at p ps fits = let parts = no_fault at p (part_fault (at + 1) ps) fits in grind (arith, nat_tests, parts.2)
 
@@ -170,11 +162,11 @@ rest_fits : (at : ℕ) (p : List ℕ) (ps : List (List ℕ)) → part_fault at (
 rest_fits at p ps fits = (no_fault at p (part_fault (at + 1) ps) fits).0
 
 pub one_path : (text : List ℕ) (p q : List (List ℕ)) → IsTermText text p → IsTermText text q → p ≡ q
-one_path text p q s t = joined_once p q (path_has_parts p s.fits) (path_has_parts q t.fits) (sym s.is ∙ t.is)
+one_path text p q s t = joined_once p q (path_has_part p s.fits) (path_has_part q t.fits) (sym s.is ∙ t.is)
 
 -- a text that was joined of no path is the term text of none
 pub joined_of_no_path : (text : List ℕ) (ps : List (List ℕ)) (fault : PathFault) → 0 < length ps → text ≡ term_text ps → path_fault ps ≡ Some fault → (path : List (List ℕ)) → ¬ IsTermText text path
-joined_of_no_path text ps fault some is fails path t = none_is_not_some (sym t.fits ∙ ap path_fault (joined_once path ps (path_has_parts path t.fits) some (sym t.is ∙ is)) ∙ fails)
+joined_of_no_path text ps fault some is fails path t = none-some _ (sym t.fits ∙ ap path_fault (joined_once path ps (path_has_part path t.fits) some (sym t.is ∙ is)) ∙ fails)
 
 pub joined_of_nothing : (text : List ℕ) → read text false [] [] ≡ None → (path : List (List ℕ)) → ¬ IsTermText text path
 joined_of_nothing text e path t = none_joined text e path t.is

@@ -3,10 +3,9 @@ use Rattle.std.proofs.Common.{◌≡◌, ◌⊎◌, inl, inr, ⊎_elim, ℕ, zer
 use Rattle.std.specs.Prelude.{take, flat_map, if◌then◌else◌, is_none, unwrap_or}
 use Rattle.std.specs.List.{list_all, list_any}
 use Rattle.std.proofs.lemmas.Bool.{and_parts, cases_lt, eqb-true}
-use Rattle.std.proofs.lemmas.List.{length-map}
 use Rattle.std.proofs.lemmas.Option.{get_or_from_slice_get}
 use mathlib.Core.List.{IsPrefix}
-use Rattle.facet_names.specs.Labels.{stands, prefixes}
+use Rattle.facet_names.specs.Labels.{stands, prefixes, skips_none}
 use Rattle.facet_names.specs.Paths.{path_eq}
 use Rattle.facet_names.proofs.LabelLists.{fresh}
 use Rattle.facet_model.specs.Accepts.{Broken, first_broken}
@@ -22,16 +21,17 @@ use Rattle.facet_output.specs.Replying.{IsAdded, IsResolved, IsRight}
 use Rattle.facet_output.specs.Seen.{Entries, Seen, Sees, IsTold, entered_by, opened_seen, labels_of, history_of}
 use Rattle.facet_output.specs.Sessions.{SessionRan, AllRan, steps_of, own_steps, is_by}
 use Rattle.facet_output.specs.Steps.{Step, IsStep, IsLastPair, IsEntered, EntersPair}
-use Rattle.facet_output.specs.Telling.{brings, skips_none, says_full, refreshed, refreshed_by}
+use Rattle.facet_output.specs.Telling.{brings, says_full, refreshed, refreshed_by}
 use Rattle.facet_output.proofs.Among.{In, of_all, of_append}
 use Rattle.facet_output.proofs.Answers.{of_get_map}
 use Rattle.facet_output.proofs.Bringing.{full_added, labels_begin, opened_first}
 use Rattle.facet_output.proofs.Chain.{sees_self, sees_trans, sees_last}
 use Rattle.facet_output.proofs.Exact.{filter_all}
 use Rattle.facet_output.proofs.Fresh.{if_some}
-use Rattle.facet_output.proofs.Fronts.{prefix_length, prefix_get, prefix_whole, take_prefix, get_there, get_below, get_last, own_front}
+use Rattle.facet_output.proofs.Fronts.{prefix_whole, take_prefix, get_there, get_below, get_last, own_front, labels_size}
 use Rattle.facet_output.proofs.Growing.{Enters, first_missing, all_missing}
 use Rattle.facet_output.proofs.Known.{entered}
+use Rattle.chronicle.proofs.Prefixes.{prefix_length, prefix_get}
 
 -- each prefix of each label stands where the labels know the document
 pub known_paths : (labels paths : List (List (List ℕ))) → list_all (λ label. list_all (stands labels) (prefixes label)) paths ≡ true → (p : List (List ℕ)) → In p (flat_map prefixes paths) → stands labels p ≡ true
@@ -79,9 +79,6 @@ module _ (settings : Settings) (phases : List (List Order)) (opened : Opened) (r
       let front : take i (labels_of last) ≡ take i (labels_of x.after) = take_prefix (labels_of x.after) (labels_of last) i begins (omega arith) in
       subst (λ q. list_any (path_eq q) (take i (labels_of x.after)) ≡ false) is (subst (λ l. list_any (path_eq (get_or (labels_of last) i [])) l ≡ false) front f)
 
-  size_of : (a : Seen) → length (labels_of a) ≡ length a.labels + 1
-  size_of a = let e = length-map a.labels (λ (e : ℕ × List (List ℕ)). e.1) in omega arith
-
   -- ---- what one step leaves
 
   module _ (held : Held) (x : Step) (there : In x (steps_of ran)) (since : Sees start x.before) (until : Sees x.after last) (step : IsStep settings held x) where
@@ -108,16 +105,16 @@ module _ (settings : Settings) (phases : List (List Order)) (opened : Opened) (r
     -- a command that brings no label leaves them
     left : (command : Command) → IsEnteredBy command → ((p : List (List ℕ)) → brings settings.config p command ≡ true → ⊥) → after ≡ before
     left command enters none = sym (prefix_whole before after begins (⊎_elim
-        (λ lt. let s = size_of x.before in let t = size_of x.after in
+        (λ lt. let s = labels_size x.before in let t = labels_size x.after in
         let r = get_there x.after.labels (length x.before.labels) (omega arith) in
         absurd (none r.0.1 (enters (length x.before.labels) r.0.0 r.0.1 r.1 (omega arith)).0))
         (λ le. le) (cases_lt (length before) (length after))))
 
     module _ (doc : Doc) (reply : Reply) (accepted : first_broken settings.config doc ≡ None) (enters : IsEnteredBy (add doc)) where
       next_path : Enters after (once x until) before (flat_map prefixes doc.labels)
-      next_path zero p le at = let s = size_of x.before in absurd (omega arith)
+      next_path zero p le at = let s = labels_size x.before in absurd (omega arith)
       next_path (suc k) p le at =
-          let s = size_of x.before in
+          let s = labels_size x.before in
           let e = of_get_map (λ (e : ℕ × List (List ℕ)). e.1) x.after.labels k p at in
           let is = subst (λ (q : List (List ℕ)). IsEntered settings (add doc) after k q) (sym e.2) (enters k e.0.0 e.0.1 e.1 (omega arith)) in (
             (and_parts (is_none (first_broken settings.config doc)) (stands (flat_map prefixes doc.labels) p) is.0).1,
@@ -128,9 +125,9 @@ module _ (settings : Settings) (phases : List (List Order)) (opened : Opened) (r
       high = ⊎_elim (λ lt. by (length x.after.labels) refl lt) (λ le. omega arith) (cases_lt (length before) (length after))
         where
           by : (n : ℕ) → length x.after.labels ≡ n → length before < length after → length after ≤ room settings before
-          by zero e lt = let s = size_of x.before in let t = size_of x.after in absurd (omega arith)
+          by zero e lt = let s = labels_size x.before in let t = labels_size x.after in absurd (omega arith)
           by (suc k) e lt =
-              let s = size_of x.before in let t = size_of x.after in
+              let s = labels_size x.before in let t = labels_size x.after in
               let r = get_there x.after.labels k (omega arith) in
               let limit = (enters k r.0.0 r.0.1 r.1 (omega arith)).1 in omega arith
 

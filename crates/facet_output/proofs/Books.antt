@@ -17,7 +17,7 @@ use Rattle.facet_output.specs.Answered.{Answered, of_session}
 use Rattle.facet_output.specs.Replying.{RightReplies}
 use Rattle.facet_output.specs.Output.{IsOutput}
 use Rattle.facet_output.specs.OutputLines.{last_line, output_bytes}
-use Rattle.facet_output.proofs.Samples.{author, doc, empty_store, order, answer, answer_at, by_one, each_session}
+use Rattle.facet_output.proofs.Samples.{author, doc, empty_store, order, answer, answer_at, by_one, each_session, bobs_labels}
 use Rattle.facet_output.proofs.Tested.{children_so}
 
 abbrev settings : Settings
@@ -141,11 +141,7 @@ is_written : output_bytes empty_store labels history answered ≡ written
 unfolding reply_line reply_data line_of last_data json_line listed_data hit_data digits serde_json_on_literals
 is_written = refl
 
--- the last line of a run that was refused for labels
-abbrev three : List (List (List ℕ))
-three = [] ∷ (codes "Author" ∷ []) ∷ author (codes "Bob") ∷ []
-
-last_of_full : last_line empty_store three (by_one b1 ∷ []) ≡ lines (codes "{\"labels\":[[0,\"Author\"],[1,\"Bob\"]],\"opened\":[0,1],\"order\":[1]}" ∷ [])
+last_of_full : last_line empty_store bobs_labels (by_one b1 ∷ []) ≡ lines (codes "{\"labels\":[[0,\"Author\"],[1,\"Bob\"]],\"opened\":[0,1],\"order\":[1]}" ∷ [])
 unfolding line_of last_data json_line digits serde_json_on_literals
 last_of_full = refl
 

@@ -3,7 +3,6 @@ use Rattle.std.proofs.Common.{◌≡◌, ⊎_elim, ℕ, zero, suc, ◌+◌, ◌�
 use Rattle.std.specs.Prelude.{◌&&◌, not, max, take, drop, IsTrue}
 use Rattle.std.specs.List.{list_all}
 use Rattle.std.proofs.lemmas.Bool.{and_from, cases_lt}
-use Rattle.std.proofs.lemmas.List.{length-map}
 use mathlib.Core.List.{IsPrefix}
 use Rattle.facet_model.specs.Accepts.{Broken, first_broken}
 use Rattle.facet_model.specs.Documents.{Doc}
@@ -23,8 +22,9 @@ use Rattle.facet_output.proofs.Chain.{sees_last, sees_trans}
 use Rattle.facet_output.proofs.Among.{In, all_in}
 use Rattle.facet_output.proofs.Answers.{answers, all_steps, any_step, in_drop, of_get_map}
 use Rattle.facet_output.proofs.Fresh.{implied}
-use Rattle.facet_output.proofs.Fronts.{prefix_length, prefix_whole, map_prefix, take_prefix, get_below, get_there}
+use Rattle.facet_output.proofs.Fronts.{prefix_whole, map_prefix, take_prefix, get_below, get_there, labels_size}
 use Rattle.facet_output.proofs.Known.{facts, after_sees, entered}
+use Rattle.chronicle.proofs.Prefixes.{prefix_length}
 
 -- an add that is refused for labels has seen as many as there may be
 module _ (settings : Settings) (labels : List (List (List ℕ))) (history : List Operation) (held : Held) (session : ℕ) (took : Option (ℕ × ℕ)) (reply : Reply) (says : says_full reply ≡ true) where
@@ -76,11 +76,8 @@ module _ (settings : Settings) (phases : List (List Order)) (opened : Opened) (r
   pub labels_begin : (a b : Seen) → Sees a b → IsPrefix (labels_of a) (labels_of b)
   labels_begin a b sees = let p = map_prefix (λ (e : ℕ × List (List ℕ)). e.1) a.labels b.labels sees.labels in (p.0, ap (λ (l : List (List (List ℕ))). [] ∷ l) p.1)
 
-  size_of : (a : Seen) → length (labels_of a) ≡ length a.labels + 1
-  size_of a = let e = length-map a.labels (λ (e : ℕ × List (List ℕ)). e.1) in omega arith
-
   pub opened_size : length opened.labels ≡ length (opened_seen opened).labels + 1
-  opened_size = ap length (sym opened_first) ∙ size_of (opened_seen opened)
+  opened_size = ap length (sym opened_first) ∙ labels_size (opened_seen opened)
 
   pub opened_sees : Sees (opened_seen opened) last
   opened_sees = sees_last settings 0 [] (opened_seen opened) (own_steps 0 (steps_of ran)) last (all.sessions 0)
@@ -110,8 +107,8 @@ module _ (settings : Settings) (phases : List (List Order)) (opened : Opened) (r
 
   pub limit_so : length (labels_of last) ≤ max settings.max_labels (length opened.labels)
   limit_so = ⊎_elim
-      (λ more. let e = size_of last in let s = opened_size in by (length last.labels) refl more)
-      (λ le. let e = size_of last in let s = opened_size in omega arith)
+      (λ more. let e = labels_size last in let s = opened_size in by (length last.labels) refl more)
+      (λ le. let e = labels_size last in let s = opened_size in omega arith)
       (cases_lt (length (opened_seen opened).labels) (length last.labels))
     where
       by : (n : ℕ) → length last.labels ≡ n → length (opened_seen opened).labels < n → length (labels_of last) ≤ max settings.max_labels (length opened.labels)
@@ -119,7 +116,7 @@ module _ (settings : Settings) (phases : List (List Order)) (opened : Opened) (r
       by (suc k) e lt =
           let r = get_there last.labels k (omega arith) in
           let s = label_step k r.0.0 r.0.1 r.1 (omega arith) in
-          let size = size_of last in let limit = s.4 in omega arith
+          let size = labels_size last in let limit = s.4 in omega arith
 
   -- a label behind the opened ones was brought by an order that passes a test, where the one that entered it does
   brought_if : (passes : Answered → Bool) → ((x : Step) → In x (steps_of ran) → (k : ℕ) → length x.before.labels ≤ k → k < length last.labels → passes x.answered ≡ true)
@@ -143,7 +140,7 @@ module _ (settings : Settings) (phases : List (List Order)) (opened : Opened) (r
       let f = facts settings phases opened ran last all x there in
       let sees = sees_trans (opened_seen opened) x.before x.after f.0 f.2.1.sees in
       let begin = prefix_length (opened_seen opened).labels x.after.labels sees.labels in
-      let limit = limit_so in let s = opened_size in let e = size_of x.after in
+      let limit = limit_so in let s = opened_size in let e = labels_size x.after in
       prefix_whole (labels_of x.after) (labels_of last) (labels_begin x.after last f.1) (omega arith)
 
   pub full_so : IsTrue (list_all (was_full settings.config (drop (length opened.labels) (labels_of last)) (answers (steps_of ran))) (answers (steps_of ran)))
@@ -153,7 +150,7 @@ module _ (settings : Settings) (phases : List (List Order)) (opened : Opened) (r
       let full : settings.max_labels ≤ length (labels_of a.after) = ⊎_elim
       (λ right. full_size settings (labels_of a.after) (history_of a.after) f.2.0 a.answered.order.session a.answered.took a.answered.reply a.answered.order.command says right)
       (λ lacks. absurd (lacks_memory a.answered.order.command a.answered.reply says lacks.1)) f.2.1.right in
-      let whole = ap length (full_last a there full) in let s = size_of a.after in let t = size_of last in
+      let whole = ap length (full_last a there full) in let s = labels_size a.after in let t = labels_size last in
       brought_if (λ b. not (comes_after b a.answered)) (λ x among k le lt. before (comes_after x.answered a.answered) (λ after.
       let l = prefix_length a.after.labels x.before.labels (after_sees settings phases opened ran last all a x there among after).labels in omega arith))))
     where

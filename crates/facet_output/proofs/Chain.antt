@@ -11,7 +11,8 @@ use Rattle.facet_output.specs.Steps.{Step, IsStep}
 use Rattle.facet_output.specs.Sessions.{SessionRan}
 use Rattle.facet_output.proofs.Among.{In, pairs_head, pairs_tail}
 use Rattle.facet_output.proofs.HeldPairs.{HeldIn, held_more, held_step}
-use Rattle.facet_output.proofs.Fronts.{prefix_self, prefix_trans, get_back, own_front}
+use Rattle.facet_output.proofs.Fronts.{get_back, own_front}
+use Rattle.chronicle.proofs.Prefixes.{prefix_self, prefix_trans}
 
 pub sees_self : (a : Seen) → Sees a a
 sees_self a = record { labels = prefix_self a.labels; operations = prefix_self a.operations; pairs = prefix_self a.pairs; commits = prefix_self a.commits }

@@ -18,16 +18,18 @@ use Rattle.facet_output.specs.Replying.{IsAdded, IsResolved, IsOf, IsRight, pair
 use Rattle.facet_output.specs.Seen.{Seen, labels_of, history_of}
 use Rattle.facet_output.specs.Sessions.{AllRan, steps_of}
 use Rattle.facet_output.specs.Steps.{Step}
-use Rattle.facet_output.specs.Telling.{brings, paths_of, skips_none, add_among, stats_among, reply_among, labels_among}
+use Rattle.facet_output.specs.Telling.{brings, paths_of, add_among, stats_among, reply_among, labels_among}
 use Rattle.facet_output.proofs.Among.{In, all_in}
 use Rattle.facet_output.proofs.Answers.{answers, all_steps, any_step, of_get_map}
 use Rattle.facet_output.proofs.Bringing.{labels_begin, label_entered, opened_size}
 use Rattle.facet_output.proofs.Fresh.{implied}
-use Rattle.facet_output.proofs.Fronts.{prefix_length, get_below, take_prefix}
-use Rattle.facet_output.proofs.HeldPairs.{labels_size, pair_in}
+use Rattle.facet_output.proofs.Fronts.{get_below, take_prefix, labels_size}
+use Rattle.facet_output.proofs.HeldPairs.{pair_in}
 use Rattle.facet_output.proofs.Known.{facts, after_sees}
 use Rattle.facet_output.proofs.Lifting.{still_knows}
 use Rattle.facet_output.proofs.Pairing.{pair_labels}
+use Rattle.facet_names.specs.Labels.{skips_none}
+use Rattle.chronicle.proofs.Prefixes.{prefix_length}
 
 -- a beginning that is not longer begins the first elements
 front_begins : {A : Type 0} (xs rest : List A) (n : ℕ) → length xs ≤ n → IsPrefix xs (take n (xs ++ rest))

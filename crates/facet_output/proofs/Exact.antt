@@ -123,7 +123,7 @@ pub wanted : {X : Type 0} (p : X → Bool) (o : Option X) (x : X) → option_map
 wanted p None x h e = absurd cc
 wanted p (Some y) x h e = let same : y ≡ x = ap (λ q. unwrap_or q y) e in subst (λ z. p z ≡ true) same h
 
-implied_so : (b c : Bool) → (not b || c) ≡ true → b ≡ true → c ≡ true
+pub implied_so : (b c : Bool) → (not b || c) ≡ true → b ≡ true → c ≡ true
 implied_so true c h e = h
 implied_so false c h e = absurd cc
 

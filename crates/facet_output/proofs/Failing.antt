@@ -22,9 +22,10 @@ use Rattle.facet_output.proofs.Among.{In, pairs_head, pairs_tail, in_filter}
 use Rattle.facet_output.proofs.Answers.{answers, all_steps, any_step, all_some}
 use Rattle.facet_output.proofs.Bringing.{opened_sees}
 use Rattle.facet_output.proofs.Fresh.{implied}
-use Rattle.facet_output.proofs.Fronts.{prefix_length, prefix_get, prefix_trans, get_last, get_below, get_back, own_front}
+use Rattle.facet_output.proofs.Fronts.{get_last, get_below, get_back, own_front}
 use Rattle.facet_output.proofs.Known.{facts, after_sees, entered, in_order}
 use Rattle.facet_output.proofs.Pairing.{may_come}
+use Rattle.chronicle.proofs.Prefixes.{prefix_trans, prefix_length, prefix_get}
 
 -- ---- failures among points
 

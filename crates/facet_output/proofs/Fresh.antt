@@ -15,9 +15,9 @@ use Rattle.facet_output.specs.Seen.{Seen, opened_seen, history_of}
 use Rattle.facet_output.specs.Steps.{Step}
 use Rattle.facet_output.specs.Sessions.{AllRan, steps_of}
 use Rattle.facet_output.proofs.Among.{In, all_in, of_map}
-use Rattle.facet_output.proofs.Fronts.{prefix_length}
 use Rattle.facet_output.proofs.Known.{facts, after_sees}
 use Rattle.facet_output.proofs.Showing.{shows_seen}
+use Rattle.chronicle.proofs.Prefixes.{prefix_length}
 
 pub if_some : {A : Type 0} (P : A → Type 0) (o : Option A) (x : A) → IfSome o P → o ≡ Some x → P x
 if_some P None x is e = absurd cc

@@ -87,15 +87,15 @@ sees_between settings session held seen (y ∷ xs) last x ran there =
     (λ behind. let r = sees_between settings session (held_after held y.answered) y.after xs last x ran.2 behind in
     (sees_trans seen y.before x.before ran.0.sees (sees_trans y.before y.after x.before ran.1.sees r.0), r.1)) there
 
-all_by : {A : Type 0} (P : A → Type 0) (xs : List A) → ((x : A) → In x xs → P x) → All P xs
+pub all_by : {A : Type 0} (P : A → Type 0) (xs : List A) → ((x : A) → In x xs → P x) → All P xs
 all_by P [] each = All-nil P
 all_by P (x ∷ xs) each = All-cons P x xs (each x (inl refl)) (all_by P xs (λ y there. each y (inr there)))
 
+pub told_itself : (session : ℕ) (a : Seen) → IsTold session a a
+told_itself session a = record { sees = sees_self a; labels = refl; operations = refl; pairs = refl; commits = refl }
+
 pub none_ran : (settings : Settings) (opened : Opened) → RanSoFar settings [] opened [] (opened_seen opened)
 none_ran settings opened = record { as_many = refl; asked = refl; in_line_order = refl; sessions = λ session. told_itself session (opened_seen opened); told = sees_self (opened_seen opened) }
-  where
-    told_itself : (session : ℕ) (a : Seen) → IsTold session a a
-    told_itself session a = record { sees = sees_self a; labels = refl; operations = refl; pairs = refl; commits = refl }
 
 -- the orders of one phase, as they are written
 abbrev phase_in_order : ℕ → List Order → List (ℕ × Order)

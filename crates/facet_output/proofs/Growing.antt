@@ -5,12 +5,13 @@ use Rattle.std.specs.List.{list_any, list_all, position_or_len, prefix_len}
 use Rattle.std.proofs.lemmas.Bool.{and_parts, both_ways, cases_lt, or_left}
 use Rattle.std.proofs.lemmas.List.Folds.{list_any-append}
 use mathlib.Core.List.{IsPrefix}
-use Rattle.facet_names.specs.Labels.{stands, with_label}
+use Rattle.facet_names.specs.Labels.{stands, with_label, skips_none}
 use Rattle.facet_names.specs.Paths.{path_eq, path_eq_equiv}
 use Rattle.facet_names.proofs.LabelLists.{same_path}
-use Rattle.facet_output.specs.Telling.{skips_none}
 use Rattle.facet_output.proofs.Among.{In, any_in, in_right}
-use Rattle.facet_output.proofs.Fronts.{prefix_self, prefix_trans, prefix_get, prefix_whole, take_prefix, get_there, get_below}
+use Rattle.facet_output.proofs.Fronts.{prefix_whole, take_prefix, get_there, get_below}
+use Rattle.std.proofs.Math.Bool.{or-true}
+use Rattle.chronicle.proofs.Prefixes.{prefix_self, prefix_trans, prefix_get}
 
 module _ {A : Type 0} where
   pub take_whole : (xs : List A) → take (length xs) xs ≡ xs
@@ -36,11 +37,7 @@ module _ {A : Type 0} where
   some_taken p [] i k x lt at h = absurd cc
   some_taken p (y ∷ xs) zero k x lt at h = absurd (omega arith)
   some_taken p (y ∷ xs) (suc i) zero x lt at h = let same : y ≡ x = ap (λ o. unwrap_or o y) at in let e : p y ≡ true = ap p same ∙ h in rw e refl
-  some_taken p (y ∷ xs) (suc i) (suc k) x lt at h = let r = some_taken p xs i k x (omega arith) at h in rw r (or_so (p y))
-    where
-      or_so : (b : Bool) → (b || true) ≡ true
-      or_so true = refl
-      or_so false = refl
+  some_taken p (y ∷ xs) (suc i) (suc k) x lt at h = let r = some_taken p xs i k x (omega arith) at h in rw r (or-true (p y))
 
   place_of : (p : A → Bool) (xs : List A) → list_any p xs ≡ true → (k : ℕ) × (x : A) × (slice_get xs k ≡ Some x) × (p x ≡ true)
   place_of p [] h = absurd cc
@@ -53,7 +50,7 @@ module _ {A : Type 0} where
 grown_with : (labels : List (List (List ℕ))) (p : List (List ℕ)) (b : Bool) → stands labels p ≡ b → with_label labels p ≡ (if b then labels else labels ++ p ∷ [])
 grown_with labels p b e = rw e refl
 
-begins_fold : (paths labels : List (List (List ℕ))) → IsPrefix labels (fold with_label labels paths)
+pub begins_fold : (paths labels : List (List (List ℕ))) → IsPrefix labels (fold with_label labels paths)
 begins_fold [] labels = prefix_self labels
 begins_fold (p ∷ paths) labels = prefix_trans labels (with_label labels p) (fold with_label labels (p ∷ paths)) (by (stands labels p) refl) (begins_fold paths (with_label labels p))
   where

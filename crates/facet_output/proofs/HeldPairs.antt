@@ -2,7 +2,6 @@
 use Rattle.std.proofs.Common.{◌≡◌, inl, inr, ⊎_elim, ℕ, ◌+◌, ◌≤◌, Bool, true, false, cond, List, [], ◌∷◌, length, Option, Some, None, refl, sym, subst, arith}
 use Rattle.std.specs.Prelude.{not, IfSome}
 use Rattle.std.specs.Str.{bytes_eq}
-use Rattle.std.proofs.lemmas.List.{length-map}
 use Rattle.facet_words.specs.Commands.{Settings}
 use Rattle.facet_words.specs.Sessions.Commands.{Command, add, refresh, hold, release, search, document, stats, commit}
 use Rattle.facet_output.specs.Held.{Held, held_under, held_after, after_command, is_numbered}
@@ -11,7 +10,8 @@ use Rattle.facet_output.specs.Seen.{Seen, Sees, labels_of}
 use Rattle.facet_output.specs.Steps.{Step, IsStep, IsLastPair}
 use Rattle.facet_output.specs.Telling.{refreshed}
 use Rattle.facet_output.proofs.Among.{In, of_filter, of_append}
-use Rattle.facet_output.proofs.Fronts.{prefix_length}
+use Rattle.facet_output.proofs.Fronts.{labels_size}
+use Rattle.chronicle.proofs.Prefixes.{prefix_length}
 
 -- all operations and labels of a pair were seen
 abbrev pub PairIn : ℕ × ℕ → Seen → Type 0
@@ -45,9 +45,6 @@ command_held (search on s) took held seen new within h there = within h there
 command_held (document on at) took held seen new within h there = within h there
 command_held (stats on) took held seen new within h there = within h there
 command_held commit took held seen new within h there = within h there
-
-pub labels_size : (a : Seen) → length (labels_of a) ≡ length a.labels + 1
-labels_size a = let e = length-map a.labels (λ (e : ℕ × List (List ℕ)). e.1) in omega arith
 
 taken_in : (took : Option (ℕ × ℕ)) (x : Step) → IfSome took (λ pair. IsLastPair x.after pair × (refreshed x.answered ≡ None)) → IfSome took (λ pair. PairIn pair x.after)
 taken_in None x is = tt

@@ -9,7 +9,7 @@ use Rattle.facet_replies.specs.Replies.{Reply, placed, numbered, found, refused,
 use Rattle.facet_output.specs.Answered.{Answered, of_session}
 use Rattle.facet_output.specs.Replying.{RightReplies}
 use Rattle.facet_output.specs.Output.{IsOutput}
-use Rattle.facet_output.proofs.Samples.{author, bob, lisa, empty_store, plain_settings, order, answer, answer_at, by_one, each_session}
+use Rattle.facet_output.proofs.Samples.{author, bob, lisa, empty_store, plain_settings, order, answer, answer_at, by_one, each_session, one_hit}
 
 abbrev pub everything : Search
 everything = record { query = all; drill = []; sideways = false; asks = []; hits = 10 }
@@ -29,9 +29,6 @@ history = by_one bob ∷ by_one lisa ∷ []
 
 abbrev published : List (ℕ × (ℕ × ℕ))
 published = (0, (0, 1)) ∷ (1, (1, 3)) ∷ (1, (2, 4)) ∷ []
-
-abbrev one_hit : Reply
-one_hit = found (record { operations = 1; hit_count = 1; hits = (0, codes "b1") ∷ []; answers = [] })
 
 abbrev pub two_hits : Reply
 two_hits = found (record { operations = 2; hit_count = 2; hits = (0, codes "b1") ∷ (1, codes "b2") ∷ []; answers = [] })

@@ -2,13 +2,10 @@
 use Rattle.std.proofs.Common.{◌≡◌, inl, inr, ⊎_elim, ℕ, ◌≤◌, Bool, true, false, List, [], ◌∷◌, ◌++◌, length, map, Option, Some, None, slice_get, refl, sym, ap, ◌∙◌, subst, arith}
 use Rattle.std.specs.Prelude.{drop, unwrap_or}
 use Rattle.std.specs.List.{list_all}
-use Rattle.std.proofs.lemmas.Bool.{or_left}
 use Rattle.std.proofs.lemmas.List.{length-map}
-use Rattle.std.proofs.lemmas.List.Folds.{list_any-append}
 use mathlib.Core.List.{IsPrefix}
 use Rattle.facet_names.specs.Labels.{IsLabelList, stands, place, prefixes}
-use Rattle.facet_names.specs.Paths.{path_eq}
-use Rattle.facet_names.proofs.LabelLists.{place_at, label_at}
+use Rattle.facet_names.proofs.LabelLists.{place_at, label_at, still_stands}
 use Rattle.facet_model.specs.Accepts.{Broken, first_broken}
 use Rattle.facet_model.specs.Documents.{Doc}
 use Rattle.facet_model.specs.Histories.{Operation, docs, knows}
@@ -27,14 +24,12 @@ use Rattle.facet_output.proofs.Among.{In, of_filter}
 use Rattle.facet_output.proofs.Answers.{answers}
 use Rattle.facet_output.proofs.Bringing.{full_last, labels_begin}
 use Rattle.facet_output.proofs.Chain.{sees_last}
-use Rattle.facet_output.proofs.Fronts.{prefix_length, prefix_get, map_prefix, take_prefix}
+use Rattle.facet_output.proofs.Fronts.{map_prefix, take_prefix}
 use Rattle.facet_output.proofs.HeldPairs.{HeldIn, held_more, held_step, pair_in}
 use Rattle.facet_output.proofs.Placing.{own_answers}
+use Rattle.chronicle.proofs.Prefixes.{prefix_length, prefix_get}
 
 -- ---- labels that go on
-
-still_stands : (labels more : List (List (List ℕ))) (path : List (List ℕ)) → stands labels path ≡ true → stands (labels ++ more) path ≡ true
-still_stands labels more path h = list_any-append (path_eq path) labels more ∙ or_left (stands labels path) (stands more path) h
 
 pub still_knows : (labels all : List (List (List ℕ))) (doc : Doc) → IsPrefix labels all → knows labels doc ≡ true → knows all doc ≡ true
 still_knows labels all doc begins h = subst (λ (l : List (List (List ℕ))). knows l doc ≡ true) begins.1

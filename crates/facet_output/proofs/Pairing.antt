@@ -1,6 +1,6 @@
 -- A taken pair was published before, and is no older than what was known.
 use Rattle.std.proofs.Common.{◌≡◌, ◌⊎◌, inl, inr, ⊎_elim, ℕ, zero, suc, ◌+◌, ◌≤◌, ◌<◌, eqb, Bool, true, false, List, [], ◌∷◌, length, map, Option, Some, None, slice_get, refl, sym, ap, ◌∙◌, subst, arith, length-append}
-use Rattle.std.specs.Prelude.{◌==◌, ◌&&◌, ◌||◌, not, nat_le, nat_lt, AllPairs, IsTrue, unwrap_or, is_none}
+use Rattle.std.specs.Prelude.{◌==◌, ◌&&◌, ◌||◌, not, nat_le, nat_lt, AllPairs, IsTrue, is_none}
 use Rattle.std.specs.List.{list_all}
 use Rattle.std.specs.Option.{option_map_or}
 use Rattle.std.proofs.lemmas.Bool.{and_from, and_parts, cases_lt, le-leb, lt-ltb, leb-true, eq-eqb, or_left, or_right}
@@ -20,8 +20,10 @@ use Rattle.facet_output.proofs.Answers.{answers, all_steps, any_step, all_some, 
 use Rattle.facet_output.proofs.Bringing.{opened_sees}
 use Rattle.facet_output.proofs.Chain.{sees_trans}
 use Rattle.facet_output.proofs.Fresh.{if_some, implied}
-use Rattle.facet_output.proofs.Fronts.{prefix_length, prefix_get, get_last, get_below, get_back, own_front}
+use Rattle.facet_output.proofs.Fronts.{get_last, get_below, get_back, own_front}
 use Rattle.facet_output.proofs.Known.{facts, after_sees, after_parts, entered, own_in, in_order}
+use Rattle.std.proofs.lemmas.Option.{same_Some}
+use Rattle.chronicle.proofs.Prefixes.{prefix_length, prefix_get}
 
 -- ---- numbers that never fall
 
@@ -41,9 +43,6 @@ rising (x ∷ y ∷ ys) (suc i) (suc k) a b h le at at' = rising (y ∷ ys) i k 
 
 some_none : {A : Type 0} (a : A) → None ≡ Some a → ⊥
 some_none a e = cc
-
-some_same : {A : Type 0} (a b : A) → Some a ≡ Some b → a ≡ b
-some_same a b e = ap (λ o. unwrap_or o a) e
 
 -- ---- which may come before which
 
@@ -123,7 +122,7 @@ module _ (settings : Settings) (phases : List (List Order)) (opened : Opened) (r
       let here : length enters.0 ≡ k = omega arith in
       let it : slice_get new k ≡ Some (session, (n, enters.1)) = subst (λ (j : ℕ). slice_get new j ≡ Some (session, (n, enters.1))) here (subst (λ (ps : Entries (ℕ × ℕ)). slice_get ps (length enters.0) ≡ Some (session, (n, enters.1))) (sym enters.2.1) (get_last enters.0 (session, (n, enters.1)))) in
       let same : Some (session, (n, enters.1)) ≡ Some (session, pair) = sym it ∙ at in
-      ap (λ (e : ℕ × (ℕ × ℕ)). Some e.1.0) (some_same (session, (n, enters.1)) (session, pair) same))
+      ap (λ (e : ℕ × (ℕ × ℕ)). Some e.1.0) (same_Some (session, (n, enters.1)) (session, pair) same))
       (cases_lt k (length enters.0))
 
   source_so : (x : Step) → In x (steps_of ran) → (pair : ℕ × ℕ) → x.answered.took ≡ Some pair → has_source (length opened.docs) (answers (steps_of ran)) x.answered pair.0 ≡ true
@@ -133,7 +132,7 @@ module _ (settings : Settings) (phases : List (List Order)) (opened : Opened) (r
       by zero n at size none =
           let begins = (opened_sees settings phases opened ran last all).pairs in
           let first : Some (0, opened_pair opened) ≡ Some (n, pair) = sym (prefix_get ((0, opened_pair opened) ∷ []) last.pairs 0 (0, opened_pair opened) begins refl) ∙ at in
-          let same : opened_pair opened ≡ pair = ap (λ (e : ℕ × (ℕ × ℕ)). e.1) (some_same (0, opened_pair opened) (n, pair) first) in
+          let same : opened_pair opened ≡ pair = ap (λ (e : ℕ × (ℕ × ℕ)). e.1) (same_Some (0, opened_pair opened) (n, pair) first) in
           or_left (pair.0 == length opened.docs) _ (eq-eqb pair.0 (length opened.docs) (sym (ap (λ (p : ℕ × ℕ). p.0) same)))
       by (suc k) n at size none =
           let r = entered settings phases opened ran last all (λ s. s.pairs) (λ a b sees. sees.pairs) (λ n a b told. told.pairs) (suc k) n pair at (omega arith) in
@@ -184,11 +183,11 @@ module _ (settings : Settings) (phases : List (List Order)) (opened : Opened) (r
       same_at j g at' size size' =
           let here : j ≡ k = omega arith in
           let same : Some g ≡ Some e = sym (subst (λ (i : ℕ). slice_get last.pairs i ≡ Some g) here at') ∙ at in
-          ap (λ (y : ℕ × (ℕ × ℕ)). y.1.1) (some_same g e same)
+          ap (λ (y : ℕ × (ℕ × ℕ)). y.1.1) (same_Some g e same)
 
       seen : (b : Bool) → IsPlace b x.answered.place (length x.after.pairs) → length x.after.pairs ≡ k + 1
       seen true is = absurd (let wrong : None ≡ Some k = sym is ∙ place in some_none k wrong)
-      seen false is = let same : Some is.0 ≡ Some k = sym is.1 ∙ place in let n : is.0 ≡ k = some_same is.0 k same in let s = is.2 in omega arith
+      seen false is = let same : Some is.0 ≡ Some k = sym is.1 ∙ place in let n : is.0 ≡ k = same_Some is.0 k same in let s = is.2 in omega arith
 
       by : (took : Option (ℕ × ℕ)) (o : Option ℕ) → x.answered.took ≡ took → refreshed x.answered ≡ o → IsPlace (sees_no_pair x.answered) x.answered.place (length x.after.pairs) → e.1.1 ≤ length (labels_of x.after)
       by (Some pair) o t r is =

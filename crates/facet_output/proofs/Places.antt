@@ -17,9 +17,10 @@ use Rattle.facet_output.proofs.Among.{In}
 use Rattle.facet_output.proofs.Answers.{answers, all_steps, all_some}
 use Rattle.facet_output.proofs.Entering.{shown_among}
 use Rattle.facet_output.proofs.Fresh.{implied}
-use Rattle.facet_output.proofs.Fronts.{prefix_length, get_there}
+use Rattle.facet_output.proofs.Fronts.{get_there}
 use Rattle.facet_output.proofs.Known.{facts, after_sees}
 use Rattle.facet_output.proofs.Pairing.{took_at, refreshed_at}
+use Rattle.chronicle.proofs.Prefixes.{prefix_length}
 
 some_place : (none : Bool) (place : Option ℕ) (seen k : ℕ) → IsPlace none place seen → place ≡ Some k → seen ≡ k + 1
 some_place true place seen k is e = absurd cc

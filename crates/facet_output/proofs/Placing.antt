@@ -21,6 +21,7 @@ use Rattle.facet_output.specs.Sessions.{SessionRan, AllRan, steps_of, own_steps,
 use Rattle.facet_output.proofs.Among.{In, of_filter, filter-map}
 use Rattle.facet_output.proofs.Answers.{answers}
 use Rattle.facet_output.proofs.Bringing.{opened_sees}
+use Rattle.facet_output.proofs.Fronts.{operation_of}
 
 -- ---- what grows by each answer
 
@@ -41,18 +42,15 @@ module _ {B : Type 0} (settings : Settings) (session : ℕ) (view : Seen → Lis
 
 -- ---- operations
 
-abbrev operation : ℕ × Doc → Operation
-operation e = record { session = e.0; doc = e.1 }
-
 -- those of a session, with their places from a number on
 abbrev owned : ℕ → ℕ → Entries Doc → List (ℕ × Operation)
-owned n k xs = filter (λ e. eqb e.1.session n) (enumerate_from k (map operation xs))
+owned n k xs = filter (λ e. eqb e.1.session n) (enumerate_from k (map operation_of xs))
 
 owned_none : (n k : ℕ) (xs : Entries Doc) → entered_by n xs ≡ [] → owned n k xs ≡ []
 owned_none n k [] none = refl
 owned_none n k (x ∷ xs) none = by (eqb x.0 n) none (owned_none n (k + 1) xs)
   where
-    by : (b : Bool) → cond b (x ∷ entered_by n xs) (entered_by n xs) ≡ [] → (entered_by n xs ≡ [] → owned n (k + 1) xs ≡ []) → cond b ((k, operation x) ∷ owned n (k + 1) xs) (owned n (k + 1) xs) ≡ []
+    by : (b : Bool) → cond b (x ∷ entered_by n xs) (entered_by n xs) ≡ [] → (entered_by n xs ≡ [] → owned n (k + 1) xs ≡ []) → cond b ((k, operation_of x) ∷ owned n (k + 1) xs) (owned n (k + 1) xs) ≡ []
     by true none rest = absurd cc
     by false none rest = rest none
 
@@ -61,8 +59,8 @@ owned_append n k [] ys = ap (λ j. owned n j ys) (let e : k ≡ k + 0 = omega ar
 owned_append n k (x ∷ xs) ys = by (eqb x.0 n) (owned_append n (k + 1) xs ys ∙ ap (λ j. owned n (k + 1) xs ++ owned n j ys) (let e : k + 1 + length xs ≡ k + suc (length xs) = omega arith in e))
   where
     by : (b : Bool) → owned n (k + 1) (xs ++ ys) ≡ owned n (k + 1) xs ++ owned n (k + suc (length xs)) ys
-        → cond b ((k, operation x) ∷ owned n (k + 1) (xs ++ ys)) (owned n (k + 1) (xs ++ ys)) ≡ cond b ((k, operation x) ∷ owned n (k + 1) xs) (owned n (k + 1) xs) ++ owned n (k + suc (length xs)) ys
-    by true e = ap (λ (l : List (ℕ × Operation)). (k, operation x) ∷ l) e
+        → cond b ((k, operation_of x) ∷ owned n (k + 1) (xs ++ ys)) (owned n (k + 1) (xs ++ ys)) ≡ cond b ((k, operation_of x) ∷ owned n (k + 1) xs) (owned n (k + 1) xs) ++ owned n (k + suc (length xs)) ys
+    by true e = ap (λ (l : List (ℕ × Operation)). (k, operation_of x) ∷ l) e
     by false e = e
 
 owned_behind : (n : ℕ) (xs ys : Entries Doc) → owned n 0 (xs ++ ys) ≡ owned n 0 xs ++ owned n (length xs) ys
@@ -141,9 +139,9 @@ module _ (settings : Settings) (phases : List (List Order)) (opened : Opened) (r
       let begins = (opened_sees settings phases opened ran last all).operations in
       let size : length (opened_seen opened).operations ≡ length opened.docs = length-map opened.docs (λ doc. (0, doc)) in
       let front = (opened_seen opened).operations in
-      let whole : map operation last.operations ≡ map operation front ++ map operation begins.0 = ap (map operation) (sym begins.1) ∙ map-append operation front begins.0 in
-      let behind : drop (length opened.docs) (map operation last.operations) ≡ map operation begins.0 =
-      ap (drop (length opened.docs)) whole ∙ dropped (map operation front) (map operation begins.0) (length opened.docs) (length-map front operation ∙ size) in
+      let whole : map operation_of last.operations ≡ map operation_of front ++ map operation_of begins.0 = ap (map operation_of) (sym begins.1) ∙ map-append operation_of front begins.0 in
+      let behind : drop (length opened.docs) (map operation_of last.operations) ≡ map operation_of begins.0 =
+      ap (drop (length opened.docs)) whole ∙ dropped (map operation_of front) (map operation_of begins.0) (length opened.docs) (length-map front operation_of ∙ size) in
       let split : owned n 0 last.operations ≡ owned n 0 front ++ owned n (length opened.docs) begins.0 =
       ap (owned n 0) (sym begins.1) ∙ owned_behind n front begins.0 ∙ ap (λ j. owned n 0 front ++ owned n j begins.0) size in
       ap (λ l. filter (λ e. eqb e.1.session n) (enumerate_from (length opened.docs) l)) behind ∙ append_cancel_left (owned n 0 front) _ _ (sym split ∙ placed_in n)
@@ -158,9 +156,9 @@ module _ (settings : Settings) (phases : List (List Order)) (opened : Opened) (r
   opened_docs_so =
       let begins = (opened_sees settings phases opened ran last all).operations in
       let front = (opened_seen opened).operations in
-      ap (λ l. take (length opened.docs) (map operation l)) (sym begins.1) ∙ ap (take (length opened.docs)) (map-append operation front begins.0) ∙ taken opened.docs (map operation begins.0)
+      ap (λ l. take (length opened.docs) (map operation_of l)) (sym begins.1) ∙ ap (take (length opened.docs)) (map-append operation_of front begins.0) ∙ taken opened.docs (map operation_of begins.0)
     where
-      taken : (docs : List Doc) (more : List Operation) → take (length docs) (map operation (map (λ doc. (0, doc)) docs) ++ more) ≡ map (λ doc. record { session = 0; doc = doc }) docs
+      taken : (docs : List Doc) (more : List Operation) → take (length docs) (map operation_of (map (λ doc. (0, doc)) docs) ++ more) ≡ map (λ doc. record { session = 0; doc = doc }) docs
       taken [] more = refl
       taken (d ∷ docs) more = ap (λ (l : List Operation). record { session = 0; doc = d } ∷ l) (taken docs more)
 

@@ -22,9 +22,10 @@ use Rattle.facet_output.proofs.Answers.{answers, all_some}
 use Rattle.facet_output.proofs.Bringing.{opened_sees}
 use Rattle.facet_output.proofs.Entering.{shown_among}
 use Rattle.facet_output.proofs.Failing.{fails_in, failed_at}
-use Rattle.facet_output.proofs.Fronts.{prefix_get, get_last, take_prefix}
+use Rattle.facet_output.proofs.Fronts.{get_last, take_prefix}
 use Rattle.facet_output.proofs.Known.{facts}
 use Rattle.facet_output.proofs.Placing.{of_own, own_answers}
+use Rattle.chronicle.proofs.Prefixes.{prefix_get}
 
 -- ---- a commit that was acknowledged
 

@@ -8,10 +8,10 @@ use Rattle.std.proofs.lemmas.Bool.{and_parts}
 use Rattle.facet_model.specs.Documents.{Doc}
 use Rattle.facet_words.specs.Commands.{Settings}
 use Rattle.facet_words.specs.Sessions.Commands.{Order, add, refresh, search, commit, stats}
-use Rattle.facet_replies.specs.Replies.{Reply, placed, numbered, found, refused, labels_full, closed, disk_failed, stats as numbers, docs_full}
+use Rattle.facet_replies.specs.Replies.{Reply, placed, numbered, refused, labels_full, closed, disk_failed, stats as numbers, docs_full}
 use Rattle.facet_output.specs.Answered.{Answered}
 use Rattle.facet_output.specs.Output.{IsOutput, is_right_pair, has_source, is_newest}
-use Rattle.facet_output.proofs.Samples.{answer_at, author, doc, bob, lisa, empty_store, plain_settings, order, answer, by_one}
+use Rattle.facet_output.proofs.Samples.{answer_at, author, doc, bob, lisa, empty_store, plain_settings, order, answer, by_one, one_hit, bobs_labels}
 use Rattle.facet_output.proofs.Holding.{everything, labels, history}
 
 -- two adds
@@ -48,18 +48,15 @@ of_nobody published o = let e = o.operations 2 in cc
 abbrev unseen : List (List Order)
 unseen = (order 2 (add bob) ∷ order 3 (search None everything) ∷ []) ∷ []
 
-abbrev bob_found : Reply
-bob_found = found (record { operations = 1; hit_count = 1; hits = (0, codes "b1") ∷ []; answers = [] })
-
 abbrev found_early : Option (ℕ × ℕ) → Option ℕ → List Answered
-found_early took place = answer 2 (add bob) None (placed 0) ∷ record (answer 3 (search None everything) took bob_found) { place = place } ∷ []
+found_early took place = answer 2 (add bob) None (placed 0) ∷ record (answer 3 (search None everything) took one_hit) { place = place } ∷ []
 
 never_published : (published : List (ℕ × (ℕ × ℕ))) (took : Option (ℕ × ℕ)) (place : Option ℕ) → ¬ IsOutput plain_settings unseen empty_store labels (by_one bob ∷ []) published (found_early took place)
 never_published published None place o = ⊎_elim (λ impossible. impossible) (λ lacks. let e = lacks.1 in cc) (o.replies 1).1.0
 never_published published (Some pair) place o = ⊎_elim (λ right. no_source pair.0 (ap shows right.2) (source_of o.pairs)) (λ lacks. let e = lacks.1 in cc) (o.replies 1).1.0
   where
     a : Answered
-    a = record (answer 3 (search None everything) (Some pair) bob_found) { place = place }
+    a = record (answer 3 (search None everything) (Some pair) one_hit) { place = place }
 
     source_of : IsTrue (is_right_pair empty_store (map (λ e. e.1) published) (found_early (Some pair) place) a pair && true) → has_source 0 (found_early (Some pair) place) a pair.0 ≡ true
     source_of t =
@@ -81,9 +78,6 @@ three_labels = record plain_settings { max_labels = 3 }
 
 abbrev pub dated : Doc
 dated = doc (codes "b0") ((codes "Year" ∷ codes "2010" ∷ []) ∷ [])
-
-abbrev pub bobs_labels : List (List (List ℕ))
-bobs_labels = [] ∷ (codes "Author" ∷ []) ∷ author (codes "Bob") ∷ []
 
 -- all labels came after the add that was refused for them
 filled_later : (published : List (ℕ × (ℕ × ℕ))) → ¬ IsOutput three_labels ((order 2 (add dated) ∷ order 3 (add bob) ∷ []) ∷ []) empty_store bobs_labels (by_one bob ∷ []) published

@@ -6,7 +6,7 @@ use Rattle.facet_model.specs.Documents.{Doc}
 use Rattle.facet_model.specs.Histories.{Operation}
 use Rattle.facet_words.specs.Commands.{Settings}
 use Rattle.facet_words.specs.Sessions.Commands.{Order, Command}
-use Rattle.facet_replies.specs.Replies.{Reply}
+use Rattle.facet_replies.specs.Replies.{Reply, found}
 use Rattle.facet_output.specs.Answered.{Answered}
 use Rattle.facet_output.specs.Output.{Opened}
 
@@ -51,3 +51,10 @@ each_session P one others s = by_test s (eqb 1 s) refl
     by_test : (s : ℕ) (b : Bool) → eqb 1 s ≡ b → P s
     by_test s true e = subst P (eqb-true 1 s e) one
     by_test s false e = others s e
+
+-- Bob's document is the one hit
+abbrev pub one_hit : Reply
+one_hit = found (record { operations = 1; hit_count = 1; hits = (0, codes "b1") ∷ []; answers = [] })
+
+abbrev pub bobs_labels : List (List (List ℕ))
+bobs_labels = [] ∷ (codes "Author" ∷ []) ∷ author (codes "Bob") ∷ []

@@ -36,8 +36,9 @@ use Rattle.facet_output.proofs.Bringing.{opened_first}
 use Rattle.facet_output.proofs.Chain.{sees_self, sees_trans, sees_last}
 use Rattle.facet_output.proofs.Exact.{filter_all}
 use Rattle.facet_output.proofs.Fresh.{if_some}
-use Rattle.facet_output.proofs.Fronts.{prefix_trans, prefix_self, get_last}
+use Rattle.facet_output.proofs.Fronts.{get_last, operation_of}
 use Rattle.facet_output.proofs.Growing.{all_stand}
+use Rattle.chronicle.proofs.Prefixes.{prefix_self, prefix_trans}
 
 -- ---- the first refused ask
 
@@ -77,9 +78,6 @@ shelf_same labels labels' ds ds' pair shut l d = λ i. shelf_with (l i) (d i) pa
 -- the documents of operations
 abbrev documents_in : Entries Doc → List Doc
 documents_in operations = docs (map (λ (e : ℕ × Doc). record { session = e.0; doc = e.1 }) operations)
-
-abbrev operation_of : ℕ × Doc → Operation
-operation_of e = record { session = e.0; doc = e.1 }
 
 documents_size : (operations : Entries Doc) → length (documents_in operations) ≡ length operations
 documents_size operations = length-map (map operation_of operations) (λ (o : Operation). o.doc) ∙ length-map operations operation_of
@@ -121,6 +119,17 @@ record Facts (settings : Settings) (before after : Seen) (held : Held) (session 
   commits : EntersPoints session (length (labels_of before)) command reply before.commits after.commits
   fresh : IfSome (stood_by command reply) (λ n. length before.operations ≤ n)
   taken : IfSome took (λ pair. IsLastPair after pair × (refreshed_by command reply ≡ None))
+
+among_all : (paths : List (List (List ℕ))) (label p : List (List ℕ)) → In label paths → In p (prefixes label) → In p (flat_map prefixes paths)
+among_all [] label p there among = absurd there
+among_all (q ∷ paths) label p there among = ⊎_elim
+    (λ is. in_left (prefixes q) (flat_map prefixes paths) p (subst (λ (l : List (List ℕ)). In p (prefixes l)) is among))
+    (λ later. in_right (prefixes q) (flat_map prefixes paths) p (among_all paths label p later among)) there
+
+-- all prefixes of a document's labels stand where each was added that was missing
+pub all_known : (labels : List (List (List ℕ))) (doc : Doc) → knows (with_labels labels doc) doc ≡ true
+all_known labels doc = all_in (λ label. list_all (stands (with_labels labels doc)) (prefixes label)) doc.labels
+    (λ label there. all_in (stands (with_labels labels doc)) (prefixes label) (λ p among. all_stand (flat_map prefixes doc.labels) labels p (among_all doc.labels label p there among)))
 
 -- the reply on the shelf, and the next shelf
 record Goes (settings : Settings) (command : words.Command) (reply : Reply) (shelf : Shelf) (after : Seen) : Type 0 where
@@ -187,13 +196,7 @@ module _ (settings : Settings) (before after : Seen) (held : Held) (session : �
     enters_none reply' e none = subst (λ (q : Option (ℕ × Operation)). EntersOperation session q before.operations after.operations) (ap (placed_by session (add doc)) e ∙ none) enters
 
     knows_all : knows all doc ≡ true
-    knows_all = all_in (λ label. list_all (stands all) (prefixes label)) doc.labels (λ label there. all_in (stands all) (prefixes label) (λ p among. all_stand (flat_map prefixes doc.labels) (labels_of before) p (among_all doc.labels label p there among)))
-      where
-        among_all : (paths : List (List (List ℕ))) (label p : List (List ℕ)) → In label paths → In p (prefixes label) → In p (flat_map prefixes paths)
-        among_all [] label p there among = absurd there
-        among_all (q ∷ paths) label p there among = ⊎_elim
-            (λ is. in_left (prefixes q) (flat_map prefixes paths) p (subst (λ (l : List (List ℕ)). In p (prefixes l)) is among))
-            (λ later. in_right (prefixes q) (flat_map prefixes paths) p (among_all paths label p later among)) there
+    knows_all = all_known (labels_of before) doc
 
     abbrev fits_in : ℕ
     fits_in = room settings (labels_of before)

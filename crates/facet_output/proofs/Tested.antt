@@ -15,6 +15,7 @@ use Rattle.facet_model.specs.Listing.{PartCount, listing_cmp}
 use Rattle.facet_model.specs.Documents.{Doc, has, count}
 use Rattle.facet_model.specs.Results.{AreChildren}
 use Rattle.facet_model.proofs.Unique.{times, one_if, times-cons}
+use Rattle.std.proofs.Math.Bool.{and-true}
 
 -- the component of a label right behind a path that it is under
 abbrev pub child_of : List (List ℕ) → List (List ℕ) → Option (List ℕ)
@@ -23,13 +24,9 @@ child_of [] (c ∷ cs) = Some c
 child_of (p ∷ ps) [] = None
 child_of (p ∷ ps) (c ∷ cs) = if bytes_eq p c then child_of ps cs else None
 
-and_true : (b : Bool) → (b && true) ≡ b
-and_true true = refl
-and_true false = refl
-
 under_child : (path label : List (List ℕ)) (part : List ℕ) → is_under label (path ++ part ∷ []) ≡ option_map_or (bytes_eq part) (child_of path label) false
 under_child [] [] part = refl
-under_child [] (c ∷ cs) part = and_true (bytes_eq part c)
+under_child [] (c ∷ cs) part = and-true (bytes_eq part c)
 under_child (p ∷ ps) [] part = refl
 under_child (p ∷ ps) (c ∷ cs) part = by (bytes_eq p c) refl (under_child ps cs part)
   where

@@ -10,11 +10,12 @@ use Rattle.facet_output.specs.Output.{IsOutput}
 use Rattle.facet_output.specs.Seen.{Seen, Sees, IsTold, Entries, EachNew, EntersNone, opened_seen, labels_of, history_of}
 use Rattle.facet_output.specs.Steps.{Step, IsStep, IsEntered}
 use Rattle.facet_output.specs.Sessions.{SessionRan, AllRan, steps_of, own_steps}
-use Rattle.facet_output.proofs.Fronts.{own_front, prefix_self}
+use Rattle.facet_output.proofs.Fronts.{own_front}
 use Rattle.facet_output.proofs.Samples.{author, bob, lisa, empty_store, plain_settings}
 use Rattle.facet_output.proofs.Holding.{everything}
 use Rattle.facet_output.proofs.TwoSessions.{answer_of, seeing, each_session, phases, two_swapped, none_found}
 use Rattle.facet_output.proofs.Assembled.{sessions_give_output}
+use Rattle.facet_output.proofs.Gluing.{told_itself}
 
 -- session 2 enters two labels and one operation, session 1 one of each behind them, and publishes
 abbrev lisa_in : Seen
@@ -54,9 +55,6 @@ ran = (adds_bob ∷ refreshes ∷ adds_lisa ∷ searches ∷ []) ∷ (searches_a
 
 sees : (a b : Seen) → IsPrefix a.labels b.labels → IsPrefix a.operations b.operations → IsPrefix a.pairs b.pairs → IsPrefix a.commits b.commits → Sees a b
 sees a b p q r s = record { labels = p; operations = q; pairs = r; commits = s }
-
-nothing_more : (n : ℕ) (a : Seen) → IsTold n a a
-nothing_more n a = record { sees = sees a a (prefix_self a.labels) (prefix_self a.operations) (prefix_self a.pairs) (prefix_self a.commits); labels = refl; operations = refl; pairs = refl; commits = refl }
 
 -- an order that enters no label
 pub no_new : {A : Type 0} (n : ℕ) (P : ℕ → A → Type 0) (old new : Entries A) → EntersNone n old new → EachNew n P old new
@@ -180,8 +178,8 @@ all_ran = record {
   asked = refl;
   in_line_order = refl;
   sessions = each_session (λ s. SessionRan plain_settings s [] start (own_steps s (steps_of ran)) both_published)
-      (nothing_more 1 start, bob_steps, (nothing_more 1 bob_in, refresh_steps, nothing_more 1 both_published))
-      (nothing_more 2 start, lisa_steps, (nothing_more 2 lisa_in, search_steps, (told_bob, again_steps, nothing_more 2 both_published)))
+      (told_itself 1 start, bob_steps, (told_itself 1 bob_in, refresh_steps, told_itself 1 both_published))
+      (told_itself 2 start, lisa_steps, (told_itself 2 lisa_in, search_steps, (told_bob, again_steps, told_itself 2 both_published)))
       others;
   told = (
     both_published,

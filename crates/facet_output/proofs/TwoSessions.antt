@@ -10,9 +10,9 @@ use Rattle.facet_output.specs.Replying.{RightReplies}
 use Rattle.facet_output.specs.Output.{IsOutput, is_right_pair, is_at}
 use Rattle.std.specs.List.{list_all}
 use Rattle.std.specs.Option.{option_map_or}
-use Rattle.facet_output.proofs.Samples.{author, bob, lisa, empty_store, plain_settings, by_one}
+use Rattle.facet_output.proofs.Samples.{author, bob, lisa, empty_store, plain_settings, by_one, bobs_labels}
 use Rattle.facet_output.proofs.Holding.{everything}
-use Rattle.facet_output.proofs.Refuted.{three_labels, dated, bobs_labels}
+use Rattle.facet_output.proofs.Refuted.{three_labels, dated}
 
 -- what holds of sessions 1 and 2, and of every session where the tests for both fail, holds of all
 pub each_session : (P : ℕ → Type 0) → P 1 → P 2 → ((s : ℕ) → eqb 1 s ≡ false → eqb 2 s ≡ false → P s) → (s : ℕ) → P s

@@ -2,7 +2,7 @@
 use Rattle.std.specs.Prelude.{◌≡◌, ◌≤◌, ◌==◌, ◌&&◌, ◌||◌, ℕ, max, nat_le, not, Bool, true, List, [], ◌∷◌, length, take, drop, map, filter, filter_map, count_by, IsTrue, is_none, nat_lt, if◌then◌else◌, false, slice_get}
 use Rattle.std.specs.List.{list_any, list_all, enumerate_from}
 use Rattle.std.specs.Option.{option_map_or}
-use Rattle.facet_names.specs.Labels.{IsLabelList}
+use Rattle.facet_names.specs.Labels.{IsLabelList, skips_none}
 use Rattle.facet_model.specs.Flags.{Config}
 use Rattle.facet_model.specs.Documents.{Doc}
 use Rattle.facet_model.specs.Histories.{Operation, are_publications}
@@ -11,7 +11,7 @@ use Rattle.facet_words.specs.Commands.{Settings}
 use Rattle.facet_words.specs.Sessions.Commands.{Order}
 use Rattle.facet_output.specs.Answered.{Answered, of_session, each_with, comes_after, may_come_after, in_writing_order}
 use Rattle.facet_output.specs.Replying.{RightReplies}
-use Rattle.facet_output.specs.Telling.{sees_no_pair, brings, paths_of, skips_none, labels_among, is_refused_for_labels, placed_operation, shows, stood, refreshed, is_number, is_up_to, is_no_newer, failed, closed_at, tells_of_failure}
+use Rattle.facet_output.specs.Telling.{sees_no_pair, brings, paths_of, labels_among, is_refused_for_labels, placed_operation, shows, stood, refreshed, is_number, is_up_to, is_no_newer, failed, closed_at, tells_of_failure}
 
 -- the labels with the root and the documents that a store had when it was opened
 pub record Opened : Type 0 where

@@ -8,8 +8,9 @@ use Rattle.facet_replies.specs.Replies.{Reply, numbered, refused, disk_failed, c
 use Rattle.facet_output.specs.Answered.{Answered}
 use Rattle.facet_output.specs.Held.{Held}
 use Rattle.facet_output.specs.Replying.{RightReply}
-use Rattle.facet_output.specs.Telling.{brings, paths_of, skips_none, placed_operation, refreshed, sees_no_pair, stood}
+use Rattle.facet_output.specs.Telling.{brings, paths_of, placed_operation, refreshed, sees_no_pair, stood}
 use Rattle.facet_output.specs.Seen.{CommitPoint, Entries, Seen, Sees, labels_of, history_of, failures, EntersNone, EntersBehind, EachNew}
+use Rattle.facet_names.specs.Labels.{skips_none}
 
 pub record Step : Type 0 where
   pub answered : Answered

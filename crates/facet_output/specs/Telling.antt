@@ -1,9 +1,7 @@
 -- What an answered order tells of the labels, the operations, the pairs and the commits.
-use Rattle.std.specs.Prelude.{◌==◌, ◌+◌, ◌&&◌, ℕ, nat_le, Bool, true, false, List, [], length, take, flat_map, slice_get, Option, Some, None, is_none}
-use Rattle.std.specs.List.{list_all, position_or_len}
+use Rattle.std.specs.Prelude.{◌==◌, ◌+◌, ◌&&◌, ℕ, nat_le, Bool, true, false, List, [], length, flat_map, slice_get, Option, Some, None, is_none}
 use Rattle.std.specs.Option.{option_map_or}
 use Rattle.facet_names.specs.Labels.{stands, prefixes}
-use Rattle.facet_names.specs.Paths.{path_eq}
 use Rattle.facet_model.specs.Accepts.{first_broken}
 use Rattle.facet_model.specs.Documents.{Doc}
 use Rattle.facet_model.specs.Flags.{Config}
@@ -23,10 +21,6 @@ brings config path _ = false
 abbrev pub paths_of : Command → List (List (List ℕ))
 paths_of (add doc) = flat_map prefixes doc.labels
 paths_of _ = []
-
--- of these paths, those before the first such one are among the labels
-abbrev pub skips_none : List (List (List ℕ)) → List (List (List ℕ)) → List (List ℕ) → Bool
-skips_none labels paths path = list_all (stands labels) (take (position_or_len (path_eq path) paths) paths)
 
 abbrev pub says_full : Reply → Bool
 says_full (refused (labels_full size)) = true

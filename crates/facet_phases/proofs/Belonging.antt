@@ -1,5 +1,5 @@
 -- What a pass keeps that has only seen more.
-use Rattle.std.proofs.Common.{◌∙◌, ℕ, refl, sym, ap}
+use Rattle.std.proofs.Common.{◌∙◌, ℕ, ap}
 use Rattle.chronicle.specs.Frame.{Frame}
 use Rattle.chronicle.specs.Shown.{Shown, SameToken}
 use Rattle.pair_manager.specs.declared.pass.Pass.{Pass}
@@ -8,15 +8,8 @@ use Rattle.facet_words.specs.Commands.{Settings}
 use Rattle.facet_engine.specs.declared.session.Session.{Session}
 use Rattle.facet_engine.specs.Calls.{SameSession}
 use Rattle.facet_engine.specs.Sessions.{HaveOneNumber}
-use Rattle.facet_engine.specs.Systems.{Engine, BelongsTo, HasSettings}
+use Rattle.facet_engine.specs.Systems.{Engine, HasSettings}
 use Rattle.facet_engine.specs.Telling.{HaveMade}
-
-pub still_belongs : (engine : Engine) (old new : Pass) → SamePass old new → BelongsTo engine old → BelongsTo engine new
-still_belongs engine old new same own = record {
-  manager = record { labels = same.labels.3 ∙ own.manager.labels; operations = same.operations.3 ∙ own.manager.operations; pairs = same.pairs.3 ∙ own.manager.pairs };
-  commits = same.commits.3 ∙ own.commits;
-  config = own.config ∙ ap (λ (f : Frame). f.texts) (sym same.operations.4);
-}
 
 pub still_set : (engine : Engine) (old new : Pass) (settings : Settings) → SamePass old new → HasSettings engine old settings → HasSettings engine new settings
 still_set engine old new settings same has = record { config = has.config; max_docs = ap (λ (f : Frame). f.numbers) same.operations.4 ∙ has.max_docs; max_labels = has.max_labels }
@@ -26,9 +19,6 @@ still_numbered n old new same have = (same.labels.0 ∙ have.0, same.operations.
 
 pub still_made : (n : ℕ) (old new : Pass) → SamePass old new → HaveMade n old → HaveMade n new
 still_made n old new same have = (same.labels.1 ∙ have.0, same.operations.1 ∙ have.1, same.pairs.1 ∙ have.2, same.commits.1 ∙ have.3)
-
-pub same_pass : (a : Pass) → SamePass a a
-same_pass a = record { labels = (refl, refl, refl, refl, refl, refl); operations = (refl, refl, refl, refl, refl, refl); pairs = (refl, refl, refl, refl, refl, refl); commits = (refl, refl, refl, refl, refl, refl) }
 
 token_then : {E : Type 0} (a b c : Shown E) → SameToken a b → SameToken b c → SameToken a c
 token_then a b c p q = (q.0 ∙ p.0, q.1 ∙ p.1, q.2 ∙ p.2, q.3 ∙ p.3, q.4 ∙ p.4, q.5 ∙ p.5)

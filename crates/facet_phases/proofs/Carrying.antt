@@ -16,7 +16,7 @@ use Rattle.facet_output.specs.Seen.{CommitPoint, IsTold}
 use Rattle.facet_output.specs.Sessions.{held_by, own_steps, steps_of}
 use Rattle.facet_words.specs.Sessions.Laws.{lines_rise}
 use Rattle.facet_output.specs.Steps.{Step}
-use Rattle.facet_output.proofs.Gluing.{one_more_phase, own_append, unused}
+use Rattle.facet_output.proofs.Gluing.{one_more_phase, own_append, unused, told_itself}
 use Rattle.facet_engine.specs.declared.session.Session.{Session}
 use Rattle.facet_engine.specs.HeldPairs.{numbers_held}
 use Rattle.facet_engine.specs.Sessions.{HaveOneNumber}
@@ -30,13 +30,13 @@ use Rattle.facet_phases.specs.Orders.{orders_of}
 use Rattle.facet_words.specs.Sessions.CommandViews.{order_view}
 use Rattle.facet_phases.specs.Phases.{AreSpentWithin, PhaseRan, answers_in}
 use Rattle.facet_phases.specs.Running.{AreReady, AreUnderway, CarriesOut}
-use Rattle.facet_engine.proofs.SeenPairs.{still_named}
-use Rattle.facet_phases.proofs.Belonging.{still_belongs, still_set, still_numbered, still_made}
+use Rattle.facet_engine.proofs.SeenPairs.{still_named, still_belongs}
+use Rattle.facet_phases.proofs.Belonging.{still_set, still_numbered, still_made}
 use Rattle.facet_phases.proofs.Did.{LaneDid}
 use Rattle.facet_phases.proofs.Parts.{AreParts, own_part, sessions_asked, sessions_ran, phase_asked}
 use Rattle.facet_phases.proofs.Phasing.{each_new, new_numbered, parts, parts_many, parts_spent, are_parts, are_whole, held_at}
 use Rattle.facet_phases.proofs.Spent.{spent_none, spent_more}
-use Rattle.facet_phases.proofs.Stepping.{told_itself, held_append}
+use Rattle.facet_phases.proofs.Stepping.{held_append}
 
 -- under another number than those of the sessions nobody entered anything
 others_told : (count : ℕ) (a b : Pass) → HaveOneNumber 0 b → HaveMade count b → Gathers a b → (session : ℕ) → (session ≡ 0) ⊎ (count < session) → IsTold session (seen_of a) (seen_of b)

@@ -50,7 +50,7 @@ told_all settings phases opened ran known last so_far told = record {
 }
 
 module _ {C : Type 0} where
-  lane_at : (P : Lane C → Lane C → Type 0) (T : Type 0) (old new : List (Lane C)) (i : ℕ) → AllZip P old new → i < length old → ((d : Lane C) → P (get_or old i d) (get_or new i d) → T) → T
+  pub lane_at : (P : Lane C → Lane C → Type 0) (T : Type 0) (old new : List (Lane C)) (i : ℕ) → AllZip P old new → i < length old → ((d : Lane C) → P (get_or old i d) (get_or new i d) → T) → T
   lane_at P T [] new i z lt then = absurd (omega arith)
   lane_at P T (x ∷ xs) new i z lt then = then x (AllZip-get_or P (x ∷ xs) new i x x z lt)
 

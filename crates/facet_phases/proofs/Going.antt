@@ -22,7 +22,8 @@ use Rattle.facet_phases.specs.Orders.{Answers}
 use Rattle.facet_words.specs.Sessions.CommandViews.{order_view}
 use Rattle.facet_phases.specs.Phases.{AreSpentWithin, answers_in, asked, in_phase}
 use Rattle.facet_phases.proofs.Belonging.{still_set}
-use Rattle.facet_phases.proofs.Stepping.{told_itself, ran_more, held_append, answers_append, asked_append, in_phase_append}
+use Rattle.facet_phases.proofs.Stepping.{ran_more, held_append, answers_append, asked_append, in_phase_append}
+use Rattle.facet_output.proofs.Gluing.{told_itself}
 
 -- these orders were carried out, by these steps
 pub record HasGone (settings : Settings) (phase : ℕ) (old now : Session) (orders : List Order) (steps : List Step) : Type 0 where

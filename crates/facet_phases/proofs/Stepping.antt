@@ -10,12 +10,8 @@ use Rattle.facet_output.specs.Answered.{Answered}
 use Rattle.facet_output.specs.Seen.{Seen, IsTold}
 use Rattle.facet_output.specs.Sessions.{SessionRan, held_by, own_steps}
 use Rattle.facet_output.specs.Steps.{Step, IsStep}
-use Rattle.facet_output.proofs.Chain.{sees_self}
-use Rattle.facet_output.proofs.Gluing.{session_append}
+use Rattle.facet_output.proofs.Gluing.{session_append, told_itself}
 use Rattle.facet_phases.specs.Phases.{answers_in, asked, in_phase}
-
-pub told_itself : (session : ℕ) (a : Seen) → IsTold session a a
-told_itself session a = record { sees = sees_self a; labels = refl; operations = refl; pairs = refl; commits = refl }
 
 -- one step more, which begins with what was seen
 pub ran_more : (settings : Settings) (session : ℕ) (held : Held) (seen now : Seen) (xs : List Step) (x : Step) → SessionRan settings session held seen xs now → x.before ≡ now → IsStep settings (held_by held xs) x

@@ -5,7 +5,7 @@ use Rattle.std.proofs.lemmas.List.{get_or-set_same, get_or-set_other}
 use native.Mathlib.Decide.{ℕ_discrete}
 use mathlib.Core.Logic.{dite}
 use Rattle.pair_manager.specs.declared.pass.Pass.{Pass}
-use Rattle.facet_output.proofs.Gluing.{told_more}
+use Rattle.facet_output.proofs.Gluing.{told_more, told_itself}
 use Rattle.facet_engine.specs.declared.notes.Notes.{Notes}
 use Rattle.facet_engine.specs.Ending.{NamesOwn}
 use Rattle.facet_engine.specs.Steps.{seen_of}
@@ -13,8 +13,8 @@ use Rattle.facet_engine.specs.Telling.{AreCounted}
 use Rattle.facet_output.specs.Seen.{Seen}
 use Rattle.facet_phases.specs.declared.lane.Lane.{Lane}
 use Rattle.facet_phases.specs.Lanes.{Gathers, LaneTold}
-use Rattle.facet_phases.proofs.Belonging.{pass_then, same_pass}
-use Rattle.facet_phases.proofs.Stepping.{told_itself}
+use Rattle.facet_phases.proofs.Belonging.{pass_then}
+use Rattle.facet_engine.proofs.SeenPairs.{same_pass}
 
 pub gathers_none : (a : Pass) → AreCounted a → Gathers a a
 gathers_none a counted = record { same = same_pass a; told = told_itself 0 (seen_of a); counted = counted; own = refl }

@@ -1,9 +1,9 @@
 -- The trace at the end: whose the operations are.
-use Rattle.std.proofs.Common.{◌≡◌, ◌∙◌, ℕ, ◌+◌, ◌-◌, ◌<◌, ◌≤◌, eqb, Bool, true, false, cond, List, [], ◌∷◌, length, map, get_or, refl, ap, subst, arith}
+use Rattle.std.proofs.Common.{◌≡◌, ◌∙◌, ℕ, ◌+◌, ◌-◌, ◌<◌, ◌≤◌, eqb, Bool, true, false, cond, List, [], ◌∷◌, length, map, refl, ap, subst, arith}
 use Rattle.std.specs.Prelude.{All, filter}
 use Rattle.std.specs.List.{AllZip}
 use Rattle.std.proofs.lemmas.Bool.{eq-eqb}
-use Rattle.std.proofs.lemmas.List.Elements.{All-cons, All-head, All-nil, All-tail, AllZip-get_or, length_all_zip}
+use Rattle.std.proofs.lemmas.List.Elements.{All-cons, All-head, All-nil, All-tail, length_all_zip}
 use native.Mathlib.Decide.{dec_lt}
 use mathlib.Core.Logic.{dite}
 use Rattle.facet_model.specs.Documents.{Doc}
@@ -19,6 +19,7 @@ use Rattle.pair_manager.specs.declared.pass.Pass.{Pass}
 use Rattle.facet_phases.specs.declared.lane.Lane.{Lane}
 use Rattle.facet_phases.specs.Lanes.{LaneTold}
 use Rattle.facet_phases.specs.Running.{AreReady}
+use Rattle.facet_phases.proofs.Finishing.{lane_at}
 
 -- an entry tells the session of this number
 abbrev Names : ℕ → ℕ × Operation → Type 0
@@ -61,10 +62,6 @@ sessions_are [] = refl
 sessions_are (e ∷ es) = ap (λ (l : List ℕ). e.0 ∷ l) (sessions_are es)
 
 module _ {C : Type 0} where
-  lane_of : (P : Lane C → Lane C → Type 0) (T : Type 0) (old new : List (Lane C)) (i : ℕ) → AllZip P old new → i < length old → ((d : Lane C) → P (get_or old i d) (get_or new i d) → T) → T
-  lane_of P T [] new i z lt then = absurd (omega arith)
-  lane_of P T (x ∷ xs) new i z lt then = then x (AllZip-get_or P (x ∷ xs) new i x x z lt)
-
   -- under each number that was given
   names_each : (engine : Engine) (first : Pass) (old new : List (Lane C)) (notes : Notes) → AreReady engine first old → AllZip (LaneTold (noted notes)) old new → All (λ (l : Lane C). NamesOwn l.session.number notes) new → NamesOwn 0 notes
       → (n : ℕ) → n ≤ length old → NamesOwn n notes
@@ -72,7 +69,7 @@ module _ {C : Type 0} where
       (λ above.
       let lt : n - 1 < length old = omega arith in
       let many = length_all_zip (LaneTold (noted notes)) old new z in
-      lane_of (LaneTold (noted notes)) (NamesOwn n notes) old new (n - 1) z lt
+      lane_at (LaneTold (noted notes)) (NamesOwn n notes) old new (n - 1) z lt
       (λ d t. subst (λ (k : ℕ). NamesOwn k notes) (t.same.0 ∙ ready.numbered (n - 1) d lt ∙ (let e : 1 + (n - 1) ≡ n = omega arith in e)) (named (n - 1) d (omega arith))))
       (λ none. let e : 0 ≡ n = omega arith in subst (λ (k : ℕ). NamesOwn k notes) e zero)
 

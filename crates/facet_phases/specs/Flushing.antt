@@ -7,16 +7,11 @@ use Rattle.facet_io.specs.Faults.{Rose}
 use Rattle.facet_output.specs.Answered.{Answered}
 use Rattle.facet_output.specs.OutputLines.{answered_line, reply_lines}
 use Rattle.facet_phases.specs.Moments.{Moment, Writes, WritesSome}
+use Rattle.facet_io.proofs.Pieces.{appends_then}
 
 pub appends_none : (old : Option (List ℕ)) → Appends old old []
 appends_none None = tt
 appends_none (Some xs) = sym (append-nil xs)
-
-pub appends_then : (old mid new : Option (List ℕ)) (a b : List ℕ) → Appends old mid a → Appends mid new b → Appends old new (a ++ b)
-appends_then None mid new a b p q = tt
-appends_then (Some xs) None new a b p q = absurd p
-appends_then (Some xs) (Some ys) None a b p q = absurd q
-appends_then (Some xs) (Some ys) (Some zs) a b p q = q ∙ ap (λ (t : List ℕ). t ++ b) p ∙ append_assoc xs a b
 
 -- a prefix of a later piece makes a prefix of all
 pub appends_some : (old mid new : Option (List ℕ)) (all front piece rest : List ℕ) (n : ℕ) → all ≡ front ++ (piece ++ rest) → Appends old mid front

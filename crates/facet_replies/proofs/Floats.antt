@@ -1,10 +1,10 @@
 -- No reply and no fault has a float.
-use Rattle.std.proofs.Common.{◌≡◌, ℕ, Bool, true, false, List, [], ◌∷◌, map, Some, None, refl}
+use Rattle.std.proofs.Common.{◌≡◌, ℕ, false, List, [], ◌∷◌, map, Some, None, refl}
 use Rattle.std.specs.Borrow.{Bor}
 use Rattle.std.specs.Cmp.Lexicographic.{slice_cmp}
 use Rattle.std.proofs.Common.{Ordering, Less, Equal, Greater}
 use Rattle.std.specs.Ordering.{nat_cmp, match_ordering}
-use Rattle.std.specs.Prelude.{◌||◌, ℤ, pos, negsuc, codes, drop}
+use Rattle.std.specs.Prelude.{ℤ, pos, negsuc, codes, drop}
 use Rattle.hex.specs.Hex.{encode_lower}
 use Rattle.serde_json.specs.Data.{Data, string, Members, no_members, member, put}
 use Rattle.serde_json.specs.Find.{of_integer, is_float}
@@ -22,6 +22,7 @@ use Rattle.facet_replies.specs.NamedFaults.{detail_field, named_fault_data}
 use Rattle.facet_replies.specs.Summaries.{Summary, summary_data}
 use Rattle.facet_replies.specs.declared.named_fault.Detail.{Detail}
 use Rattle.facet_replies.specs.declared.named_fault.Detail.TheVariants.{Text, Number, Digest}
+use Rattle.std.proofs.lemmas.Bool.{or_parts}
 
 children_plain : (cs : List PartCount) → items_have_float (items_of (map child_data cs)) ≡ false
 children_plain [] = refl
@@ -115,14 +116,10 @@ fault_plain faults.NoMemory = refl
 
 -- ---- a fault with details
 
-or_false : (a b : Bool) → (a || b) ≡ false → (a ≡ false) × (b ≡ false)
-or_false true b e = absurd cc
-or_false false b e = (refl, e)
-
 put_plain : (k : List ℕ) (d : Data) (ms : Members) → has_float d ≡ false → members_have_float ms ≡ false → members_have_float (put k d ms) ≡ false
 put_plain k d no_members plain none = rw plain refl
 put_plain k d (member l e ms) plain none =
-    let parts = or_false (has_float e) (members_have_float ms) none in
+    let parts = or_parts (has_float e) (members_have_float ms) none in
     by parts (put_plain k d ms plain parts.1) (slice_cmp nat_cmp k l)
   where
     by : (has_float e ≡ false) × (members_have_float ms ≡ false) → members_have_float (put k d ms) ≡ false → (o : Ordering)

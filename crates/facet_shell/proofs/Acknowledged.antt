@@ -29,10 +29,11 @@ use Rattle.store_opening.specs.Files.{greatest_number}
 use Rattle.store_opening.specs.Newest.{next_after}
 use Rattle.facet_shell.proofs.Adds.{right_of, shown_before}
 use Rattle.facet_shell.proofs.Commits.{durable_point, failed_before, failed_point}
-use Rattle.facet_shell.proofs.Counted.{written_few}
-use Rattle.facet_shell.proofs.Placed.{add_stands, all_among}
+use Rattle.facet_shell.proofs.Counted.{written_few, at_most}
+use Rattle.facet_shell.proofs.Placed.{add_stands}
 use Rattle.facet_shell.specs.Acknowledged.{AcknowledgedStays, CommitsAreAcknowledged, HasAdd, Holds, IsAcknowledged, IsHeld}
 use Rattle.facet_shell.specs.Runs.{CountsFault, Ran, SpendsFrom, points_of}
+use Rattle.facet_output.proofs.Gluing.{all_by}
 
 -- a point of the history of commits, as those who commit see it
 abbrev point : ℕ × Point → CommitPoint
@@ -58,7 +59,7 @@ module _ {D : Type 0} (ghosts : Ghosts D) (settings : Settings) (phases : List (
         recovers = h.recovers;
         many = many;
         labels = (p.0.1.labels, h.labels_from, p.4);
-        adds = all_among (HasAdd a found) ran.answered (λ b among doc place after b_is b_says.
+        adds = all_by (HasAdd a found) ran.answered (λ b among doc place after b_is b_says.
             let shown = shown_before settings phases ran.opened (labels_of ran.last) (history_of ran.last) ran.last.pairs ran.answered ran.right a b n there among stands after in
             let size = ap shows b_says in
             let r = add_stands ghosts settings phases trace old new ran b doc place among b_is b_says in
@@ -70,9 +71,6 @@ module _ {D : Type 0} (ghosts : Ghosts D) (settings : Settings) (phases : List (
 rose_on : (before some now : ℕ) → Rose before some → some ≤ now → Rose before now
 rose_on before some now (inl lt) le = inl (omega (arith, lt, le))
 rose_on before some now (inr most) le = inr (at_most (2 ^ 64 - 1) some now most le)
-  where
-    at_most : (m n k : ℕ) → m ≤ n → n ≤ k → m ≤ k
-    at_most m n k one two = omega (arith, one, two)
 
 -- numbers that are spent are 2^63 or more
 none_spent : (number next taken : ℕ) → 2 ^ 63 ≤ number → number < next + taken → next ≤ 2 ^ 62 → taken ≤ 1000003 * 4294967297 → ⊥
@@ -119,13 +117,13 @@ module _ {D : Type 0} (ghosts : Ghosts D) where
       let all : All (λ (p : CommitPoint). HoldsPoint settings.config (labels_of ran.last) (docs (history_of ran.last)) p c) (points_of ran.last.commits) =
       All-weaker (λ (p : CommitPoint). (c : Image) → ghosts.may_leave new c → HoldsPoint settings.config (labels_of ran.last) (docs (history_of ran.last)) p c)
       (λ (p : CommitPoint). HoldsPoint settings.config (labels_of ran.last) (docs (history_of ran.last)) p c) (λ p h. h c left) (points_of ran.last.commits) lasts.exit in
-      all_among (IsHeld settings ran.last ran.answered c) ran.answered (λ a there n is says. held ghosts settings phases trace old new ran c all a n there is says)
+      all_by (IsHeld settings ran.last ran.answered c) ran.answered (λ a there n is says. held ghosts settings phases trace old new ran c all a n there is says)
 
   pub commits_are_acknowledged : CommitsAreAcknowledged ghosts
   commits_are_acknowledged s phases trace old new t orders fewer tells from still ran =
       let written = written_few s.phases in
       let few : length (in_writing_order phases) ≤ 4294967296 = within (length (in_writing_order phases)) (length (in_writing_order s.phases)) (length (orders_in s.phases)) fewer written orders in
-      all_among IsAcknowledged ran.answered (λ a there. acknowledged ghosts s.settings phases trace old new ran still t tells from few a there)
+      all_by IsAcknowledged ran.answered (λ a there. acknowledged ghosts s.settings phases trace old new ran still t tells from few a there)
     where
       within : (some all orders : ℕ) → some ≤ all → all ≤ 64 * orders → orders ≤ 67108864 → some ≤ 4294967296
       within some all orders one two three = omega (arith, one, two, three)

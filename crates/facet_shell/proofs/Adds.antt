@@ -18,6 +18,7 @@ use Rattle.facet_replies.specs.Replies.{Reply, docs_full, no_memory, placed, ref
 use Rattle.facet_words.specs.Commands.{Settings}
 use Rattle.facet_words.specs.Sessions.Commands.{Command, Order, add}
 use Rattle.facet_shell.proofs.Lone.{in_filtered, is_placed}
+use Rattle.facet_output.proofs.Exact.{implied_so}
 
 -- ---- lists
 
@@ -172,12 +173,8 @@ module _ (settings : Settings) (phases : List (List Order)) (opened : Opened) (l
   shown_before a b n there among stands after =
       let fresh = wanted (stood a) (of_all (λ (x : Answered). option_map_or (is_fresh first (length history) answered x) (stood x) true) answered a o.fresh there) stands in
       let all = (and_parts _ (list_all (λ (x : Answered). not (comes_after a x) || nat_le (shows x.reply) n) answered) fresh).1 in
-      leb-true (shows b.reply) n (implied (comes_after a b) (nat_le (shows b.reply) n) (of_all (λ (x : Answered). not (comes_after a x) || nat_le (shows x.reply) n) answered b all among) after)
+      leb-true (shows b.reply) n (implied_so (comes_after a b) (nat_le (shows b.reply) n) (of_all (λ (x : Answered). not (comes_after a x) || nat_le (shows x.reply) n) answered b all among) after)
     where
       wanted : (q : Option ℕ) → option_map_or (is_fresh first (length history) answered a) q true ≡ true → q ≡ Some n → is_fresh first (length history) answered a n ≡ true
       wanted None h e = absurd cc
       wanted (Some m) h e = subst (λ (j : ℕ). is_fresh first (length history) answered a j ≡ true) (ap (λ (x : Option ℕ). unwrap_or x m) e) h
-
-      implied : (b c : Bool) → (not b || c) ≡ true → b ≡ true → c ≡ true
-      implied true c h e = h
-      implied false c h e = absurd cc

@@ -18,7 +18,7 @@ use Rattle.facet_model.specs.Results.{Answer, IsAnswer, dims_answer, top_answer}
 use Rattle.facet_names.proofs.LabelLists.{front_labels, label_at, place_at, stands_by_place}
 use Rattle.facet_names.specs.Labels.{IsLabelList, place, prefixes, stands}
 use Rattle.facet_output.proofs.Among.{In, at_in, of_all}
-use Rattle.facet_output.proofs.Fronts.{get_there, prefix_get, prefix_length, map_prefix, prefix_whole, take_prefix}
+use Rattle.facet_output.proofs.Fronts.{get_there, map_prefix, prefix_whole, take_prefix}
 use Rattle.facet_output.proofs.HeldPairs.{under_held}
 use Rattle.facet_output.proofs.Lifting.{still_knows}
 use Rattle.facet_output.specs.Answered.{Answered}
@@ -31,8 +31,10 @@ use Rattle.facet_replies.specs.Replies.{Reply, broken, docs_full, found, held_al
 use Rattle.facet_words.specs.Answers.{first_hits, hits_of, with_labels}
 use Rattle.facet_words.specs.Commands.{Search, Settings}
 use Rattle.facet_words.specs.Sessions.Commands.{Command, Order, add, commit, document, hold, refresh, release, search, stats}
-use Rattle.facet_shell.proofs.Lone.{Goes, State, after, all_known, goes_on, is_in, labels_begin}
+use Rattle.facet_shell.proofs.Lone.{Goes, State, after, goes_on, is_in, labels_begin}
 use Rattle.facet_shell.specs.Alike.{AreAlike, IsOfStore, is_plain}
+use Rattle.facet_output.proofs.Served.{all_known}
+use Rattle.chronicle.proofs.Prefixes.{prefix_length, prefix_get}
 
 -- ---- add
 

@@ -17,7 +17,7 @@ use Rattle.facet_output.specs.OutputLines.{last_line, reply_lines}
 use Rattle.facet_output.specs.Seen.{Seen, history_of, labels_of}
 use Rattle.facet_output.specs.Sessions.{answers_of, steps_of}
 use Rattle.facet_output.specs.Steps.{Step}
-use Rattle.facet_phases.specs.Flushing.{appends_some, appends_then}
+use Rattle.facet_phases.specs.Flushing.{appends_some}
 use Rattle.facet_phases.specs.Moments.{Moment, Writes, WritesSome, moment}
 use Rattle.facet_phases.specs.Phases.{asked}
 use Rattle.facet_phases.specs.Runs.{EndedSo, HasRun, IsCutOff}
@@ -39,6 +39,7 @@ use Rattle.facet_shell.specs.Serving.{EndsAs, IsCarried, Serves}
 use Rattle.facet_shell.specs.Statuses.{status_line}
 use Rattle.facet_shell.specs.declared.status.Status.{Status}
 use Rattle.facet_shell.specs.declared.status.Status.TheVariants.{NoMemory}
+use Rattle.facet_io.proofs.Pieces.{appends_then}
 
 -- in each case some phases ran
 pub some_ran : (settings : Settings) (opened : Opened) (first : Pass) (last : Seen) (Flushes Breaks : List Answered → Type 0) (all : List (List Order)) (result : Result (Unit {0}) PhaseFault)

@@ -1,12 +1,11 @@
 -- How many orders a script has at most: by its bytes, and by the documents that are generated.
-use Rattle.std.proofs.Common.{◌≡◌, ℕ, suc, ◌+◌, ◌*◌, ◌≤◌, eqb, Bool, true, false, cond, List, [], ◌∷◌, length, map, Option, Some, None, Result, Ok, Err, refl, subst, arith, length-append}
+use Rattle.std.proofs.Common.{◌≡◌, ℕ, suc, ◌+◌, ◌*◌, ◌≤◌, eqb, Bool, true, false, cond, List, [], ◌∷◌, length, map, Option, Some, None, Ok, subst, arith, length-append}
 use Rattle.std.specs.Prelude.{◌==◌, if◌then◌else◌, filter, flat_map}
 use Rattle.std.specs.List.{enumerate_from, range_with_len}
 use Rattle.std.proofs.lemmas.List.{length-map}
 use Rattle.std.proofs.lemmas.List.FromFn.{length-map-range_with_len}
 use Rattle.std.proofs.lemmas.Nat.{row_fits}
 use Rattle.facet_output.specs.Answered.{by_session, in_writing_order}
-use Rattle.facet_replies.specs.declared.fault.ScriptFault.{ScriptFault}
 use Rattle.facet_words.specs.Lines.{lines_of, onto_first}
 use Rattle.facet_words.specs.Scripts.{◌>>=◌, config_at}
 use Rattle.facet_words.specs.Sessions.Commands.{Order, Script}
@@ -14,6 +13,7 @@ use Rattle.facet_words.specs.Sessions.Laws.{orders_in}
 use Rattle.facet_words.specs.Sessions.Scripts.{Phases, before, line_at, phases_from, phases_of, script, script_of}
 use Rattle.generator.specs.Generated.{add_order, closing_orders, generated, generated_phases}
 use Rattle.facet_shell.specs.Acknowledged.{HaveFewOrders}
+use Rattle.facet_words.proofs.Rising.{first_then, of_ok}
 
 -- ---- lines
 
@@ -33,13 +33,6 @@ lines_few (b ∷ bs) = by (eqb b 10) (lines_few bs)
     by false le = onto_none b (lines_of bs) (length bs) le
 
 -- ---- orders
-
-first_then : {A B : Type 0} (r : Result A ScriptFault) (f : A → Result B ScriptFault) (y : B) → (r >>= f) ≡ Ok y → (x : A) × (r ≡ Ok x) × (f x ≡ Ok y)
-first_then (Err e) f y is = absurd cc
-first_then (Ok x) f y is = (x, refl, is)
-
-of_ok : {A : Type 0} {a b : A} → ◌≡◌ {A = Result A ScriptFault} (Ok a) (Ok b) → a ≡ b
-of_ok e = cc
 
 abbrev many_in : Phases → ℕ
 many_in p = length p.0 + length (orders_in p.1)
@@ -86,7 +79,7 @@ generated_orders documents sessions =
 few_with : (n documents : ℕ) → n ≡ documents + 4 → documents ≤ 1000000 → n ≤ 67108864
 few_with n documents is le = omega (arith, is, le)
 
-at_most : (m n k : ℕ) → m ≤ n → n ≤ k → m ≤ k
+pub at_most : (m n k : ℕ) → m ≤ n → n ≤ k → m ≤ k
 at_most m n k one two = omega (arith, one, two)
 
 pub have_few : HaveFewOrders

@@ -1,20 +1,19 @@
 -- What a session that runs alone has before each of its orders.
 use Rattle.std.proofs.Common.{◌≡◌, ◌∙◌, inl, inr, ⊎_elim, ℕ, zero, suc, ◌+◌, ◌≤◌, ◌<◌, eqb, Bool, true, false, cond, List, [], ◌∷◌, ◌++◌, length, map, take, drop, Option, Some, None, slice_get, refl, sym, ap, subst, arith, length-append}
-use Rattle.std.specs.Prelude.{filter, filter_map, flat_map, fold, if◌then◌else◌, is_none, unwrap_or, nat_le, option_map, option_to_list}
+use Rattle.std.specs.Prelude.{filter, filter_map, flat_map, if◌then◌else◌, is_none, unwrap_or, nat_le, option_map, option_to_list}
 use Rattle.std.specs.List.{list_all, enumerate_from, cons_option}
 use Rattle.std.proofs.lemmas.Bool.{and_from, and_parts, eq-eqb, leb-true, le-leb}
 use Rattle.std.proofs.lemmas.List.{length-map, map-append, take-append-drop}
 use Rattle.std.proofs.lemmas.List.Folds.{list_all-append}
 use mathlib.Core.List.{IsPrefix}
-use Rattle.facet_names.specs.Labels.{prefixes, stands, with_label}
+use Rattle.facet_names.specs.Labels.{prefixes}
 use Rattle.facet_model.proofs.Fronts.{weaker}
 use Rattle.facet_model.specs.Accepts.{Broken, first_broken}
 use Rattle.facet_model.specs.Documents.{Doc}
 use Rattle.facet_model.specs.Histories.{Operation, docs, is_pair, knows}
-use Rattle.facet_output.proofs.Among.{In, all_in, in_left, in_right, of_all, of_filter}
+use Rattle.facet_output.proofs.Among.{In, all_in, of_all, of_filter}
 use Rattle.facet_output.proofs.Exact.{filter_all, refreshed_stood}
-use Rattle.facet_output.proofs.Fronts.{prefix_length, prefix_self, prefix_shorter, prefix_trans}
-use Rattle.facet_output.proofs.Growing.{all_stand, prefix_snoc}
+use Rattle.facet_output.proofs.Growing.{prefix_snoc, begins_fold}
 use Rattle.facet_output.proofs.Lifting.{still_knows}
 use Rattle.facet_output.specs.Answered.{Answered, is_of, of_session}
 use Rattle.facet_output.specs.Held.{Held, after_command, is_numbered}
@@ -26,6 +25,9 @@ use Rattle.facet_replies.specs.Replies.{Reply, found, numbered, placed, refused,
 use Rattle.facet_words.specs.Answers.{with_labels}
 use Rattle.facet_words.specs.Commands.{Settings}
 use Rattle.facet_words.specs.Sessions.Commands.{Command, Order, add, commit, document, hold, refresh, release, search, stats}
+use Rattle.generator.specs.Summaries.{is_placed as tells_place}
+use Rattle.facet_output.proofs.Served.{all_known}
+use Rattle.chronicle.proofs.Prefixes.{prefix_self, prefix_trans, prefix_length, prefix_shorter}
 
 -- the labels and the operations, how many of both the last refresh took, and the pairs that are held
 pub record State : Type 0 where
@@ -77,21 +79,6 @@ with_label_begins : (labels : List (List (List ℕ))) (p : List (List ℕ)) (b :
 with_label_begins labels p true = prefix_self labels
 with_label_begins labels p false = (p ∷ [], refl)
 
-all_begin : (paths labels : List (List (List ℕ))) → IsPrefix labels (fold with_label labels paths)
-all_begin [] labels = prefix_self labels
-all_begin (p ∷ paths) labels = prefix_trans labels (with_label labels p) (fold with_label labels (p ∷ paths)) (with_label_begins labels p (stands labels p)) (all_begin paths (with_label labels p))
-
-among_all : (paths : List (List (List ℕ))) (label p : List (List ℕ)) → In label paths → In p (prefixes label) → In p (flat_map prefixes paths)
-among_all [] label p there among = absurd there
-among_all (q ∷ paths) label p there among = ⊎_elim
-    (λ is. in_left (prefixes q) (flat_map prefixes paths) p (subst (λ (l : List (List ℕ)). In p (prefixes l)) is among))
-    (λ later. in_right (prefixes q) (flat_map prefixes paths) p (among_all paths label p later among)) there
-
--- all prefixes of a document's labels stand where each was added that was missing
-pub all_known : (labels : List (List (List ℕ))) (doc : Doc) → knows (with_labels labels doc) doc ≡ true
-all_known labels doc = all_in (λ label. list_all (stands (with_labels labels doc)) (prefixes label)) doc.labels
-    (λ label there. all_in (stands (with_labels labels doc)) (prefixes label) (λ p among. all_stand (flat_map prefixes doc.labels) labels p (among_all doc.labels label p there among)))
-
 module _ (settings : Settings) (labels : List (List (List ℕ))) where
   same_begins : (next : List (List (List ℕ))) → next ≡ labels → IsPrefix labels next
   same_begins next is = subst (λ (l : List (List (List ℕ))). IsPrefix labels l) (sym is) (prefix_self labels)
@@ -100,7 +87,7 @@ module _ (settings : Settings) (labels : List (List (List ℕ))) where
   first_begins doc reply next first =
       let all : List (List (List ℕ)) = with_labels labels doc in
       let cut : IsPrefix (take (length next) all) all = (drop (length next) all, take-append-drop (length next) all) in
-      prefix_shorter labels next all (all_begin (flat_map prefixes doc.labels) labels) (subst (λ (l : List (List (List ℕ))). IsPrefix l all) (sym first.first) cut) first.low
+      prefix_shorter labels next all (begins_fold (flat_map prefixes doc.labels) labels) (subst (λ (l : List (List (List ℕ))). IsPrefix l all) (sym first.first) cut) first.low
 
   add_begins : (doc : Doc) (reply : Reply) (next : List (List (List ℕ))) (o : Option Broken) → AddLeaves settings labels doc o reply next → IsPrefix labels next
   add_begins doc reply next (Some b) leaves = same_begins next leaves
@@ -122,11 +109,6 @@ labels_begin settings labels taken (a ∷ later) last exact = prefix_trans label
     (labels_begin settings exact.0 (if is_none (refreshed a) then taken else length labels) later last exact.3)
 
 -- ---- an operation that was placed
-
--- the reply tells a place
-abbrev tells_place : Reply → Bool
-tells_place (placed at) = true
-tells_place _ = false
 
 module _ (settings : Settings) (labels before next : List (List (List ℕ))) (history : List Operation) (held : Held) (session : ℕ) (took : Option (ℕ × ℕ)) where
   -- it is the session's operation at its place, and the labels that were left know its document

@@ -1,7 +1,5 @@
 -- What becomes of the adds of a run.
-use Rattle.std.proofs.Common.{◌≡◌, ◌∙◌, inl, inr, ℕ, ◌≤◌, List, [], ◌∷◌, length, Some, slice_get, refl, ap}
-use Rattle.std.specs.Prelude.{All}
-use Rattle.std.proofs.lemmas.List.Elements.{All-cons, All-nil}
+use Rattle.std.proofs.Common.{◌≡◌, ◌∙◌, ℕ, ◌≤◌, List, length, Some, slice_get, ap}
 use Rattle.facet_disk.specs.declared.disk.Disk.{Ghosts}
 use Rattle.facet_engine.specs.declared.ending.Trace.{Trace}
 use Rattle.facet_model.specs.Documents.{Doc}
@@ -17,11 +15,7 @@ use Rattle.facet_words.specs.Sessions.Commands.{Order, add}
 use Rattle.facet_shell.proofs.Adds.{each_once, placed_or, stands_there}
 use Rattle.facet_shell.specs.Added.{AddsArePlaced, EachAddStands, EachIsAddedOnce, IsPlacedWhereItFits, Stands}
 use Rattle.facet_shell.specs.Runs.{Ran}
-
--- what holds of each that is among them holds of all
-pub all_among : {A : Type 0} (P : A → Type 0) (xs : List A) → ((x : A) → In x xs → P x) → All P xs
-all_among P [] each = All-nil P
-all_among P (x ∷ xs) each = All-cons P x xs (each x (inl refl)) (all_among P xs (λ y there. each y (inr there)))
+use Rattle.facet_output.proofs.Gluing.{all_by}
 
 -- the operation of an add that was placed
 pub operation_is : (a : Answered) (doc : Doc) (place : ℕ) → a.order.command ≡ add doc → a.reply ≡ placed place → placed_operation a ≡ Some (place, record { session = a.order.session; doc = doc })
@@ -46,8 +40,8 @@ module _ {D : Type 0} (ghosts : Ghosts D) where
   )
 
   pub each_add_stands : EachAddStands ghosts
-  each_add_stands settings phases trace old new ran = all_among (Stands ran.opened ran.last trace) ran.answered (λ a there doc place is says. add_stands ghosts settings phases trace old new ran a doc place there is says)
+  each_add_stands settings phases trace old new ran = all_by (Stands ran.opened ran.last trace) ran.answered (λ a there doc place is says. add_stands ghosts settings phases trace old new ran a doc place there is says)
 
   pub adds_are_placed : AddsArePlaced ghosts
-  adds_are_placed settings phases trace old new ran = all_among (IsPlacedWhereItFits settings ran.last) ran.answered (λ a there doc is accepted fits.
+  adds_are_placed settings phases trace old new ran = all_by (IsPlacedWhereItFits settings ran.last) ran.answered (λ a there doc is accepted fits.
       placed_or settings phases ran.opened (labels_of ran.last) (history_of ran.last) ran.last.pairs ran.answered ran.right a doc there is accepted fits)

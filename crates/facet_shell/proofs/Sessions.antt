@@ -13,7 +13,6 @@ use Rattle.facet_output.proofs.Alone.{one_session_has_its_labels}
 use Rattle.facet_output.proofs.Among.{In, all_at}
 use Rattle.facet_output.proofs.Assembled.{sessions_give_output}
 use Rattle.facet_output.proofs.Exact.{one_session_is_exact}
-use Rattle.facet_output.proofs.Fronts.{prefix_length}
 use Rattle.facet_output.proofs.Known.{facts}
 use Rattle.facet_output.proofs.Points.{commits_have_points}
 use Rattle.facet_output.proofs.Served.{one_session_is_served}
@@ -27,6 +26,7 @@ use Rattle.facet_words.specs.Sessions.Commands.{Order}
 use Rattle.store_opening.specs.Files.{greatest_number}
 use Rattle.store_opening.specs.Newest.{next_after}
 use Rattle.facet_shell.specs.Runs.{IsAlone, IsTraceOf, Keeps, Opens, Ran, SpendsFrom}
+use Rattle.chronicle.proofs.Prefixes.{prefix_length}
 
 orders_are : (xs : List Step) → map (λ (x : Step). x.answered.order) xs ≡ map (λ a. a.order) (map (λ (x : Step). x.answered) xs)
 orders_are [] = refl

@@ -10,7 +10,7 @@ use Rattle.facet_output.proofs.Ordered.{from_phase}
 use Rattle.facet_output.specs.Answered.{Answered, by_session, in_writing_order}
 use Rattle.facet_output.specs.OutputLines.{reply_lines}
 use Rattle.facet_output.specs.Steps.{Step}
-use Rattle.facet_phases.specs.Phases.{asked}
+use Rattle.facet_phases.specs.Phases.{asked, answers_in}
 use Rattle.facet_phases.specs.Runs.{IsCutOff}
 use Rattle.facet_words.specs.Sessions.Commands.{Order}
 use Rattle.facet_shell.specs.Runs.{lines_before}
@@ -40,11 +40,8 @@ none_left p (x ∷ xs) each = by (p x) (each x (inl refl)) (none_left p xs (λ y
     by true is rest = absurd (cc is)
     by false is rest = rest
 
-abbrev pub answers : List Step → List Answered
-answers steps = map (λ (x : Step). x.answered) steps
-
 -- an answered order has its phase and its order among those that were asked
-key_in : (xs : List Step) (a : Answered) (keys : List (ℕ × Order)) → asked xs ≡ keys → In a (answers xs) → In (a.phase, a.order) keys
+key_in : (xs : List Step) (a : Answered) (keys : List (ℕ × Order)) → asked xs ≡ keys → In a (answers_in xs) → In (a.phase, a.order) keys
 key_in xs a keys is there =
     let key : Step → ℕ × Order = λ x. (x.answered.phase, x.answered.order) in
     let r = of_map (λ (x : Step). x.answered) xs a there in
@@ -59,7 +56,7 @@ module _ (all : List (List Order)) (many : ℕ) where
   size = let l = length-take many all in omega (arith, l)
 
   -- they are of the phases before
-  pub below : (xs : List Step) → asked xs ≡ in_writing_order (take many all) → (a : Answered) → In a (answers xs) → nat_lt a.phase many ≡ true
+  pub below : (xs : List Step) → asked xs ≡ in_writing_order (take many all) → (a : Answered) → In a (answers_in xs) → nat_lt a.phase many ≡ true
   below xs is a there =
       let r = in_phases 0 (take many all) (a.phase, a.order) (key_in xs a (in_writing_order (take many all)) is there) in
       let lt : a.phase < many = let s = size in omega (arith, r.1, s) in
@@ -80,7 +77,7 @@ module _ (all : List (List Order)) (many : ℕ) where
 
   -- those of the part that was cut off are not
   beyond : (short : List (List Order)) (xs ys : List Step) → IsCutOff all many short → asked xs ≡ in_writing_order (take many all) → asked (xs ++ ys) ≡ in_writing_order (take many all ++ short)
-      → (a : Answered) → In a (answers ys) → nat_lt a.phase many ≡ false
+      → (a : Answered) → In a (answers_in ys) → nat_lt a.phase many ≡ false
   beyond short xs ys cut first both a there =
       let key : Step → ℕ × Order = λ x. (x.answered.phase, x.answered.order) in
       let n : ℕ = length (take many all) in
@@ -92,10 +89,10 @@ module _ (all : List (List Order)) (many : ℕ) where
       le-ltb a.phase many ge
 
   pub lines_whole : (short : List (List Order)) (xs ys : List Step) → IsCutOff all many short → asked xs ≡ in_writing_order (take many all) → asked (xs ++ ys) ≡ in_writing_order (take many all ++ short)
-      → lines_before many (answers (xs ++ ys)) ≡ reply_lines (answers xs)
+      → lines_before many (answers_in (xs ++ ys)) ≡ reply_lines (answers_in xs)
   lines_whole short xs ys cut first both =
       let before : Answered → Bool = λ a. nat_lt a.phase many in
       ap (λ l. reply_lines (filter before l)) (map-append (λ (x : Step). x.answered) xs ys)
-      ∙ ap reply_lines (filter-append before (answers xs) (answers ys)
-      ∙ (λ i. filter_all before (answers xs) (all_in before (answers xs) (below xs first)) i ++ none_left before (answers ys) (beyond short xs ys cut first both) i)
-      ∙ append-nil (answers xs))
+      ∙ ap reply_lines (filter-append before (answers_in xs) (answers_in ys)
+      ∙ (λ i. filter_all before (answers_in xs) (all_in before (answers_in xs) (below xs first)) i ++ none_left before (answers_in ys) (beyond short xs ys cut first both) i)
+      ∙ append-nil (answers_in xs))

@@ -13,18 +13,16 @@ use Rattle.facet_words.specs.Sessions.Commands.{Command, Order}
 use Rattle.facet_words.specs.Sessions.Laws.{lines_rise, orders_in, AreInOrder}
 use Rattle.facet_words.specs.Sessions.Orders.{command_of}
 use Rattle.facet_words.specs.Sessions.Scripts.{in_session, order_of, ends_phase, line_of, line_at, Phases, before, phases_from, phases_of}
+use Rattle.std.proofs.lemmas.Option.{same_Some}
 
 -- ---- what was read, step by step
 
-first_then : {A B : Type 0} (r : Result A ScriptFault) (f : A → Result B ScriptFault) (y : B) → (r >>= f) ≡ Ok y → (x : A) × (r ≡ Ok x) × (f x ≡ Ok y)
+pub first_then : {A B : Type 0} (r : Result A ScriptFault) (f : A → Result B ScriptFault) (y : B) → (r >>= f) ≡ Ok y → (x : A) × (r ≡ Ok x) × (f x ≡ Ok y)
 first_then (Err e) f y is = absurd cc
 first_then (Ok x) f y is = (x, refl, is)
 
-of_ok : {A : Type 0} {a b : A} → ◌≡◌ {A = Result A ScriptFault} (Ok a) (Ok b) → a ≡ b
+pub of_ok : {A : Type 0} {a b : A} → ◌≡◌ {A = Result A ScriptFault} (Ok a) (Ok b) → a ≡ b
 of_ok e = cc
-
-of_some : {A : Type 0} {a b : A} → Some a ≡ Some b → a ≡ b
-of_some e = cc
 
 -- the order is of this line, and its session is one
 record IsOrderOf (line : ℕ) (o : Order) : Type 0 where
@@ -52,7 +50,7 @@ line_order line d o is = by (ends_phase d) is
     by true is = absurd cc
     by false is =
         let t = first_then (order_of line d) (λ o. Ok (Some o)) (Some o) is in
-        subst (IsOrderOf line) (of_some (of_ok t.2)) (data_order line d t.0 t.1)
+        subst (IsOrderOf line) (same_Some _ _ (of_ok t.2)) (data_order line d t.0 t.1)
 
 bytes_order : (line : ℕ) (bytes : List ℕ) (o : Order) → line_at line bytes ≡ Ok (Some o) → IsOrderOf line o
 unfolding line_at

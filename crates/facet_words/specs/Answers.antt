@@ -93,7 +93,7 @@ numbers_of shelf = numbers (record { operations = shelf.taken; labels = shelf.ta
 
 -- ---- commit
 
--- all documents are durable
+-- acknowledged with the number of all documents
 abbrev pub IsDurable : Shelf → Reply → Shelf → Type 0
 IsDurable shelf reply next = (reply ≡ numbered (length shelf.docs)) × (next ≡ shelf)
 

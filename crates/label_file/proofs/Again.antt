@@ -13,14 +13,11 @@ use Rattle.facet_codec.specs.Faults.{fault_at}
 use Rattle.facet_codec.specs.Spelling.{be32, text}
 use Rattle.facet_codec.specs.Reading.{u32_at, text_at}
 use Rattle.facet_codec.specs.Laws.{ReadsBack, IsBelow, IsText}
-use Rattle.facet_codec.proofs.Taking.{told_read_back}
+use Rattle.facet_codec.proofs.Taking.{told_read_back, place_at as from}
 use Rattle.facet_codec.proofs.EachKind.{u32_read_back, text_read_back}
 use Rattle.label_file.specs.LabelBytes.{IsStorable, parent_ordinal, label_bytes, labels_bytes}
 use Rattle.label_file.specs.LabelReading.{codec, path_below, behind, head_at, parent_at, label_at, labels_at, stored_labels}
 use Rattle.label_file.proofs.Below.{below_again}
-
-abbrev from : ℕ → List ℕ → Place
-from at rest = record { at = at; rest = rest }
 
 -- ---- numbers and texts
 

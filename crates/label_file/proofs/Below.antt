@@ -2,18 +2,13 @@
 use Rattle.std.proofs.Common.{◌≡◌, ℕ, ◌<◌, Bool, true, false, ◌||◌, cond, List, [], ◌∷◌, ◌++◌, length, slice_get, Option, Some, None, is_some, refl, sym, ap, ◌∙◌}
 use Rattle.std.specs.Prelude.{option_and_then}
 use Rattle.std.specs.Option.{option_map}
-use Rattle.std.proofs.lemmas.List.Folds.{list_any_at}
-use Rattle.std.proofs.lemmas.Option.{slice_get-get_or, slice_get_within, get_or_from_slice_get}
+use Rattle.std.proofs.lemmas.Option.{slice_get-get_or}
 use Rattle.facet_names.specs.declared.fault.PathFault.{PathFault}
-use Rattle.facet_names.specs.Paths.{path_eq, path_eq_equiv, last_part}
+use Rattle.facet_names.specs.Paths.{last_part}
 use Rattle.facet_names.specs.Faults.{path_fault, IsPath}
 use Rattle.facet_names.specs.Labels.{IsLabelList, above, stands}
 use Rattle.facet_names.proofs.LabelLists.{some_label, root_first, above_more, last_more, split_last}
 use Rattle.label_file.specs.LabelReading.{joined, addable, path_below}
-
--- the label at an ordinal stands
-pub label_stands : (labels : List (List (List ℕ))) (k : ℕ) (path : List (List ℕ)) → slice_get labels k ≡ Some path → stands labels path ≡ true
-label_stands labels k path at = list_any_at (path_eq path) labels k [] (slice_get_within labels k path at) (ap (path_eq path) (get_or_from_slice_get labels k path [] at) ∙ path_eq_equiv.refl path)
 
 -- a component below the root is a path of its own
 pub joined_root : (labels : List (List (List ℕ))) (part : List ℕ) → IsLabelList labels → joined labels 0 part ≡ Some (part ∷ [])

@@ -4,7 +4,7 @@ use Rattle.std.specs.List.{flat_map}
 use Rattle.std.proofs.lemmas.List.{append-nil, get_or_append_left}
 use Rattle.std.proofs.lemmas.Option.{slice_get-get_or, slice_get_within, get_or_from_slice_get}
 use Rattle.facet_names.specs.Labels.{IsLabelList, above, place}
-use Rattle.facet_names.proofs.LabelLists.{one_more_label, place_at}
+use Rattle.facet_names.proofs.LabelLists.{one_more_label, place_at, label_stands}
 use Rattle.facet_codec.specs.Places.{Place, IsBytes}
 use Rattle.facet_codec.specs.Faults.{fault_at}
 use Rattle.facet_codec.specs.Spelling.{be32, text}
@@ -16,7 +16,7 @@ use Rattle.label_file.specs.declared.fault.LabelsFault.{LabelsFault}
 use Rattle.label_file.specs.declared.fault.LabelsFault.TheVariants.{Malformed, NoMemory}
 use Rattle.label_file.specs.LabelBytes.{label_bytes}
 use Rattle.label_file.specs.LabelReading.{Fails, codec, or_fault, path_below, parent_at, label_at, labels_at}
-use Rattle.label_file.proofs.Below.{IsBelow, below_is, label_stands}
+use Rattle.label_file.proofs.Below.{IsBelow, below_is}
 
 -- ---- a loop that reads label after label; i of n were read
 

@@ -1,6 +1,6 @@
 -- Components below a path, counted document by document.
 use Rattle.std.proofs.Common.{◌≡◌, ℕ, ◌+◌, ◌<◌, ◌≤◌, Bool, true, false, cond, List, [], ◌∷◌, ◌++◌, length, take, get_or, Option, Some, None, unwrap_or, is_eq, refl, sym, ap, ◌∙◌, arith}
-use Rattle.std.specs.Prelude.{count_by, ◌&&◌, ◌||◌, IfSome}
+use Rattle.std.specs.Prelude.{count_by, ◌||◌, IfSome}
 use Rattle.std.specs.Ordering.{nat_cmp}
 use Rattle.std.proofs.lemmas.Map.Text.{is_eq-slice_cmp}
 use Rattle.std.specs.List.{list_any}
@@ -14,6 +14,7 @@ use Rattle.facet_names.specs.Paths.{is_under}
 use Rattle.facet_model.specs.Documents.{Doc, has, count}
 use Rattle.label_tests.specs.Plain.{child_of, with_part}
 use Rattle.facet_model.proofs.Unique.{one_if}
+use Rattle.std.proofs.Math.Bool.{and-true}
 
 abbrev pub below : List (List ℕ) → List ℕ → List (List ℕ) → Bool
 below path q label = is_under label (path ++ q ∷ [])
@@ -22,14 +23,10 @@ below path q label = is_under label (path ++ q ∷ [])
 abbrev is_child_part : List (List ℕ) → List ℕ → List (List ℕ) → Bool
 is_child_part path q label = option_map_or (bytes_eq q) (child_of path label) false
 
-and_true : (b : Bool) → (b && true) ≡ b
-and_true true = refl
-and_true false = refl
-
 -- a label is under a longer path where its component behind the path is the last of that
 pub under_child : (path label : List (List ℕ)) (q : List ℕ) → below path q label ≡ is_child_part path q label
 under_child [] [] q = refl
-under_child [] (c ∷ cs) q = and_true (bytes_eq q c)
+under_child [] (c ∷ cs) q = and-true (bytes_eq q c)
 under_child (p ∷ ps) [] q = refl
 under_child (p ∷ ps) (c ∷ cs) q = by (bytes_eq p c) refl (under_child ps cs q)
   where

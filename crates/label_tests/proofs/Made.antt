@@ -1,11 +1,11 @@
 -- A listing made of a map's entries, sorted.
-use Rattle.std.proofs.Common.{◌≡◌, ℕ, ◌+◌, ◌<◌, Bool, true, false, cond, ltb, is_eq, Less, Ordering, List, [], ◌∷◌, length, map, get_or, Option, Some, None, unwrap_or, option_map, sum_by, refl, sym, ap, ◌∙◌, arith}
+use Rattle.std.proofs.Common.{◌≡◌, ℕ, ◌+◌, ◌<◌, Bool, true, false, cond, ltb, is_eq, Less, List, [], ◌∷◌, map, get_or, Option, Some, None, unwrap_or, option_map, sum_by, refl, sym, ap, ◌∙◌, arith}
 use Rattle.std.specs.Prelude.{All, IfSome, is_some}
 use Rattle.std.specs.List.{AllByRecursion}
 use Rattle.std.specs.List.Sorted.{IsSorted, IsPermutation, IsStrictlySortedBy}
 use Rattle.std.specs.Map.{keys_of, values_of, lookup}
 use Rattle.std.specs.BTreeMap.{is_at, insert_entry}
-use Rattle.std.specs.Ordering.{nat_cmp, on, flip_args, then_cmp}
+use Rattle.std.specs.Ordering.{nat_cmp}
 use Rattle.std.specs.Cmp.Lexicographic.{slice_cmp, bytes_decides, nat_list_cmp_total}
 use Rattle.std.specs.Cmp.{eq_by_cmp_equiv}
 use Rattle.std.specs.Str.{bytes_eq}
@@ -14,13 +14,13 @@ use Rattle.std.proofs.lemmas.Option.{slice_get-get_or}
 use Rattle.std.proofs.lemmas.Map.Keys.{IsDistinct-from_sorted}
 use Rattle.std.proofs.lemmas.Bool.{lt-ltb}
 use Rattle.std.proofs.lemmas.Map.Text.{is_eq-slice_cmp}
-use Rattle.std.proofs.lemmas.List.{get_or-map, length-map}
 use Rattle.std.proofs.lemmas.List.Sums.{sum_by-cons}
 use Rattle.std.proofs.lemmas.List.Sorted.{IsPermutation-map, All-permutation, sum_by-IsPermutation}
-use Rattle.facet_model.specs.Listing.{PartCount, IsListing, counted_child, listing_cmp}
+use Rattle.facet_model.specs.Listing.{PartCount, IsListing, counted_child}
 use Rattle.facet_model.specs.Words.{word_cmp}
 use Rattle.facet_model.specs.declared.result.Child.{Child}
 use Rattle.facet_model.proofs.Unique.{times, times-cons, one_if}
+use Rattle.facet_counts.proofs.Listed.{child_cmp, ordered_images}
 
 abbrev at_word : List ℕ → List ℕ → Bool
 at_word q k = is_eq (slice_cmp nat_cmp q k)
@@ -55,17 +55,6 @@ count_at q (e ∷ es) s =
 once_of : (o : Option ℕ) (n : ℕ) → unwrap_or o 0 ≡ n → IfSome o (λ m. 0 < m) → one_if (is_some o) ≡ one_if (ltb 0 n)
 once_of None n e h = rw (← e) refl
 once_of (Some m) n e h = let t : ltb 0 n ≡ true = lt-ltb 0 n (omega arith) in rw t refl
-
-abbrev child_cmp : Child → Child → Ordering
-child_cmp = then_cmp (flip_args (on (λ (c : Child). c.count) nat_cmp)) (on (λ c. c.part) (slice_cmp nat_cmp))
-
-ordered_images : (ys : List Child) → IsSorted child_cmp ys → IsSorted listing_cmp (map counted_child ys)
-ordered_images [] h = λ k d low high. absurd (omega arith)
-ordered_images (y ∷ ys) h = λ k d low high.
-    let long : k + 1 < length (y ∷ ys) = omega (arith, length-map (y ∷ ys) counted_child) in
-    let here = get_or-map counted_child (y ∷ ys) k y d (omega arith) in
-    let next = get_or-map counted_child (y ∷ ys) (k + 1) y d long in
-    rw (here, next) (h k y low long)
 
 -- the count of each entry is what a look-up of its key gives
 counts_at : (es : List PartCount) (count_of : List ℕ → ℕ) → IsStrictlySortedBy word_cmp (keys_of es) → ((q : List ℕ) → unwrap_or (lookup (at_word q) es) 0 ≡ count_of q) → All (λ c. c.1 ≡ count_of c.0) es

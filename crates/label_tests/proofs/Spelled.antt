@@ -4,12 +4,12 @@ use Rattle.std.proofs.lemmas.List.{flat_map_more, take_more}
 use Rattle.facet_codec.specs.Spelling.{be32}
 use Rattle.facet_codec.specs.Laws.{IsBelow}
 use Rattle.seg_postings.specs.Bytes.{AreNumbers}
-use Rattle.seg_postings.proofs.Written.{all_push}
+use Rattle.facet_codec.proofs.Lists.{each_push}
 
 pub numbers_push : (bytes xs : List ℕ) (x : ℕ) → AreNumbers bytes xs → x < 2 ^ 32 → AreNumbers (bytes ++ be32 x) (xs ++ x ∷ [])
 numbers_push bytes xs x h fits = record {
   spelled = ap (λ (bs : List ℕ). bs ++ be32 x) h.spelled ∙ flat_map_more be32 [] xs x;
-  fit = all_push (IsBelow (2 ^ 32)) xs x h.fit fits;
+  fit = each_push (IsBelow (2 ^ 32)) xs x h.fit fits;
 }
 
 -- one more of the ordinals is written

@@ -1,19 +1,16 @@
 -- What is dead after more is.
 use Rattle.std.proofs.Common.{◌≡◌, ℕ, ◌+◌, ◌<◌, Bool, true, false, eqb, ◌||◌, List, [], ◌∷◌, ◌++◌, length, take, get_or, refl, sym, ap, ◌∙◌, arith}
 use Rattle.std.specs.List.{AllByRecursion}
-use Rattle.std.proofs.lemmas.Bool.{eq-eqb, eqb-true}
+use Rattle.std.proofs.lemmas.Bool.{eqb-true}
 use Rattle.std.proofs.lemmas.List.{take_more}
 use Rattle.facet_codec.specs.Laws.{IsBelow}
 use Rattle.seg_postings.specs.Rising.{is_in}
 use Rattle.seg_postings.specs.Sets.{either}
-use Rattle.seg_postings.proofs.Members.{is_in-either}
+use Rattle.seg_postings.proofs.Members.{is_in-either, here_in, later_in}
 use Rattle.facet_model.specs.Stored.{is_dead}
 use Rattle.live_records.specs.Live.{Live}
 use Rattle.live_records.proofs.Alive.{is_in-is_dead}
-
-or_grouped : (a b c : Bool) → a || (b || c) ≡ (a || b) || c
-or_grouped true b c = refl
-or_grouped false b c = refl
+use Rattle.std.proofs.Math.Bool.{or-true, or_assoc}
 
 or_moved : (a b c : Bool) → (c || false) || (a || b) ≡ a || (b || (c || false))
 or_moved true true true = refl
@@ -25,13 +22,9 @@ or_moved false true false = refl
 or_moved false false true = refl
 or_moved false false false = refl
 
-or_true : (b : Bool) → (b || true) ≡ true
-or_true true = refl
-or_true false = refl
-
-is_in_append : (n : ℕ) (xs ys : List ℕ) → is_in n (xs ++ ys) ≡ (is_in n xs || is_in n ys)
+pub is_in_append : (n : ℕ) (xs ys : List ℕ) → is_in n (xs ++ ys) ≡ (is_in n xs || is_in n ys)
 is_in_append n [] ys = refl
-is_in_append n (x ∷ xs) ys = ap (λ b. eqb n x || b) (is_in_append n xs ys) ∙ or_grouped (eqb n x) (is_in n xs) (is_in n ys)
+is_in_append n (x ∷ xs) ys = ap (λ b. eqb n x || b) (is_in_append n xs ys) ∙ sym (or_assoc (eqb n x) (is_in n xs) (is_in n ys))
 
 -- one place more is added
 pub one_added : (old now new places : List ℕ) (k p : ℕ) → k < length places → p ≡ get_or places k 0 → new ≡ either (p ∷ []) now
@@ -40,17 +33,11 @@ one_added old now new places k p lt at is h n =
     ap (is_in n) is ∙ is_in-either n (p ∷ []) now ∙ ap (λ b. (eqb n p || false) || b) (h n) ∙ or_moved (is_in n old) (is_in n (take k places)) (eqb n p)
     ∙ ap (λ b. is_in n old || b) (sym (ap (is_in n) (take_more places k 0 lt ∙ ap (λ m. take k places ++ m ∷ []) (sym at)) ∙ is_in_append n (take k places) (p ∷ [])))
 
-here_in : (x : ℕ) (xs : List ℕ) → is_in x (x ∷ xs) ≡ true
-here_in x xs = ap (λ b. b || is_in x xs) (eq-eqb x x refl)
-
-later_in : (n x : ℕ) (xs : List ℕ) → is_in n xs ≡ true → is_in n (x ∷ xs) ≡ true
-later_in n x xs h = ap (λ b. eqb n x || b) h ∙ or_true (eqb n x)
-
 below_all : (b : ℕ) (xs : List ℕ) → ((n : ℕ) → is_in n xs ≡ true → n < b) → AllByRecursion (IsBelow b) xs
 below_all b [] h = tt
 below_all b (x ∷ xs) h = (h x (here_in x xs), below_all b xs (λ n i. h n (later_in n x xs i)))
 
-below_in : (b : ℕ) (xs : List ℕ) → AllByRecursion (IsBelow b) xs → (n : ℕ) → is_in n xs ≡ true → n < b
+pub below_in : (b : ℕ) (xs : List ℕ) → AllByRecursion (IsBelow b) xs → (n : ℕ) → is_in n xs ≡ true → n < b
 below_in b [] h n i = let t : false ≡ true = i in absurd cc
 below_in b (x ∷ xs) h n i = by (below_in b xs h.1 n) (eqb n x) refl i
   where

@@ -1,3 +1,3 @@
 pub mod Alive
 mod Ranks
-mod Added
+pub mod Added

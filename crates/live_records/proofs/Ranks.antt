@@ -1,13 +1,14 @@
 -- Ranks of places among those that are live.
-use Rattle.std.proofs.Common.{◌≡◌, ℕ, zero, suc, ◌+◌, ◌<◌, ◌≤◌, ◌-◌, Bool, true, false, not, eqb, ◌||◌, List, [], ◌∷◌, length, get_or, refl, sym, ap, subst, ◌∙◌, arith, inl, inr}
+use Rattle.std.proofs.Common.{◌≡◌, ℕ, zero, suc, ◌+◌, ◌<◌, ◌≤◌, ◌-◌, true, false, not, eqb, ◌||◌, List, [], ◌∷◌, length, get_or, refl, sym, ap, subst, ◌∙◌, arith, inl, inr}
 use Rattle.std.specs.List.{AllByRecursion}
 use Rattle.std.proofs.lemmas.Bool.{eq-eqb, ne_eqb, cases_lt, cases_eq}
 use Rattle.facet_codec.specs.Laws.{IsBelow}
 use Rattle.seg_postings.specs.Rising.{IsRising}
 use Rattle.seg_postings.specs.Steps.{IsFirstFrom}
-use Rattle.seg_postings.proofs.Order.{rising_get}
+use Rattle.seg_postings.proofs.Order.{rising_get, rising_less}
 use Rattle.facet_model.specs.Stored.{is_dead, live_before}
 use Rattle.live_records.specs.Live.{Live, IsPastRank}
+use Rattle.std.proofs.Math.Bool.{or-true}
 
 -- ---- the searches
 
@@ -53,17 +54,10 @@ dead_not n (x ∷ xs) zero le below from =
 dead_not n (x ∷ xs) (suc at) le below from =
     rw (ne_eqb n x (λ e. omega (arith, below 0 (omega arith)))) (dead_not n xs at (omega arith) (λ k lt. below (suc k) (omega arith)) (λ k ge lt. from (suc k) (omega arith) (omega arith)))
 
-or_true : (b : Bool) → (b || true) ≡ true
-or_true true = refl
-or_true false = refl
-
 dead_at : (xs : List ℕ) (k : ℕ) → k < length xs → is_dead xs (get_or xs k 0) ≡ true
 dead_at [] k lt = absurd (omega arith)
 dead_at (x ∷ xs) zero lt = ap (λ b. b || is_dead xs x) (eq-eqb x x refl)
-dead_at (x ∷ xs) (suc k) lt = ap (λ b. eqb (get_or xs k 0) x || b) (dead_at xs k (omega arith)) ∙ or_true (eqb (get_or xs k 0) x)
-
-rising_less : (xs : List ℕ) → IsRising xs → (i j : ℕ) → i < j → j < length xs → get_or xs i 0 < get_or xs j 0
-rising_less xs rise i j lt l = omega (arith, rising_apart xs rise i j (omega arith) l)
+dead_at (x ∷ xs) (suc k) lt = ap (λ b. eqb (get_or xs k 0) x || b) (dead_at xs k (omega arith)) ∙ or-true (eqb (get_or xs k 0) x)
 
 -- whether a place is dead shows where it would stand among the dead
 pub dead_first : (n : ℕ) (xs : List ℕ) (at : ℕ) → IsRising xs → at ≤ length xs → IsFirstFrom n xs at at → (at < length xs → get_or xs at 0 ≡ n → ⊥) → is_dead xs n ≡ false

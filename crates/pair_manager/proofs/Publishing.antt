@@ -3,7 +3,7 @@ use Rattle.std.proofs.Common.{◌≡◌, ℕ, ◌+◌, ◌≤◌, Bool, true, fa
 use Rattle.std.specs.Prelude.{◌&&◌, nat_le}
 use Rattle.std.specs.List.{list_all, AllZip}
 use Rattle.std.proofs.lemmas.Bool.{and_parts, and_from, leb-true, le-leb}
-use Rattle.std.proofs.lemmas.List.{length-append, length-map, get_or-map, map-append, take-take, take_all}
+use Rattle.std.proofs.lemmas.List.{length-append, length-map, get_or-map, map-append, take-take, take_all, take-append-le}
 use Rattle.std.proofs.lemmas.List.Folds.{list_all-append}
 use Rattle.std.proofs.lemmas.List.Sums.{AllPass-from_list_all}
 use mathlib.Core.List.{IsPrefix}
@@ -13,7 +13,7 @@ use Rattle.facet_model.specs.Documents.{Doc}
 use Rattle.facet_model.specs.Flags.{Config}
 use Rattle.facet_model.specs.Histories.{Operation, docs, knows, covers, never_falls, is_pair, are_publications}
 use Rattle.facet_model.specs.Stored.{Stored, Records, alive, alive_from, is_dead, live_docs, IsRecordOf, IsSegmentOf, Decodes}
-use Rattle.facet_model.proofs.Fronts.{weaker, take_front}
+use Rattle.facet_model.proofs.Fronts.{weaker}
 use Rattle.seg_decoding.specs.Decoding.{doc_in, docs_in, records_in}
 use Rattle.seg_decoding.proofs.Decoded.{decoded}
 use Rattle.chronicle.specs.History.{entries}
@@ -23,6 +23,7 @@ use Rattle.taxo_writer.proofs.Growing.{seen_goes_on}
 use Rattle.pair_manager.specs.declared.publication.Publication.{Publication}
 use Rattle.pair_manager.specs.Published.{Published, publication_of, numbers, ArePublications, IsNewest, StandsFor}
 use Rattle.pair_manager.specs.Kept.{IsPair}
+use Rattle.facet_model.proofs.Histories.{never_falls_push}
 
 -- ---- labels under which segments decode know their documents
 
@@ -84,7 +85,7 @@ module _ (a b : Labels) (h k : List Operation) (on : GoesOn a b) (more : IsPrefi
       let bounds = pair_bounds a h p is in
       let cover : covers a p.1 h p.0 ≡ true = (and_parts (nat_le p.0 (length h) && nat_le p.1 (length a)) (covers a p.1 h p.0) is).1 in
       let front : take p.1 b ≡ take p.1 a = sym (take-take p.1 (length a) b bounds.1) ∙ ap (take p.1) on.1 in
-      let same : take p.0 k ≡ take p.0 h = ap (take p.0) (sym more.1) ∙ take_front p.0 h more.0 bounds.0 in
+      let same : take p.0 k ≡ take p.0 h = ap (take p.0) (sym more.1) ∙ take-append-le p.0 h more.0 bounds.0 in
       and_from (nat_le p.0 (length k) && nat_le p.1 (length b)) (covers b p.1 k p.0)
       (and_from (nat_le p.0 (length k)) (nat_le p.1 (length b)) (le-leb p.0 (length k) (omega (arith, bounds.0, longer_history))) (le-leb p.1 (length b) (omega (arith, bounds.1, on.0))))
       ((λ i. list_all (knows (front i)) (docs (same i))) ∙ cover)
@@ -95,14 +96,6 @@ module _ (a b : Labels) (h k : List Operation) (on : GoesOn a b) (more : IsPrefi
       and_from (never_falls (map (λ p. p.0) ps) && never_falls (map (λ p. p.1) ps)) (list_all (is_pair b k) ps) both.0 (weaker (is_pair a h) (is_pair b k) still_pair ps both.1)
 
 -- ---- one more
-
-falls_push : (xs : List ℕ) (n : ℕ) → never_falls xs ≡ true → list_all (λ k. nat_le k n) xs ≡ true → never_falls (xs ++ n ∷ []) ≡ true
-falls_push [] n h below = refl
-falls_push (x ∷ []) n h below = below
-falls_push (x ∷ y ∷ ys) n h below =
-    let both = and_parts (nat_le x y) (never_falls (y ∷ ys)) h in
-    let rest = and_parts (nat_le x n) (list_all (λ k. nat_le k n) (y ∷ ys)) below in
-    and_from (nat_le x y) (never_falls (y ∷ ys ++ n ∷ [])) both.0 (falls_push (y ∷ ys) n both.1 rest.1)
 
 module _ (b : Labels) (k : List Operation) (known : list_all (knows b) (docs k) ≡ true) where
   whole_pair : is_pair b k (length k, length b) ≡ true
@@ -122,8 +115,8 @@ module _ (b : Labels) (k : List Operation) (known : list_all (knows b) (docs k) 
       let next : List (ℕ × ℕ) = (length k, length b) ∷ [] in
       and_from (never_falls (map (λ p. p.0) (ps ++ next)) && never_falls (map (λ p. p.1) (ps ++ next))) (list_all (is_pair b k) (ps ++ next))
       (and_from (never_falls (map (λ p. p.0) (ps ++ next))) (never_falls (map (λ p. p.1) (ps ++ next)))
-      (ap never_falls (map-append (λ (p : ℕ × ℕ). p.0) ps next) ∙ falls_push (map (λ p. p.0) ps) (length k) falls.0 below.0)
-      (ap never_falls (map-append (λ (p : ℕ × ℕ). p.1) ps next) ∙ falls_push (map (λ p. p.1) ps) (length b) falls.1 below.1))
+      (ap never_falls (map-append (λ (p : ℕ × ℕ). p.0) ps next) ∙ never_falls_push (map (λ p. p.0) ps) (length k) falls.0 below.0)
+      (ap never_falls (map-append (λ (p : ℕ × ℕ). p.1) ps next) ∙ never_falls_push (map (λ p. p.1) ps) (length b) falls.1 below.1))
       (list_all-append (is_pair b k) ps next ∙ and_from (list_all (is_pair b k) ps) (is_pair b k (length k, length b) && true) both.1 (and_from (is_pair b k (length k, length b)) true whole_pair refl))
 
 -- ---- as tokens have seen them

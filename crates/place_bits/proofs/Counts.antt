@@ -16,6 +16,7 @@ use Rattle.place_bits.specs.Words.{has, members}
 use Rattle.place_bits.proofs.Lists.{is_in_members}
 use Rattle.seg_postings.specs.Rising.{is_in}
 use Rattle.place_bits.proofs.WordBits.{bit_and_is, has_at}
+use Rattle.std.proofs.Math.Bool.{and_self}
 
 bit_is : (b : ℕ) → b < 2 → b ≡ cond (eqb b 1) 1 0
 bit_is zero l = refl
@@ -94,10 +95,6 @@ common_list old other =
     filter_twice (has old) (has other) (range_with_len 0 (64 * length old))
     ∙ filter_agree (has other) (λ n. is_in n (members other)) (λ n. sym (is_in_members other n)) (filter (has old) (range_with_len 0 (64 * length old)))
 
-and_same : (b : Bool) → (b && b) ≡ b
-and_same true = refl
-and_same false = refl
-
 pub whole_list : (old : List ℕ) → filter (λ n. has old n && has old n) (range_with_len 0 (64 * length old)) ≡ members old
 unfolding members
-whole_list old = filter_agree _ (has old) (λ n. and_same (has old n)) _
+whole_list old = filter_agree _ (has old) (λ n. and_self (has old n)) _

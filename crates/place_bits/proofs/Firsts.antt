@@ -1,15 +1,16 @@
 -- The first place of a set from some place on.
-use Rattle.std.proofs.Common.{◌≡◌, ℕ, ◌+◌, ◌-◌, ◌*◌, ◌/◌, ◌%◌, ◌^◌, ◌<◌, ◌≤◌, Bool, true, false, eqb, leb, ◌&&◌, ◌||◌, List, [], ◌∷◌, get_or, length, Option, None, Some, refl, sym, ap, ◌∙◌, inl, inr, arith, w64}
+use Rattle.std.proofs.Common.{◌≡◌, ℕ, ◌+◌, ◌-◌, ◌*◌, ◌/◌, ◌%◌, ◌^◌, ◌<◌, ◌≤◌, false, eqb, leb, ◌&&◌, ◌||◌, List, [], ◌∷◌, get_or, length, Option, None, Some, sym, ap, ◌∙◌, inl, inr, arith, w64}
 use Rattle.std.proofs.lemmas.Bool.{cases_lt, eq-eqb, ne_eqb, le-leb, lt-leb}
 use Rattle.std.proofs.lemmas.Nat.Bits.{bit_at-trailing_zeros, bit_at-zero, bit_at_and, bit_at_mask_inside, bit_at_mask_below, ones_shl}
 use Rattle.std.specs.Prelude.{bit_and}
 use Rattle.std.specs.Int.{bit_at, trailing_zeros}
 use Rattle.seg_postings.specs.Rising.{IsBelowAll, IsRising, is_in, from_place}
 use Rattle.seg_postings.proofs.Order.{rising_from}
-use Rattle.seg_postings.proofs.Members.{one_rising}
+use Rattle.seg_postings.proofs.Members.{one_rising, is_in_filter}
 use Rattle.place_bits.specs.Words.{has, members, IsFirstIn}
 use Rattle.place_bits.proofs.WordBits.{has_at, has_past}
-use Rattle.place_bits.proofs.Lists.{rising_members, is_in_members, is_in_filter}
+use Rattle.place_bits.proofs.Lists.{rising_members, is_in_members}
+use Rattle.std.proofs.Math.Bool.{and-true, and-false}
 
 -- a place by its word and bit
 by_word : (words : List ℕ) (k n : ℕ) → 64 * k ≤ n → n < 64 * k + 64 → has words n ≡ eqb (bit_at (get_or words k 0) (n - 64 * k)) 1
@@ -84,14 +85,6 @@ left_found words from left e some fits =
 
 -- ---- as lists
 
-pub and_false : (b : Bool) → (b && false) ≡ false
-and_false true = refl
-and_false false = refl
-
-pub and_true : (b : Bool) → (b && true) ≡ b
-and_true true = refl
-and_true false = refl
-
 below_after : (x : ℕ) (xs : List ℕ) → IsBelowAll x (from_place (x + 1) xs)
 unfolding from_place
 below_after x [] = tt
@@ -109,7 +102,7 @@ pub next_none : (words : List ℕ) (from : ℕ) → IsFirstIn words from None �
 next_none words from h =
     one_rising (from_place from (members words)) [] (rising_from from (members words) (rising_members words)) tt
     (λ n. in_from n from (members words) ∙ elim (cases_lt n from) [
-      | inl lt ↦ ap (λ b. is_in n (members words) && b) (lt-leb from n lt) ∙ and_false _
+      | inl lt ↦ ap (λ b. is_in n (members words) && b) (lt-leb from n lt) ∙ and-false _
       | inr ge ↦ ap (λ b. b && leb from n) (is_in_members words n ∙ h n ge)
     ])
 
@@ -120,10 +113,10 @@ next_some words from x h =
     (λ n. in_from n from xs ∙ elim (cases_lt n x) [
       | inl lt ↦
           let out : (is_in n xs && leb from n) ≡ false = elim (cases_lt n from) [
-            | inl less ↦ ap (λ b. is_in n xs && b) (lt-leb from n less) ∙ and_false _
+            | inl less ↦ ap (λ b. is_in n xs && b) (lt-leb from n less) ∙ and-false _
             | inr ge ↦ ap (λ b. b && leb from n) (is_in_members words n ∙ h.2 n ge lt)
           ] in
-          out ∙ sym ((λ i. ne_eqb n x (λ e. omega arith) i || in_from n (x + 1) xs i) ∙ ap (λ b. is_in n xs && b) (lt-leb (x + 1) n (omega arith)) ∙ and_false _)
+          out ∙ sym ((λ i. ne_eqb n x (λ e. omega arith) i || in_from n (x + 1) xs i) ∙ ap (λ b. is_in n xs && b) (lt-leb (x + 1) n (omega arith)) ∙ and-false _)
       | inr ge ↦ elim (cases_lt x n) [
         | inl gt ↦ ap (λ b. is_in n xs && b) (le-leb from n (omega (arith, h.0))) ∙ sym ((λ i. ne_eqb n x (λ e. omega arith) i || in_from n (x + 1) xs i) ∙ ap (λ b. is_in n xs && b) (le-leb (x + 1) n (omega arith)))
         | inr le ↦
@@ -131,11 +124,6 @@ next_some words from x h =
             (λ i. (is_in_members words n ∙ ap (has words) e ∙ h.1) i && le-leb from n (omega (arith, h.0)) i) ∙ sym (ap (λ b. b || is_in n (from_place (x + 1) xs)) (eq-eqb n x e))
       ]
     ])
-
-pub from_start : (xs : List ℕ) → from_place 0 xs ≡ xs
-unfolding from_place
-from_start [] = refl
-from_start (y ∷ ys) = rw (le-leb 0 y (omega arith)) (ap (λ r. y ∷ r) (from_start ys))
 
 pub rising_left : (words : List ℕ) (p : ℕ) → IsRising (from_place p (members words))
 rising_left words p = rising_from p (members words) (rising_members words)
@@ -145,8 +133,8 @@ later q p words le =
     let xs = members words in
     one_rising (from_place p xs) (from_place p (from_place q xs)) (rising_left words p) (rising_from p (from_place q xs) (rising_left words q))
     (λ n. in_from n p xs ∙ sym (in_from n p (from_place q xs) ∙ ap (λ b. b && leb p n) (in_from n q xs) ∙ elim (cases_lt n p) [
-      | inl lt ↦ ap (λ b. (is_in n xs && leb q n) && b) (lt-leb p n lt) ∙ and_false _ ∙ sym (ap (λ b. is_in n xs && b) (lt-leb p n lt) ∙ and_false _)
-      | inr ge ↦ ap (λ b. (is_in n xs && b) && leb p n) (le-leb q n (omega arith)) ∙ ap (λ b. b && leb p n) (and_true _)
+      | inl lt ↦ ap (λ b. (is_in n xs && leb q n) && b) (lt-leb p n lt) ∙ and-false _ ∙ sym (ap (λ b. is_in n xs && b) (lt-leb p n lt) ∙ and-false _)
+      | inr ge ↦ ap (λ b. (is_in n xs && b) && leb p n) (le-leb q n (omega arith)) ∙ ap (λ b. b && leb p n) (and-true _)
     ]))
 
 pub keeps : (q p : ℕ) (words : List ℕ) → p ≤ q → from_place q (members words) ≡ from_place p (from_place q (members words))
@@ -154,8 +142,8 @@ keeps q p words le =
     let xs = members words in
     one_rising (from_place q xs) (from_place p (from_place q xs)) (rising_left words q) (rising_from p (from_place q xs) (rising_left words q))
     (λ n. in_from n q xs ∙ sym (in_from n p (from_place q xs) ∙ ap (λ b. b && leb p n) (in_from n q xs) ∙ elim (cases_lt n q) [
-      | inl lt ↦ ap (λ b. (is_in n xs && b) && leb p n) (lt-leb q n lt) ∙ ap (λ b. b && leb p n) (and_false _) ∙ sym (ap (λ b. is_in n xs && b) (lt-leb q n lt) ∙ and_false _)
-      | inr ge ↦ ap (λ b. (is_in n xs && leb q n) && b) (le-leb p n (omega arith)) ∙ and_true _
+      | inl lt ↦ ap (λ b. (is_in n xs && b) && leb p n) (lt-leb q n lt) ∙ ap (λ b. b && leb p n) (and-false _) ∙ sym (ap (λ b. is_in n xs && b) (lt-leb q n lt) ∙ and-false _)
+      | inr ge ↦ ap (λ b. (is_in n xs && leb q n) && b) (le-leb p n (omega arith)) ∙ and-true _
     ]))
 
 -- from the first word on, after what was left of the word before

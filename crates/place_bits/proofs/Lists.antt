@@ -1,6 +1,6 @@
 -- Sets of words as rising lists of places.
-use Rattle.std.proofs.Common.{◌≡◌, ℕ, zero, suc, ◌+◌, ◌*◌, ◌/◌, ◌%◌, ◌<◌, ◌≤◌, Bool, true, false, cond, eqb, ltb, ◌&&◌, ◌||◌, List, [], ◌∷◌, get_or, replicate, length, refl, sym, ap, ◌∙◌, inl, inr, arith}
-use Rattle.std.proofs.lemmas.Bool.{cases_lt, lt-ltb, le-ltb, eqb-true, eq-eqb, ne_eqb}
+use Rattle.std.proofs.Common.{◌≡◌, ℕ, zero, suc, ◌+◌, ◌*◌, ◌/◌, ◌%◌, ◌<◌, ◌≤◌, Bool, true, false, eqb, ltb, ◌&&◌, ◌||◌, List, [], ◌∷◌, get_or, replicate, length, refl, sym, ap, ◌∙◌, inl, inr, arith}
+use Rattle.std.proofs.lemmas.Bool.{cases_lt, lt-ltb, le-ltb, eq-eqb, ne_eqb}
 use Rattle.std.proofs.lemmas.List.Elements.{filter_agree}
 use Rattle.std.proofs.lemmas.List.{length-replicate}
 use Rattle.std.proofs.lemmas.Nat.Bits.{bit_at-zero}
@@ -9,10 +9,11 @@ use Rattle.std.specs.List.{filter, range_with_len}
 use Rattle.seg_postings.specs.Rising.{IsBelowAll, IsRising, is_in}
 use Rattle.seg_postings.specs.Sets.{either}
 use Rattle.seg_postings.proofs.Order.{rising_filter}
-use Rattle.seg_postings.proofs.Members.{one_rising, is_in-either}
+use Rattle.seg_postings.proofs.Members.{one_rising, is_in-either, is_in_filter}
 use Rattle.seg_postings.proofs.Either.{rising_either}
 use Rattle.place_bits.specs.Words.{has, members, empty_set, marked, with_places}
 use Rattle.place_bits.proofs.WordBits.{has_past}
+use Rattle.std.proofs.Math.Bool.{and-false}
 
 below_range : (x a n : ℕ) → x < a → IsBelowAll x (range_with_len a n)
 below_range x a zero l = tt
@@ -28,21 +29,6 @@ rising_members words = rising_filter (has words) _ (rising_range 0 (64 * length 
 
 -- ---- membership
 
-and_false : (b : Bool) → (b && false) ≡ false
-and_false true = refl
-and_false false = refl
-
--- x is kept where its test t holds; the test of q is s, and that of x where they are the same
-filter_member : (e t s r : Bool) (q x : ℕ) (zs : List ℕ) → eqb q x ≡ e → (e ≡ true → s ≡ t) → is_in q zs ≡ (r && s) → is_in q (cond t (x ∷ zs) zs) ≡ ((e || r) && s)
-filter_member true true s r q x zs h k m = rw (h, k refl) refl
-filter_member true false s r q x zs h k m = rw (m, k refl) (and_false r)
-filter_member false true s r q x zs h k m = rw (h, m) refl
-filter_member false false s r q x zs h k m = m
-
-pub is_in_filter : (test : ℕ → Bool) (q : ℕ) (xs : List ℕ) → is_in q (filter test xs) ≡ (is_in q xs && test q)
-is_in_filter test q [] = refl
-is_in_filter test q (x ∷ xs) = filter_member (eqb q x) (test x) (test q) (is_in q xs) q x (filter test xs) refl (λ h. ap test (eqb-true q x h)) (is_in_filter test q xs)
-
 in_range : (q a n : ℕ) → a ≤ q → q < a + n → is_in q (range_with_len a n) ≡ true
 in_range q a zero l h = absurd (omega arith)
 in_range q a (suc n) l h =
@@ -56,7 +42,7 @@ unfolding members
 is_in_members words q =
     is_in_filter (has words) q (range_with_len 0 (64 * length words)) ∙ elim (cases_lt q (64 * length words)) [
       | inl within ↦ ap (λ b. b && has words q) (in_range q 0 (64 * length words) (omega arith) (omega arith))
-      | inr past ↦ let none : has words q ≡ false = has_past words q (omega arith) in ap (λ b. is_in q (range_with_len 0 (64 * length words)) && b) none ∙ and_false _ ∙ sym none
+      | inr past ↦ let none : has words q ≡ false = has_past words q (omega arith) in ap (λ b. is_in q (range_with_len 0 (64 * length words)) && b) none ∙ and-false _ ∙ sym none
     ]
 
 -- one set, by its members

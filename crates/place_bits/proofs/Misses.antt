@@ -7,6 +7,7 @@ use Rattle.std.proofs.lemmas.List.Filters.{length-filter_more}
 use Rattle.seg_postings.specs.Rising.{is_in}
 use Rattle.place_bits.specs.Misses.{fails, HaveWords, IsLeftBy, IsMissed, IsNear}
 use Rattle.place_bits.specs.Words.{Marked, empty_set}
+use Rattle.std.proofs.Math.Bool.{or-false, or-true, and-false}
 
 -- The first k sets were changed, each as the relation says, and the others are as they were.
 pub record AreChanged (R : Marked → Marked → Type 0) (k : ℕ) (now old : List Marked) : Type 0 where
@@ -57,39 +58,27 @@ pub record AreNoted (base : Marked) (k : ℕ) (now old : List Marked) (ones twos
   pub twos_words : twos.words ≡ base.words
   pub two_fail : (n : ℕ) → is_in n twos.places ≡ (is_in n base.places && ltb 1 (fails (take k old) n))
 
-and_none : (b : Bool) → false ≡ (b && false)
-and_none true = refl
-and_none false = refl
-
-or_all : (b : Bool) → (b || true) ≡ true
-or_all true = refl
-or_all false = refl
-
-or_none : (b : Bool) → (b || false) ≡ b
-or_none true = refl
-or_none false = refl
-
 pub noted_start : (base : Marked) (dims : List Marked) (ones twos : Marked) → ones ≡ empty_set base.words → twos ≡ empty_set base.words → AreNoted base 0 dims dims ones twos
 unfolding fails
 noted_start base dims ones twos e f = record {
   missed = none_changed (IsMissed base.places) dims;
   ones_words = ap (λ (m : Marked). m.words) e;
-  one_fails = λ n. ap (λ (m : Marked). is_in n m.places) e ∙ and_none (is_in n base.places);
+  one_fails = λ n. ap (λ (m : Marked). is_in n m.places) e ∙ sym (and-false (is_in n base.places));
   twos_words = ap (λ (m : Marked). m.words) f;
-  two_fail = λ n. ap (λ (m : Marked). is_in n m.places) f ∙ and_none (is_in n base.places);
+  two_fail = λ n. ap (λ (m : Marked). is_in n m.places) f ∙ sym (and-false (is_in n base.places));
 }
 
 one_step : (b i : Bool) (f : ℕ) → ((b && ltb 0 f) || (b && not i)) ≡ (b && ltb 0 (f + cond (not i) 1 0))
 one_step false i f = refl
-one_step true true f = let z : f ≡ f + 0 = omega arith in or_none (ltb 0 f) ∙ ap (ltb 0) z
-one_step true false f = or_all (ltb 0 f) ∙ sym (lt-ltb 0 (f + 1) (omega arith))
+one_step true true f = let z : f ≡ f + 0 = omega arith in or-false (ltb 0 f) ∙ ap (ltb 0) z
+one_step true false f = or-true (ltb 0 f) ∙ sym (lt-ltb 0 (f + 1) (omega arith))
 
 two_step : (b i : Bool) (f : ℕ) → ((b && ltb 1 f) || ((b && ltb 0 f) && (b && not i))) ≡ (b && ltb 1 (f + cond (not i) 1 0))
 two_step false i f = refl
-two_step true true f = let z : f ≡ f + 0 = omega arith in ap (λ b. ltb 1 f || b) (sym (and_none (ltb 0 f))) ∙ or_none (ltb 1 f) ∙ ap (ltb 1) z
+two_step true true f = let z : f ≡ f + 0 = omega arith in ap (λ b. ltb 1 f || b) (and-false (ltb 0 f)) ∙ or-false (ltb 1 f) ∙ ap (ltb 1) z
 two_step true false f =
     elim (cases_lt 0 f) [
-      | inl some ↦ rw (lt-ltb 0 f some, lt-ltb 1 (f + 1) (omega arith)) (or_all (ltb 1 f))
+      | inl some ↦ rw (lt-ltb 0 f some, lt-ltb 1 (f + 1) (omega arith)) (or-true (ltb 1 f))
       | inr none ↦ let z : f ≡ 0 = omega arith in rw z refl
     ]
 

@@ -1,11 +1,12 @@
 -- Bits of words.
-use Rattle.std.proofs.Common.{◌≡◌, ℕ, zero, suc, ◌+◌, ◌*◌, ◌/◌, ◌%◌, ◌^◌, ◌<◌, ◌≤◌, ◌-◌, min, max, Bool, true, false, not, eqb, ◌&&◌, ◌||◌, List, get_or, set, length, refl, sym, ap, ◌∙◌, inl, inr, arith, w64}
+use Rattle.std.proofs.Common.{◌≡◌, ℕ, zero, suc, ◌+◌, ◌*◌, ◌/◌, ◌%◌, ◌^◌, ◌<◌, ◌≤◌, ◌-◌, min, max, Bool, false, not, eqb, ◌&&◌, ◌||◌, List, get_or, set, length, refl, sym, ap, ◌∙◌, inl, inr, arith, w64}
 use Rattle.std.proofs.lemmas.Bool.{cases_eq, cases_lt, eq-eqb, ne_eqb}
 use Rattle.std.proofs.lemmas.List.{get_or_past, get_or-set_same, get_or-set_other}
 use Rattle.std.proofs.lemmas.Nat.Bits.{bit_at_or, bit_at_and, bit_at_not, bit_at-zero, bit_at-lt, bit_at_set_same, bit_at_set_other}
 use Rattle.std.specs.Prelude.{bit_and, bit_or}
 use Rattle.std.specs.Int.{bit_at, bit_not}
 use Rattle.place_bits.specs.Words.{has}
+use Rattle.std.proofs.Math.Bool.{or-true, or-false}
 
 pub min_bits : (a b : ℕ) → a < 2 → b < 2 → eqb (min a b) 1 ≡ (eqb a 1 && eqb b 1)
 min_bits zero zero p q = refl
@@ -74,14 +75,6 @@ done_has op both by none k now old other same fits all h n =
       | inr past ↦ has_past now n (omega (arith, h.len)) ∙ sym none ∙ ap (λ b. both b false) (sym (has_past old n past)) ∙ ap (λ b. both (has old n) b) (sym (has_past other n (omega arith)))
     ]
 
-or_none : (b : Bool) → b ≡ (b || false)
-or_none true = refl
-or_none false = refl
-
-or_all : (b : Bool) → true ≡ (b || true)
-or_all true = refl
-or_all false = refl
-
 -- one bit of one word was set
 pub marked_has : (words : List ℕ) (place n : ℕ) → place < 64 * length words
     → has (set words (place / 64) (bit_or (get_or words (place / 64) 0) (1 * 2 ^ (place % 64) % 2 ^ 64))) n ≡ (has words n || eqb n place)
@@ -97,12 +90,12 @@ marked_has words place n within =
             | inl same ↦
                 let e : n ≡ place = omega arith in
                 ap (λ x. eqb x 1) (is ∙ ap (bit_at word) same ∙ bit_at_set_same w64 (get_or words (place / 64) 0) (place % 64) (omega arith))
-                ∙ or_all (eqb (bit_at (get_or words (n / 64) 0) (n % 64)) 1) ∙ ap (λ b. eqb (bit_at (get_or words (n / 64) 0) (n % 64)) 1 || b) (sym (eq-eqb n place e))
+                ∙ sym (or-true (eqb (bit_at (get_or words (n / 64) 0) (n % 64)) 1)) ∙ ap (λ b. eqb (bit_at (get_or words (n / 64) 0) (n % 64)) 1 || b) (sym (eq-eqb n place e))
             | inr other ↦
                 ap (λ x. eqb x 1) (is ∙ bit_at_set_other w64 (get_or words (place / 64) 0) (place % 64) (omega arith) (n % 64) other ∙ ap (λ k. bit_at (get_or words k 0) (n % 64)) (sym here))
-                ∙ or_none _ ∙ ap (λ b. eqb (bit_at (get_or words (n / 64) 0) (n % 64)) 1 || b) (sym (ne_eqb n place (λ e. other (ap (λ m. m % 64) e))))
+                ∙ sym (or-false _) ∙ ap (λ b. eqb (bit_at (get_or words (n / 64) 0) (n % 64)) 1 || b) (sym (ne_eqb n place (λ e. other (ap (λ m. m % 64) e))))
           ]
       | inr apart ↦
           ap (λ x. eqb (bit_at x (n % 64)) 1) (get_or-set_other words (place / 64) (n / 64) word 0 apart)
-          ∙ or_none _ ∙ ap (λ b. eqb (bit_at (get_or words (n / 64) 0) (n % 64)) 1 || b) (sym (ne_eqb n place (λ e. apart (ap (λ m. m / 64) e))))
+          ∙ sym (or-false _) ∙ ap (λ b. eqb (bit_at (get_or words (n / 64) 0) (n % 64)) 1 || b) (sym (ne_eqb n place (λ e. apart (ap (λ m. m / 64) e))))
     ]

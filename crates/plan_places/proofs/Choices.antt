@@ -5,12 +5,13 @@ use Rattle.std.specs.Option.{option_eq}
 use Rattle.std.proofs.lemmas.Bool.{le-leb, lt-leb, cases_lt}
 use Rattle.std.proofs.lemmas.List.{append-nil, drop_all, take_more, take_all}
 use Rattle.seg_postings.specs.Rising.{IsRising, is_in, from_place, first_of}
-use Rattle.seg_postings.proofs.Order.{rising_from, rising_filter}
+use Rattle.seg_postings.proofs.Order.{rising_from, rising_filter, from_past}
 use Rattle.seg_postings.proofs.Members.{is_in-either}
 use Rattle.plan_places.specs.Planned.{Planned, all_nodes, moved_to, any_of, all_have, is_chosen, chosen_of}
 use Rattle.plan_places.specs.Steps.{IsSameFrom, AreSameFrom, AreNoneBefore}
-use Rattle.plan_places.proofs.Walks.{from_twice, all_from, is_in_from, is_in_same, first_some, first_none, first_from, before_first, from_first, is_first}
+use Rattle.plan_places.proofs.Walks.{from_twice, all_from, is_in_same, first_some, first_none, first_from, before_first, from_first, is_first}
 use Rattle.plan_places.proofs.Unions.{any_moved, rising_any, nodes_below}
+use Rattle.seg_postings.proofs.Sets.{is_in_from}
 
 -- ---- nodes that are the same from a place on
 
@@ -222,11 +223,6 @@ empty_first lead others excluded e = sym (ap first_of (ap (filter (is_chosen oth
 pub rising_chosen : (lead : Planned) (others excluded : List Planned) → IsRising lead.left → IsRising (chosen_of lead others excluded)
 unfolding chosen_of
 rising_chosen lead others excluded h = rising_filter (is_chosen others excluded) lead.left h
-
-from_past : (p : ℕ) (xs : List ℕ) → length (from_place p xs) ≤ length xs
-unfolding from_place
-from_past p [] = omega arith
-from_past p (x ∷ xs) = elim (leb p x) as (λ b. length (cond b (x ∷ filter (λ y. leb p y) xs) (filter (λ y. leb p y) xs)) ≤ suc (length xs)) [ true ↦ omega (arith, from_past p xs) | false ↦ omega (arith, from_past p xs) ]
 
 shorter : (first next : ℕ) (xs ys : List ℕ) → ys ≡ from_place next xs → first_of xs ≡ Some first → first < next → length ys < length xs
 unfolding from_place

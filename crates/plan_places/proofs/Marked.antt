@@ -1,16 +1,12 @@
 -- Marking the places of nodes, one after the other.
 use Rattle.std.proofs.Common.{◌≡◌, ℕ, ◌<◌, Bool, true, false, ◌||◌, ◌==◌, List, [], ◌∷◌, ◌++◌, refl, sym, ap, ◌∙◌, arith}
-use Rattle.std.proofs.Math.Bool.{or-true}
+use Rattle.std.proofs.Math.Bool.{or-true, or-false, or_assoc}
 use Rattle.seg_postings.specs.Rising.{is_in}
 use Rattle.seg_postings.specs.Sets.{either}
-use Rattle.seg_postings.proofs.Members.{is_in-either}
+use Rattle.seg_postings.proofs.Members.{is_in-either, here_in, later_in}
 use Rattle.place_bits.specs.Words.{Marked, AreBelow, with_places}
 use Rattle.plan_places.specs.Marks.{IsMarkable, AreMarkedToo}
 use Rattle.plan_places.specs.Planned.{Planned, any_of}
-
-grouped : (a b c : Bool) → ((a || b) || c) ≡ (a || (b || c))
-grouped true b c = refl
-grouped false b c = refl
 
 swapped : (a b c : Bool) → ((((b || false) || a)) || c) ≡ (a || (b || c))
 swapped true true c = refl
@@ -18,20 +14,10 @@ swapped true false c = refl
 swapped false true c = refl
 swapped false false c = refl
 
-or_false : (a : Bool) → (a || false) ≡ a
-or_false true = refl
-or_false false = refl
-
-pub here_is_in : (x : ℕ) (xs : List ℕ) → is_in x (x ∷ xs) ≡ true
-here_is_in x xs = grind arith
-
-pub there_is_in : (n x : ℕ) (xs : List ℕ) → is_in n xs ≡ true → is_in n (x ∷ xs) ≡ true
-there_is_in n x xs among = ap (λ b. (n == x) || b) among ∙ or-true (n == x)
-
 -- places that are below by membership are below one by one
 pub below_each : (bound : ℕ) (xs : List ℕ) → ((n : ℕ) → is_in n xs ≡ true → n < bound) → AreBelow bound xs
 below_each bound [] below = tt
-below_each bound (x ∷ xs) below = (below x (here_is_in x xs), below_each bound xs (λ n among. below n (there_is_in n x xs among)))
+below_each bound (x ∷ xs) below = (below x (here_in x xs), below_each bound xs (λ n among. below n (later_in n x xs among)))
 
 -- ---- one node
 
@@ -39,7 +25,7 @@ pub marked_places : (set new : Marked) (xs : List ℕ) → new ≡ with_places (
 marked_places set new xs is = record { words = ap (λ (m : Marked). m.words) is; members = λ n. ap (λ (m : Marked). is_in n m.places) is ∙ is_in-either n set.places xs }
 
 pub marked_none : (set : Marked) → AreMarkedToo [] set set
-marked_none set = record { words = refl; members = λ n. sym (or_false (is_in n set.places)) }
+marked_none set = record { words = refl; members = λ n. sym (or-false (is_in n set.places)) }
 
 pub marked_leaf : (set one new : Marked) (head : ℕ) (xs : List ℕ) → one ≡ with_places (either (head ∷ []) set.places) set → new ≡ with_places (either one.places xs) one → AreMarkedToo (head ∷ xs) new set
 marked_leaf set one new head xs first rest = record {
@@ -53,9 +39,9 @@ marked_leaf set one new head xs first rest = record {
 -- ---- the children of a union
 
 any_more : (n : ℕ) (ps : List Planned) (p : Planned) → is_in n (any_of (ps ++ p ∷ [])) ≡ (is_in n (any_of ps) || is_in n p.left)
-any_more n [] p = is_in-either n p.left [] ∙ or_false (is_in n p.left)
+any_more n [] p = is_in-either n p.left [] ∙ or-false (is_in n p.left)
 any_more n (q ∷ ps) p =
-    is_in-either n q.left (any_of (ps ++ p ∷ [])) ∙ ap (λ b. is_in n q.left || b) (any_more n ps p) ∙ sym (grouped (is_in n q.left) (is_in n (any_of ps)) (is_in n p.left))
+    is_in-either n q.left (any_of (ps ++ p ∷ [])) ∙ ap (λ b. is_in n q.left || b) (any_more n ps p) ∙ sym (or_assoc (is_in n q.left) (is_in n (any_of ps)) (is_in n p.left))
     ∙ ap (λ b. b || is_in n p.left) (sym (is_in-either n q.left (any_of ps)))
 
 -- What is marked, and what the children have that are left, are together what was marked and what all children have.
@@ -93,5 +79,5 @@ module _ (all left rest : List Planned) (child : Planned) (now old : Marked) (so
 pub all_marked : (all left : List Planned) (now old : Marked) → AreMarkedSoFar all left now old → left ≡ [] → AreMarkedToo (any_of all) now old
 all_marked all left now old so_far none = record {
   words = so_far.words;
-  members = λ n. sym (or_false (is_in n now.places)) ∙ ap (λ ps. is_in n now.places || is_in n (any_of ps)) (sym none) ∙ so_far.same n;
+  members = λ n. sym (or-false (is_in n now.places)) ∙ ap (λ ps. is_in n now.places || is_in n (any_of ps)) (sym none) ∙ so_far.same n;
 }

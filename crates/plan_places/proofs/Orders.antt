@@ -1,14 +1,15 @@
 -- The order of nodes does not matter.
-use Rattle.std.proofs.Common.{◌≡◌, ℕ, ◌<◌, Bool, true, false, not, cond, eqb, ◌&&◌, ◌||◌, List, [], ◌∷◌, length, get_or, refl, sym, ap, ◌∙◌}
-use Rattle.std.specs.List.{filter, list_any, remove, All}
+use Rattle.std.proofs.Common.{◌≡◌, ℕ, ◌<◌, Bool, true, false, not, ◌&&◌, ◌||◌, List, [], ◌∷◌, length, get_or, refl, sym, ap, ◌∙◌}
+use Rattle.std.specs.List.{list_any, remove, All}
 use Rattle.std.specs.List.Sorted.{IsPermutation}
-use Rattle.std.proofs.lemmas.Bool.{eqb-true}
 use Rattle.std.proofs.lemmas.List.Sorted.{IsPermutation-trans, IsPermutation-remove, list_any-IsPermutation, All-permutation}
 use Rattle.std.proofs.lemmas.List.Elements.{All-head}
 use Rattle.seg_postings.specs.Rising.{IsRising, is_in}
 use Rattle.seg_postings.specs.Sets.{picked, without}
 use Rattle.plan_places.specs.Planned.{Planned, any_of, all_have, is_chosen, chosen_of}
 use Rattle.plan_places.proofs.Choices.{rising_chosen}
+use Rattle.std.proofs.Math.Bool.{and_assoc, and-false}
+use Rattle.seg_postings.proofs.Members.{is_in_filter}
 
 both_as_one : (a b c : Bool) → b ≡ not c → (a && b) ≡ not (not a || c)
 both_as_one true b c e = e
@@ -21,24 +22,6 @@ all_as_any n (p ∷ ps) = both_as_one (is_in n p.left) (all_have n ps) (list_any
 all_permutation : (n : ℕ) (ps qs : List Planned) → IsPermutation ps qs → all_have n ps ≡ all_have n qs
 all_permutation n ps qs h = all_as_any n ps ∙ ap not (list_any-IsPermutation (λ p. not (is_in n p.left)) ps qs h) ∙ sym (all_as_any n qs)
 
-and_false : (b : Bool) → (b && false) ≡ false
-and_false true = refl
-and_false false = refl
-
-member_choices : (e t s r : Bool) (n x : ℕ) (zs : List ℕ) → eqb n x ≡ e → (e ≡ true → s ≡ t) → is_in n zs ≡ (r && s) → is_in n (cond t (x ∷ zs) zs) ≡ ((e || r) && s)
-member_choices true true s r n x zs h k m = rw (h, k refl) refl
-member_choices true false s r n x zs h k m = rw (m, k refl) (and_false r)
-member_choices false true s r n x zs h k m = rw (h, m) refl
-member_choices false false s r n x zs h k m = m
-
-pub is_in_filter : (n : ℕ) (t : ℕ → Bool) (xs : List ℕ) → is_in n (filter t xs) ≡ (is_in n xs && t n)
-is_in_filter n t [] = refl
-is_in_filter n t (x ∷ xs) = member_choices (eqb n x) (t x) (t n) (is_in n xs) n x (filter t xs) refl (λ h. ap t (eqb-true n x h)) (is_in_filter n t xs)
-
-and_grouped : (a b c : Bool) → (a && (b && c)) ≡ ((a && b) && c)
-and_grouped true b c = refl
-and_grouped false b c = refl
-
 led : (ps qs : List Planned) (lead : Planned) → IsPermutation ps qs → 0 < length qs → lead ≡ get_or qs 0 lead → IsPermutation ps (lead ∷ remove qs 0)
 led ps qs lead h some e = IsPermutation-trans ps qs (lead ∷ remove qs 0) h (IsPermutation-remove qs 0 lead some e)
 
@@ -47,8 +30,8 @@ pub led_members : (n : ℕ) (ps qs others excluded : List Planned) (lead : Plann
 unfolding chosen_of
 led_members n ps qs others excluded lead h some e o =
     let same : all_have n ps ≡ all_have n (lead ∷ others) = all_permutation n ps (lead ∷ remove qs 0) (led ps qs lead h some e) ∙ ap (λ (rs : List Planned). all_have n (lead ∷ rs)) (sym o) in
-    is_in_filter n (is_chosen others excluded) lead.left
-    ∙ and_grouped (is_in n lead.left) (all_have n others) (not (is_in n (any_of excluded)))
+    is_in_filter (is_chosen others excluded) n lead.left
+    ∙ sym (and_assoc (is_in n lead.left) (all_have n others) (not (is_in n (any_of excluded))))
     ∙ ap (λ (b : Bool). b && not (is_in n (any_of excluded))) (sym same)
 
 pub led_rises : (ps qs others excluded : List Planned) (lead : Planned) → IsPermutation ps qs → 0 < length qs → lead ≡ get_or qs 0 lead → All (λ p. IsRising p.left) ps → IsRising (chosen_of lead others excluded)

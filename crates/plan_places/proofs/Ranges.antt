@@ -2,17 +2,9 @@
 use Rattle.std.proofs.Common.{◌≡◌, ℕ, zero, suc, ◌+◌, ◌-◌, ◌<◌, ◌≤◌, [], refl, sym, ◌∙◌, arith, inl, inr}
 use Rattle.std.specs.List.{range_with_len}
 use Rattle.std.proofs.lemmas.Bool.{cases_lt}
-use Rattle.seg_postings.specs.Rising.{IsBelowAll, IsRising, from_place}
+use Rattle.seg_postings.specs.Rising.{from_place}
 use Rattle.seg_postings.proofs.Order.{IsFrom, from_all, from_later}
 use Rattle.seg_postings.proofs.Either.{from_none}
-
-below_range : (x a n : ℕ) → x < a → IsBelowAll x (range_with_len a n)
-below_range x a zero lt = tt
-below_range x a (suc n) lt = (lt, below_range x (a + 1) n (omega arith))
-
-pub rising_range : (a n : ℕ) → IsRising (range_with_len a n)
-rising_range a zero = tt
-rising_range a (suc n) = (below_range a (a + 1) n (omega arith), rising_range (a + 1) n)
 
 range_from : (p a n : ℕ) → p ≤ a → IsFrom p (range_with_len a n)
 range_from p a zero le = tt

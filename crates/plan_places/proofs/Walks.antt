@@ -1,10 +1,10 @@
 -- Places passed in more than one step, and what a first place tells of a rising list.
-use Rattle.std.proofs.Common.{◌≡◌, ℕ, ◌+◌, ◌-◌, ◌<◌, ◌≤◌, true, false, cond, leb, eqb, ◌||◌, List, [], ◌∷◌, Option, Some, None, refl, sym, ap, subst, ◌∙◌, arith, inl, inr}
+use Rattle.std.proofs.Common.{◌≡◌, ℕ, ◌+◌, ◌-◌, ◌<◌, ◌≤◌, true, false, cond, leb, eqb, List, [], ◌∷◌, Option, Some, None, refl, sym, ap, subst, ◌∙◌, arith, inl, inr}
 use Rattle.std.specs.Option.{option_eq}
 use Rattle.std.proofs.lemmas.Bool.{le-leb, lt-leb, ne_eqb, eq-eqb, cases_lt}
 use Rattle.seg_postings.specs.Rising.{IsRising, IsNext, is_in, from_place, first_of}
-use Rattle.seg_postings.proofs.Order.{IsFrom, below_weaker, from_below, from_all, from_later, rising_from}
-use Rattle.seg_postings.proofs.Sets.{is_in_below}
+use Rattle.seg_postings.proofs.Order.{IsFrom, below_weaker, from_below, from_all, from_later, rising_from, from_zero}
+use Rattle.seg_postings.proofs.Sets.{is_in_below, is_in_from}
 use Rattle.seg_postings.proofs.Either.{after_head, from_none}
 
 pub from_twice : (p q : ℕ) (xs : List ℕ) → q ≤ p → from_place p (from_place q xs) ≡ from_place p xs
@@ -23,15 +23,6 @@ all_from p (x ∷ xs) =
     elim (cases_lt x p) [
       | inl lt ↦ rw (lt-leb p x lt) (all_from p xs)
       | inr ge ↦ rw (le-leb p x ge) (ge, all_from p xs)
-    ]
-
-pub is_in_from : (n p : ℕ) (xs : List ℕ) → p ≤ n → is_in n (from_place p xs) ≡ is_in n xs
-unfolding from_place
-is_in_from n p [] le = refl
-is_in_from n p (x ∷ xs) le =
-    elim (cases_lt x p) [
-      | inl lt ↦ rw (lt-leb p x lt, ne_eqb n x (λ h. omega arith)) (is_in_from n p xs le)
-      | inr ge ↦ rw (le-leb p x ge) (ap (λ b. eqb n x || b) (is_in_from n p xs le))
     ]
 
 -- what is the same from p on has the same places from p on
@@ -101,13 +92,6 @@ sought_next p xs x new r new2 some h e lt next =
 from_earlier : (q p : ℕ) (xs : List ℕ) → q ≤ p → IsFrom p xs → IsFrom q xs
 from_earlier q p [] le h = tt
 from_earlier q p (x ∷ xs) le h = (omega (arith, h.0), from_earlier q p xs le h.1)
-
-all_above : (xs : List ℕ) → IsFrom 0 xs
-all_above [] = tt
-all_above (x ∷ xs) = (omega arith, all_above xs)
-
-pub from_start : (xs : List ℕ) → from_place 0 xs ≡ xs
-from_start xs = from_all 0 xs (all_above xs)
 
 pub walk_later : (next place : ℕ) (xs old : List ℕ) → next < place → from_place next xs ≡ old → from_place place xs ≡ from_place place old
 walk_later next place xs old lt e = sym (from_twice place next xs (omega arith)) ∙ ap (from_place place) e

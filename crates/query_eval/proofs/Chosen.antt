@@ -1,7 +1,7 @@
 -- Set operations over the places of the documents that pass tests.
 use Rattle.std.proofs.Common.{◌≡◌, ℕ, ◌<◌, Bool, true, false, List, [], ◌∷◌, ◌++◌, length, get_or, map, Option, Some, None, refl, sym, ap, subst, ◌∙◌, arith}
 use Rattle.std.specs.Prelude.{◌||◌, ◌&&◌, not, slice_get, Result, Ok, Err, IfOk}
-use Rattle.std.specs.List.{list_any, list_all, All}
+use Rattle.std.specs.List.{list_any, All}
 use Rattle.std.specs.Option.{option_map_or}
 use Rattle.facet_model.specs.Documents.{Doc}
 use Rattle.facet_model.specs.CountedPaths.{places}
@@ -11,18 +11,15 @@ use Rattle.seg_postings.specs.Sets.{either, without}
 use Rattle.seg_postings.proofs.Either.{rising_either}
 use Rattle.std.proofs.lemmas.List.{map_push}
 use Rattle.std.proofs.lemmas.List.Elements.{All-nil, All-cons}
-use Rattle.seg_postings.proofs.Sets.{rising_picked}
+use Rattle.seg_postings.proofs.Sets.{rising_without}
 use Rattle.seg_postings.proofs.Members.{is_in-either, is_in-without}
-use Rattle.query_eval.specs.Segments.{AreTests}
+use Rattle.query_eval.specs.Segments.{AreTests, passes_tests}
 use Rattle.query_eval.proofs.Marks.{at, rising_places, is_in_places, are_places}
+use Rattle.std.proofs.Math.Bool.{and-true, or-false}
 
 -- the document passes one of the tests
 abbrev pub some_of : List (Doc → Bool) → Doc → Bool
 some_of tests doc = list_any (λ test. test doc) tests
-
--- it passes all of them
-abbrev pub all_of : List (Doc → Bool) → Doc → Bool
-all_of tests doc = list_all (λ test. test doc) tests
 
 at_none : (o : Option Doc) → false ≡ option_map_or (λ doc. false) o false
 at_none None = refl
@@ -57,17 +54,9 @@ pub one_test : (docs : List Doc) (tests : List (Doc → Bool)) (p : Planned) →
 one_test docs [] p are = absurd cc
 one_test docs (t ∷ []) p are = head_is p.left (places t docs) [] [] are ∙ alone
   where
-    or_none : (b : Bool) → b ≡ (b || false)
-    or_none true = refl
-    or_none false = refl
-
     alone : places t docs ≡ places (some_of (t ∷ [])) docs
-    alone = ap (λ (f : Doc → Bool). places f docs) (λ i doc. or_none (t doc) i)
+    alone = ap (λ (f : Doc → Bool). places f docs) (λ i doc. sym (or-false (t doc)) i)
 one_test docs (t ∷ u ∷ ts) p are = absurd (cc (tail_is p.left (places t docs) [] (map (λ (test : Doc → Bool). places test docs) (u ∷ ts)) are))
-
-rising_without : (us vs : List ℕ) → IsRising us → IsRising (without us vs)
-unfolding without
-rising_without us vs h = rising_picked not us vs h
 
 pub without_tests : (docs : List Doc) (f g : Doc → Bool) (xs ys : List ℕ) → xs ≡ places f docs → ys ≡ places g docs → without xs ys ≡ places (λ doc. f doc && not (g doc)) docs
 without_tests docs f g xs ys left right = are_places (λ doc. f doc && not (g doc)) docs (without xs ys) (rising_without xs ys (subst IsRising (sym left) (rising_places f docs)))
@@ -75,11 +64,7 @@ without_tests docs f g xs ys left right = are_places (λ doc. f doc && not (g do
 
 -- with none excluded
 pub without_none : (docs : List Doc) (f : Doc → Bool) (others : List (Doc → Bool)) (nodes : List Planned) → length nodes ≡ 0 → AreTests docs others nodes → places f docs ≡ places (λ doc. f doc && not (some_of others doc)) docs
-without_none docs f [] [] none are = ap (λ (t : Doc → Bool). places t docs) (λ i doc. and_true (f doc) i)
-  where
-    and_true : (b : Bool) → b ≡ (b && true)
-    and_true true = refl
-    and_true false = refl
+without_none docs f [] [] none are = ap (λ (t : Doc → Bool). places t docs) (λ i doc. sym (and-true (f doc)) i)
 without_none docs f (t ∷ ts) [] none are = absurd cc
 without_none docs f others (p ∷ ps) none are = absurd (omega arith)
 
@@ -94,13 +79,13 @@ rising_tests docs (t ∷ ts) (p ∷ ps) are = All-cons (λ (q : Planned). IsRisi
     (rising_tests docs ts ps (tail_is p.left (places t docs) (map (λ (q : Planned). q.left) ps) (map (λ (test : Doc → Bool). places test docs) ts) are))
 
 -- where there is a document, all nodes have its place where it passes all tests
-have_at : (docs : List Doc) (n : ℕ) (d : Doc) (tests : List (Doc → Bool)) (nodes : List Planned) → slice_get docs n ≡ Some d → AreTests docs tests nodes → all_have n nodes ≡ all_of tests d
+have_at : (docs : List Doc) (n : ℕ) (d : Doc) (tests : List (Doc → Bool)) (nodes : List Planned) → slice_get docs n ≡ Some d → AreTests docs tests nodes → all_have n nodes ≡ passes_tests tests d
 have_at docs n d [] [] there are = refl
 have_at docs n d [] (p ∷ ps) there are = absurd cc
 have_at docs n d (t ∷ ts) [] there are = absurd cc
 have_at docs n d (t ∷ ts) (p ∷ ps) there are =
     let first : is_in n p.left ≡ t d = ap (is_in n) (head_is p.left (places t docs) (map (λ (q : Planned). q.left) ps) (map (λ (test : Doc → Bool). places test docs) ts) are) ∙ is_in_places n t docs ∙ ap (λ o. option_map_or t o false) there in
-    let rest : all_have n ps ≡ all_of ts d = have_at docs n d ts ps there (tail_is p.left (places t docs) (map (λ (q : Planned). q.left) ps) (map (λ (test : Doc → Bool). places test docs) ts) are) in
+    let rest : all_have n ps ≡ passes_tests ts d = have_at docs n d ts ps there (tail_is p.left (places t docs) (map (λ (q : Planned). q.left) ps) (map (λ (test : Doc → Bool). places test docs) ts) are) in
     λ i. first i && rest i
 
 -- where there is none, no node has the place
@@ -113,25 +98,25 @@ have_past docs n (t ∷ ts) (p ∷ ps) some none are = ap (λ b. b && all_have n
     first = ap (is_in n) (head_is p.left (places t docs) (map (λ (q : Planned). q.left) ps) (map (λ (test : Doc → Bool). places test docs) ts) are) ∙ is_in_places n t docs ∙ ap (λ o. option_map_or t o false) none
 
 pub all_tests : (docs : List Doc) (tests others : List (Doc → Bool)) (nodes excluded : List Planned) (xs : List ℕ) → 0 < length nodes → AreTests docs tests nodes → AreTests docs others excluded
-    → ((n : ℕ) → is_in n xs ≡ (all_have n nodes && not (is_in n (any_of excluded)))) → (All (λ p. IsRising p.left) nodes → IsRising xs) → xs ≡ places (λ doc. all_of tests doc && not (some_of others doc)) docs
-all_tests docs tests others nodes excluded xs some are none members rises = are_places (λ doc. all_of tests doc && not (some_of others doc)) docs xs (rises (rising_tests docs tests nodes are)) (λ n. members n ∙ by n (slice_get docs n) refl)
+    → ((n : ℕ) → is_in n xs ≡ (all_have n nodes && not (is_in n (any_of excluded)))) → (All (λ p. IsRising p.left) nodes → IsRising xs) → xs ≡ places (λ doc. passes_tests tests doc && not (some_of others doc)) docs
+all_tests docs tests others nodes excluded xs some are none members rises = are_places (λ doc. passes_tests tests doc && not (some_of others doc)) docs xs (rises (rising_tests docs tests nodes are)) (λ n. members n ∙ by n (slice_get docs n) refl)
   where
     out : (n : ℕ) → is_in n (any_of excluded) ≡ at (some_of others) docs n
     out n = ap (is_in n) (any_tests docs others excluded none) ∙ is_in_places n (some_of others) docs
 
-    by : (n : ℕ) (o : Option Doc) → slice_get docs n ≡ o → (all_have n nodes && not (is_in n (any_of excluded))) ≡ at (λ doc. all_of tests doc && not (some_of others doc)) docs n
+    by : (n : ℕ) (o : Option Doc) → slice_get docs n ≡ o → (all_have n nodes && not (is_in n (any_of excluded))) ≡ at (λ doc. passes_tests tests doc && not (some_of others doc)) docs n
     by n None e = rw (have_past docs n tests nodes some e are, e) refl
     by n (Some d) e = rw (have_at docs n d tests nodes e are, out n, e) refl
 
 -- one node alone, with none excluded
-pub all_of_one : (docs : List Doc) (tests others : List (Doc → Bool)) (p : Planned) (excluded : List Planned) → AreTests docs tests (p ∷ []) → length excluded ≡ 0 → AreTests docs others excluded → p.left ≡ places (λ doc. all_of tests doc && not (some_of others doc)) docs
-all_of_one docs tests others p excluded are none out = one_test docs tests p are ∙ ap (λ (f : Doc → Bool). places f docs) (λ i doc. alike tests are doc i) ∙ without_none docs (all_of tests) others excluded none out
+pub all_of_one : (docs : List Doc) (tests others : List (Doc → Bool)) (p : Planned) (excluded : List Planned) → AreTests docs tests (p ∷ []) → length excluded ≡ 0 → AreTests docs others excluded → p.left ≡ places (λ doc. passes_tests tests doc && not (some_of others doc)) docs
+all_of_one docs tests others p excluded are none out = one_test docs tests p are ∙ ap (λ (f : Doc → Bool). places f docs) (λ i doc. alike tests are doc i) ∙ without_none docs (passes_tests tests) others excluded none out
   where
     or_and : (b : Bool) → (b || false) ≡ (b && true)
     or_and true = refl
     or_and false = refl
 
-    alike : (ts : List (Doc → Bool)) → AreTests docs ts (p ∷ []) → (doc : Doc) → some_of ts doc ≡ all_of ts doc
+    alike : (ts : List (Doc → Bool)) → AreTests docs ts (p ∷ []) → (doc : Doc) → some_of ts doc ≡ passes_tests ts doc
     alike [] h doc = absurd cc
     alike (t ∷ []) h doc = or_and (t doc)
     alike (t ∷ u ∷ us) h doc = absurd (cc (tail_is p.left (places t docs) [] (map (λ (test : Doc → Bool). places test docs) (u ∷ us)) h))

@@ -1,18 +1,18 @@
 -- Places of records that are live.
 use Rattle.std.proofs.Common.{◌≡◌, ℕ, suc, ◌≤◌, Bool, true, false, List, [], ◌∷◌, length, Option, Some, None, refl, sym, ap, ◌∙◌, arith}
-use Rattle.std.specs.Prelude.{◌||◌, ◌&&◌, not, filter, nat_lt, slice_get, count_by}
+use Rattle.std.specs.Prelude.{◌&&◌, not, filter, nat_lt, slice_get, count_by}
 use Rattle.std.specs.Option.{is_some, option_map_or}
 use Rattle.std.proofs.lemmas.Bool.{lt-ltb}
 use Rattle.std.proofs.lemmas.List.{length-map}
 use Rattle.facet_model.specs.CountedPaths.{places}
 use Rattle.facet_model.specs.Stored.{alive, is_dead, live_before}
-use Rattle.plan_places.proofs.Walks.{is_in_from}
 use Rattle.live_records.proofs.Alive.{is_in-is_dead, live_places}
 use Rattle.seg_postings.specs.Rising.{IsNext, IsRising, is_in, from_place}
 use Rattle.seg_postings.specs.Sets.{either, picked, without}
 use Rattle.seg_postings.proofs.Members.{is_in-either, is_in-without, one_rising}
-use Rattle.seg_postings.proofs.Sets.{rising_without}
+use Rattle.seg_postings.proofs.Sets.{rising_without, is_in_from}
 use Rattle.query_eval.proofs.Marks.{at, is_in_places, length_from_place, rising_places}
+use Rattle.std.proofs.Math.Bool.{or-false}
 
 -- what is left depends on what is in the second alone
 pub without_same : (xs ys zs : List ℕ) → ((n : ℕ) → is_in n ys ≡ is_in n zs) → without xs ys ≡ without xs zs
@@ -25,16 +25,8 @@ unfolding without picked
 without_nothing [] = refl
 without_nothing (x ∷ xs) = ap (λ l. x ∷ l) (without_nothing xs)
 
-pub none_there : (xs : List ℕ) → length xs ≡ 0 → xs ≡ []
-none_there [] none = refl
-none_there (x ∷ xs) none = absurd (omega (arith, none))
-
 pub without_one_list : (xs ys : List ℕ) → without xs (either ys []) ≡ without xs ys
-without_one_list xs ys = without_same xs (either ys []) ys (λ n. is_in-either n ys [] ∙ or_false (is_in n ys))
-  where
-    or_false : (b : Bool) → (b || false) ≡ b
-    or_false true = refl
-    or_false false = refl
+without_one_list xs ys = without_same xs (either ys []) ys (λ n. is_in-either n ys [] ∙ or-false (is_in n ys))
 
 -- as many live places as live documents that pass
 pub live_number : {A : Type 0} (dead : List ℕ) (test : A → Bool) (docs : List A) → length (without (places test docs) dead) ≡ count_by test (alive dead docs)

@@ -14,11 +14,9 @@ use Rattle.facet_model.specs.declared.query.Query.{Query}
 use Rattle.facet_model.specs.CountedPaths.{places}
 use Rattle.seg_terms.specs.Laws.{has_term}
 use Rattle.query_eval.proofs.Marks.{same_places}
-use Rattle.query_eval.proofs.Chosen.{some_of, all_of}
-
-or_false : (b : Bool) → (b || false) ≡ b
-or_false true = refl
-or_false false = refl
+use Rattle.query_eval.proofs.Chosen.{some_of}
+use Rattle.std.proofs.Math.Bool.{or-false}
+use Rattle.query_eval.specs.Segments.{passes_tests}
 
 -- ---- a word
 
@@ -34,7 +32,7 @@ pub word_is : (w : List ℕ) (doc : Doc) → has_term (codes "w" ++ w) doc ≡ m
 word_is w doc =
     list_any-append (bytes_eq (codes "w" ++ w)) (map (λ x. codes "w" ++ x) (words doc.text)) (map (λ p. codes "f" ++ term_text p) (flat_map prefixes doc.labels))
     ∙ (λ i. same_word w (words doc.text) i || no_path w (flat_map prefixes doc.labels) i)
-    ∙ or_false (list_any (bytes_eq w) (words doc.text))
+    ∙ or-false (list_any (bytes_eq w) (words doc.text))
 
 -- ---- a boolean query
 
@@ -42,7 +40,7 @@ word_is w doc =
 abbrev pub tests_of : List Query → List (Doc → Bool)
 tests_of qs = map (λ q. matches (query_view q)) qs
 
-pub all_trees : (qs : List Query) (doc : Doc) → all_of (tests_of qs) doc ≡ all_match (queries (map query_view qs)) doc
+pub all_trees : (qs : List Query) (doc : Doc) → passes_tests (tests_of qs) doc ≡ all_match (queries (map query_view qs)) doc
 all_trees [] doc = refl
 all_trees (q ∷ qs) doc = ap (λ b. matches (query_view q) doc && b) (all_trees qs doc)
 
@@ -64,7 +62,7 @@ bool_any (q ∷ qs) should must_not doc none = absurd (omega arith)
 
 -- with some that must match, all of these
 pub bool_all : (must should must_not : List Query) (doc : Doc) → 0 < length must
-    → (all_of (tests_of must) doc && not (some_of (tests_of must_not) doc)) ≡ matches (bool (queries (map query_view must)) (queries (map query_view should)) (queries (map query_view must_not))) doc
+    → (passes_tests (tests_of must) doc && not (some_of (tests_of must_not) doc)) ≡ matches (bool (queries (map query_view must)) (queries (map query_view should)) (queries (map query_view must_not))) doc
 bool_all [] should must_not doc some = absurd (omega arith)
 bool_all (q ∷ qs) should must_not doc some = (λ i. all_trees (q ∷ qs) doc i && not (any_trees must_not doc i)) ∙ turned (all_match (queries (map query_view (q ∷ qs))) doc) (any_matches (queries (map query_view must_not)) doc) (any_matches (queries (map query_view should)) doc)
   where
@@ -82,8 +80,8 @@ pub any_places : (must should must_not : List Query) (docs : List Doc) → lengt
 any_places must should must_not docs none = same_places (λ doc. some_of (tests_of should) doc && not (some_of (tests_of must_not) doc)) (matches (bool (queries (map query_view must)) (queries (map query_view should)) (queries (map query_view must_not)))) docs (λ doc. bool_any must should must_not doc none)
 
 pub all_places : (must should must_not : List Query) (docs : List Doc) → 0 < length must
-    → places (λ doc. all_of (tests_of must) doc && not (some_of (tests_of must_not) doc)) docs ≡ places (matches (bool (queries (map query_view must)) (queries (map query_view should)) (queries (map query_view must_not)))) docs
-all_places must should must_not docs some = same_places (λ doc. all_of (tests_of must) doc && not (some_of (tests_of must_not) doc)) (matches (bool (queries (map query_view must)) (queries (map query_view should)) (queries (map query_view must_not)))) docs (λ doc. bool_all must should must_not doc some)
+    → places (λ doc. passes_tests (tests_of must) doc && not (some_of (tests_of must_not) doc)) docs ≡ places (matches (bool (queries (map query_view must)) (queries (map query_view should)) (queries (map query_view must_not)))) docs
+all_places must should must_not docs some = same_places (λ doc. passes_tests (tests_of must) doc && not (some_of (tests_of must_not) doc)) (matches (bool (queries (map query_view must)) (queries (map query_view should)) (queries (map query_view must_not)))) docs (λ doc. bool_all must should must_not doc some)
 
 -- a number that a test does not find to be 0
 pub some_left : (n : ℕ) → false ≡ (n == 0) → 0 < n

@@ -8,6 +8,7 @@ use Rattle.facet_model.specs.Flags.{Config}
 use Rattle.facet_model.specs.Stored.{Records, Decodes, IsRecordOf, IsSegmentOf, alive, is_dead, live_before, live_docs}
 use Rattle.live_records.proofs.Alive.{length_alive}
 use Rattle.run_tests.specs.Thinned.{IsStoredAlike}
+use Rattle.std.proofs.lemmas.Slice.Zip.{all_zipped_more}
 
 as_long : {A B : Type 0} (R : A → B → Type 0) (xs : List A) (ys : List B) → AllZip R xs ys → length ys ≡ length xs
 as_long R [] [] all = refl
@@ -61,12 +62,6 @@ module _ (known : List (List (List ℕ))) (config : Config) where
 take_next : {A B : Type 0} (f : A → B) (xs : List A) (i : ℕ) (x : A) → i < length xs → x ≡ get_or xs i x → map f (take (i + 1) xs) ≡ map f (take i xs) ++ f x ∷ []
 take_next f xs i x lt is = ap (map f) (take_more xs i x lt ∙ ap (λ z. take i xs ++ z ∷ []) (sym is)) ∙ map_push f (take i xs) x
 
-zip_push : {A B : Type 0} (R : A → B → Type 0) (xs : List A) (ys : List B) (x : A) (y : B) → AllZip R xs ys → R x y → AllZip R (xs ++ x ∷ []) (ys ++ y ∷ [])
-zip_push R [] [] x y all here = (here, tt)
-zip_push R [] (b ∷ bs) x y all here = absurd all
-zip_push R (a ∷ xs) [] x y all here = absurd all
-zip_push R (a ∷ xs) (b ∷ bs) x y all here = (all.0, zip_push R xs bs x y all.1 here)
-
 pub zip_more : {A B C D : Type 0} (R : C → D → Type 0) (f : A → C) (g : B → D) (xs : List A) (i : ℕ) (x : A) (ys : List B) (y : B) → i < length xs → x ≡ get_or xs i x → AllZip R (map f (take i xs)) (map g ys) → R (f x) (g y)
     → AllZip R (map f (take (i + 1) xs)) (map g (ys ++ y ∷ []))
-zip_more R f g xs i x ys y lt is all here = subst (λ l. AllZip R (map f (take (i + 1) xs)) l) (sym (map_push g ys y)) (subst (λ l. AllZip R l (map g ys ++ g y ∷ [])) (sym (take_next f xs i x lt is)) (zip_push R (map f (take i xs)) (map g ys) (f x) (g y) all here))
+zip_more R f g xs i x ys y lt is all here = subst (λ l. AllZip R (map f (take (i + 1) xs)) l) (sym (map_push g ys y)) (subst (λ l. AllZip R l (map g ys ++ g y ∷ [])) (sym (take_next f xs i x lt is)) (all_zipped_more R (map f (take i xs)) (map g ys) (f x) (g y) all here))

@@ -10,20 +10,21 @@ use Rattle.facet_model.specs.Stored.{Stored, Records, IsRecordOf}
 use Rattle.seg_decoding.specs.Laws.{OpensAgain, OpensLater}
 use Rattle.seg_decoding.proofs.Decoded.{segment_stays}
 use Rattle.seg_decoding.proofs.Opened.{opened_again}
-use Rattle.seg_decoding.proofs.Stored.{all_each, leaves_within}
+use Rattle.seg_decoding.proofs.Stored.{leaves_within}
+use Rattle.std.proofs.lemmas.List.Elements.{recursion_from_All}
 
 low_each : (needs : ℕ) (rs : List Stored) → AllByRecursion (λ r. All (λ leaf. leaf < needs) r.leaves) rs → AllByRecursion (λ r. AllByRecursion (λ leaf. leaf < needs) r.leaves) rs
 low_each needs [] all = tt
-low_each needs (r ∷ rs) all = (all_each (λ leaf. leaf < needs) r.leaves all.0, low_each needs rs all.1)
+low_each needs (r ∷ rs) all = (recursion_from_All (λ leaf. leaf < needs) r.leaves all.0, low_each needs rs all.1)
 
 pub opens_again : (config : Config) (known : Labels) (needs : ℕ) (s : Records) → OpensAgain config known needs s
-opens_again config known needs s docs list of is low = opened_again config known needs list s docs of is (low_each needs s.records (all_each (λ r. All (λ leaf. leaf < needs) r.leaves) s.records low))
+opens_again config known needs s docs list of is low = opened_again config known needs list s docs of is (low_each needs s.records (recursion_from_All (λ r. All (λ leaf. leaf < needs) r.leaves) s.records low))
 
 module _ (config : Config) (view known : Labels) where
   view_each : IsLabelList view → (rs : List Stored) (docs : List Doc) → AllZip (IsRecordOf view config) rs docs → AllByRecursion (λ r. AllByRecursion (λ leaf. leaf < length view) r.leaves) rs
   view_each list [] docs all = tt
   view_each list (r ∷ rs) [] all = absurd all
-  view_each list (r ∷ rs) (d ∷ ds) all = (all_each (λ leaf. leaf < length view) r.leaves (λ k e lt. (leaves_within view config r list (d, all.0) k e lt).1), view_each list rs ds all.1)
+  view_each list (r ∷ rs) (d ∷ ds) all = (recursion_from_All (λ leaf. leaf < length view) r.leaves (λ k e lt. (leaves_within view config r list (d, all.0) k e lt).1), view_each list rs ds all.1)
 
   pub opens_later : (s : Records) → OpensLater config view known s
   opens_later s docs list_view list on of is =

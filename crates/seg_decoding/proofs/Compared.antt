@@ -20,7 +20,7 @@ use Rattle.seg_decoding.specs.Laws.{OpensOnly}
 use Rattle.seg_decoding.proofs.Differences.{same_from_none}
 use Rattle.seg_decoding.proofs.Fitting.{Fits, documents_are}
 use Rattle.seg_decoding.proofs.Opened.{head_of, segment_is}
-use Rattle.seg_decoding.proofs.Stored.{each_at}
+use Rattle.std.proofs.lemmas.List.Elements.{All-from_recursion}
 
 -- a segment that was opened has so many documents
 pub number_is : (documents : ℕ) (bytes : List ℕ) (s : Records) → IsSegment bytes s → opened documents bytes ≡ Ok s → length s.records ≡ documents
@@ -63,11 +63,11 @@ module _ (config : Config) (known : List (List (List ℕ))) (needs documents : �
 
 -- the leaves of documents that fit
 pub leaves_low : (config : Config) (known : List (List (List ℕ))) (needs : ℕ) (rs : List Stored) → documents_fit config known needs 12 rs ≡ Ok (tt {0}) → All (λ r. All (IsLeaf needs) r.leaves) rs
-leaves_low config known needs rs fits = each_at (λ r. All (IsLeaf needs) r.leaves) rs (each rs (documents_are config known needs 12 rs fits))
+leaves_low config known needs rs fits = All-from_recursion (λ r. All (IsLeaf needs) r.leaves) rs (each rs (documents_are config known needs 12 rs fits))
   where
     each : (rs : List Stored) → AllByRecursion (Fits config known needs) rs → AllByRecursion (λ r. All (IsLeaf needs) r.leaves) rs
     each [] all = tt
-    each (r ∷ rs) all = (each_at (IsLeaf needs) r.leaves all.0.leaves, each rs all.1)
+    each (r ∷ rs) all = (All-from_recursion (IsLeaf needs) r.leaves all.0.leaves, each rs all.1)
 
 unless_is : (s made : Records) (o : Option ℕ) → unless_at s o ≡ Ok made → s ≡ made
 unless_is s made None e = done_is ℕ s made e

@@ -15,7 +15,8 @@ use Rattle.seg_terms.specs.declared.entry.Entry.{Entry}
 use Rattle.seg_decoding.specs.Decoding.{doc_in, records_in, docs_in, flushed}
 use Rattle.seg_decoding.specs.Entries.{AreEntries, docs_of}
 use Rattle.seg_decoding.proofs.Live.{records_first}
-use Rattle.seg_decoding.proofs.Ordinals.{all_stay, all_zip_push}
+use Rattle.seg_decoding.proofs.Ordinals.{all_stay}
+use Rattle.std.proofs.lemmas.Slice.Zip.{all_zipped_more}
 
 -- ---- lists side by side
 
@@ -110,7 +111,7 @@ live_docs_push R (x ∷ xs) (p ∷ ps) s piece all = append_assoc (alive x.dead 
 pub decodes_push : (known : Labels) (config : Config) (segments : List Records) (docs : List Doc) (s : Records) (piece : List Doc) → Decodes known config segments docs → IsSegmentOf known config s piece → Decodes known config (segments ++ s ∷ []) (docs ++ alive s.dead piece)
 decodes_push known config segments docs s piece d one = (
   d.0 ++ piece ∷ [],
-  all_zip_push (IsSegmentOf known config) segments d.0 s piece d.1 one,
+  all_zipped_more (IsSegmentOf known config) segments d.0 s piece d.1 one,
   ap (λ (ds : List Doc). ds ++ alive s.dead piece) d.2 ∙ live_docs_push (IsSegmentOf known config) segments d.0 s piece d.1,
 )
 

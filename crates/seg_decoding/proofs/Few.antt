@@ -1,5 +1,5 @@
 -- Few ordinals are counted for a document.
-use Rattle.std.proofs.Common.{ℕ, suc, ◌+◌, ◌*◌, ◌≤◌, Bool, List, [], ◌∷◌, length, take, eqb, sym, ap, ◌∙◌, arith}
+use Rattle.std.proofs.Common.{ℕ, ◌+◌, ◌*◌, ◌≤◌, Bool, List, [], ◌∷◌, length, take, eqb, sym, ap, ◌∙◌, arith}
 use Rattle.std.specs.Prelude.{filter, All}
 use Rattle.std.specs.List.{IsDistinct, enumerate_from, zip}
 use Rattle.std.specs.List.Sorted.{IsStrictlyIncreasing}
@@ -19,9 +19,7 @@ use Rattle.facet_model.specs.Documents.{dim_of}
 use Rattle.facet_model.specs.Flags.{Config, flags}
 use Rattle.facet_config.specs.Expanding.{AreAsLong, AreExpanded}
 use Rattle.seg_decoding.specs.Entries.{IsShort}
-
-all_tail : {X : Type 0} (P : X → Type 0) (x : X) (xs : List X) → All P (x ∷ xs) → All P xs
-all_tail P x xs all = λ i d lt. all (suc i) d (omega arith)
+use Rattle.std.proofs.lemmas.List.Elements.{All-tail}
 
 label_few : (config : Config) (path : List (List ℕ)) (ords : List ℕ) → length (ordinals_of_label config path ords) ≤ length ords
 label_few config path ords =
@@ -34,7 +32,7 @@ labels_few config [] (r ∷ rs) short long = absurd long
 labels_few config (p ∷ ps) [] short long = absurd long
 labels_few config (p ∷ ps) (r ∷ rs) short long =
     let cut = ap length (flat_map-cons (λ (l : List (List ℕ) × List ℕ). ordinals_of_label config l.0 l.1) (p, r) (zip ps rs)) ∙ length-append (ordinals_of_label config p r) (ordinals_of_labels config ps rs) in
-    omega (arith, cut, label_few config p r, long.0, (short 0 [] (omega arith)).1, labels_few config ps rs (all_tail IsShort p ps short) long.1)
+    omega (arith, cut, label_few config p r, long.0, (short 0 [] (omega arith)).1, labels_few config ps rs (All-tail IsShort p ps short) long.1)
 
 pub counted_few : (config : Config) (labels : Labels) (resolved : List (List ℕ)) (counted : List ℕ) → length labels ≤ 256 → All IsShort labels → AreAsLong labels resolved → IsStrictlyIncreasing counted → AreExpanded config labels resolved counted → length counted ≤ 8192
 counted_few config labels resolved counted few short long rising expanded =

@@ -17,3 +17,4 @@ pub mod Pairs
 pub mod Walked
 pub mod Verified
 pub mod Rights
+pub mod Bare

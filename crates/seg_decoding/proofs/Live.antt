@@ -1,27 +1,20 @@
 -- Records that are live, of segments.
-use Rattle.std.proofs.Common.{◌≡◌, ℕ, ◌+◌, Bool, true, false, cond, List, [], ◌∷◌, ◌++◌, refl, sym, ap, subst, ◌∙◌}
+use Rattle.std.proofs.Common.{◌≡◌, ℕ, ◌+◌, List, [], ◌∷◌, ◌++◌, refl, sym, ap, subst, ◌∙◌}
 use Rattle.std.specs.Prelude.{flat_map}
 use Rattle.std.specs.List.{AllZip, AllByRecursion}
 use Rattle.std.proofs.lemmas.List.Concat.{flat_map-cons}
 use Rattle.facet_model.specs.Documents.{Doc}
-use Rattle.facet_model.specs.Stored.{Stored, Records, is_dead, alive_from, alive, live_docs}
+use Rattle.facet_model.specs.Stored.{Stored, Records, alive, live_docs}
 use Rattle.live_records.proofs.Alive.{alive_none}
 use Rattle.seg_grammar.specs.Spelling.{IsSegment, all_live}
 use Rattle.seg_decoding.specs.Decoding.{records_in}
+use Rattle.facet_model.proofs.Each.{each_from}
 
 -- ---- of one list
 
 -- where none is dead, all are live
 pub alive_where_none : {A : Type 0} (dead : List ℕ) (xs : List A) → dead ≡ [] → alive dead xs ≡ xs
 alive_where_none dead xs live = ap (λ (d : List ℕ). alive d xs) live ∙ alive_none xs
-
-each_from : {A : Type 0} (P : A → Type 0) (dead : List ℕ) (k : ℕ) (xs : List A) → AllByRecursion P xs → AllByRecursion P (alive_from dead k xs)
-each_from P dead k [] all = tt
-each_from P dead k (x ∷ xs) all = by (is_dead dead k) (each_from P dead (k + 1) xs all.1)
-  where
-    by : (b : Bool) → AllByRecursion P (alive_from dead (k + 1) xs) → AllByRecursion P (cond b (alive_from dead (k + 1) xs) (x ∷ alive_from dead (k + 1) xs))
-    by true rest = rest
-    by false rest = (all.0, rest)
 
 -- what holds of each holds of the live ones
 pub each_alive : {A : Type 0} (P : A → Type 0) (dead : List ℕ) (xs : List A) → AllByRecursion P xs → AllByRecursion P (alive dead xs)

@@ -25,7 +25,8 @@ use Rattle.seg_decoding.proofs.Ordinals.{known_at}
 use Rattle.seg_decoding.proofs.Decoded.{all_zip_is, record_is}
 use Rattle.seg_decoding.proofs.Differences.{none_from_same}
 use Rattle.seg_decoding.proofs.Fitting.{Fits, documents_fit_where}
-use Rattle.seg_decoding.proofs.Stored.{leaves_within, all_each}
+use Rattle.seg_decoding.proofs.Stored.{leaves_within}
+use Rattle.std.proofs.lemmas.List.Elements.{recursion_from_All}
 
 -- what the head of a segment tells
 pub head_of : (documents : ℕ) (s : Records) → length s.records < 2 ^ 32 → head_fits documents (seg_bytes s) ≡ (if length s.records == documents then Ok tt else Err 8)
@@ -85,7 +86,7 @@ module _ (config : Config) (known : Labels) (needs : ℕ) where
   fit list (r ∷ rs) [] all low = absurd all
   fit list (r ∷ rs) (d ∷ ds) all low = (
     record {
-      leaves = both r.leaves (all_each (λ leaf. (0 < leaf) × (leaf < length known)) r.leaves (leaves_within known config r list (d, all.0))) low.0;
+      leaves = both r.leaves (recursion_from_All (λ leaf. (0 < leaf) × (leaf < length known)) r.leaves (leaves_within known config r list (d, all.0))) low.0;
       accepted = subst (Accepts config) (sym (record_is known config r d all.0)) all.0.accepted;
     },
     fit list rs ds all.1 low.1,

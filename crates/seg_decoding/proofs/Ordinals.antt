@@ -11,6 +11,7 @@ use Rattle.facet_names.specs.Labels.{GoesOn, prefixes, stands}
 use Rattle.facet_names.proofs.LabelLists.{Labels}
 use Rattle.facet_model.specs.CountedPaths.{AreResolved}
 use Rattle.facet_config.specs.Expanding.{AreAsLong}
+use Rattle.std.proofs.lemmas.Slice.Zip.{all_zipped_more}
 
 -- the ordinals are those of these paths
 abbrev pub AreAt : Labels → List ℕ → Labels → Type 0
@@ -45,18 +46,12 @@ resolved_stay a b on [] (r ∷ rs) at = absurd at
 resolved_stay a b on (p ∷ ps) [] at = absurd at
 resolved_stay a b on (p ∷ ps) (r ∷ rs) at = (all_stay a b on r (prefixes p) at.0, resolved_stay a b on ps rs at.1)
 
-pub all_zip_push : {A B : Type 0} (R : A → B → Type 0) (xs : List A) (ys : List B) (x : A) (y : B) → AllZip R xs ys → R x y → AllZip R (xs ++ x ∷ []) (ys ++ y ∷ [])
-all_zip_push R [] [] x y all r = (r, tt)
-all_zip_push R [] (b ∷ ys) x y all r = absurd all
-all_zip_push R (a ∷ xs) [] x y all r = absurd all
-all_zip_push R (a ∷ xs) (b ∷ ys) x y all r = (all.0, all_zip_push R xs ys x y all.1 r)
-
 pub one_path_resolved : (a b : Labels) → GoesOn a b → (paths : Labels) (resolved now : List (List ℕ)) (i : ℕ) (p : List (List ℕ)) (r : List ℕ) → i < length paths → get_or paths i p ≡ p → AreResolved a (take i paths) resolved → AreAt b r (prefixes p) → now ≡ resolved ++ r ∷ []
     → AreResolved b (take (i + 1) paths) now
 one_path_resolved a b on paths resolved now i p r lt here before at pushed =
     let R : List (List ℕ) → List ℕ → Type 0 = λ label ords. AreAt b ords (prefixes label) in
     let taken : take (i + 1) paths ≡ take i paths ++ p ∷ [] = take_more paths i p lt ∙ ap (λ q. take i paths ++ q ∷ []) here in
-    subst (λ (rs : List (List ℕ)). AllZip R (take (i + 1) paths) rs) (sym pushed) (subst (λ (ps : Labels). AllZip R ps (resolved ++ r ∷ [])) (sym taken) (all_zip_push R (take i paths) resolved p r (resolved_stay a b on (take i paths) resolved before) at))
+    subst (λ (rs : List (List ℕ)). AllZip R (take (i + 1) paths) rs) (sym pushed) (subst (λ (ps : Labels). AllZip R ps (resolved ++ r ∷ [])) (sym taken) (all_zipped_more R (take i paths) resolved p r (resolved_stay a b on (take i paths) resolved before) at))
 
 -- there are as many ordinals as components
 pub resolved_as_long : (labels paths : Labels) (resolved : List (List ℕ)) → AreResolved labels paths resolved → AreAsLong paths resolved

@@ -1,9 +1,7 @@
 -- Terms that rise are those of documents where their pairs are.
 use Rattle.std.proofs.Common.{◌≡◌, ℕ, zero, suc, Bool, true, false, cond, List, [], ◌∷◌, length, Option, Some, None, refl, sym, ap, subst, ◌∙◌, arith}
 use Rattle.std.specs.Prelude.{slice_get}
-use Rattle.std.specs.declared.cmp.Ordering.{Ordering}
-use Rattle.std.specs.declared.cmp.Ordering.TheVariants.{Less, Equal, Greater}
-use Rattle.std.specs.Ordering.{is_lt}
+use Rattle.std.specs.declared.cmp.Ordering.TheVariants.{Less}
 use Rattle.std.specs.Cmp.Lexicographic.{nat_list_cmp_total}
 use Rattle.std.specs.List.{list_any, AllByRecursion}
 use Rattle.std.specs.List.Sorted.{IsStrictlySortedBy}
@@ -22,21 +20,17 @@ use Rattle.seg_terms.specs.Noting.{Table, found}
 use Rattle.seg_terms.proofs.TermLists.{found_in_terms, rises, same_tables}
 use Rattle.seg_decoding.specs.Pairs.{has_at, AreTheirs}
 use Rattle.seg_file.proofs.PlacesOf.{are_places}
+use Rattle.facet_names.proofs.Ordered.{is_less}
 
 -- ---- terms that rise
 
-less_is : (o : Ordering) → is_lt o ≡ true → o ≡ Less
-less_is Less e = refl
-less_is Equal e = absurd cc
-less_is Greater e = absurd cc
-
 pub behind : (u : List ℕ) (ts : Table) → TermsRise (Some u) ts → AllByRecursion (λ k. word_cmp u k ≡ Less) (keys_of ts)
 behind u [] up = tt
-behind u (t ∷ ts) up = (less_is (word_cmp u t.0) up.0, after ts (behind t.0 ts up.1))
+behind u (t ∷ ts) up = (is_less (word_cmp u t.0) up.0, after ts (behind t.0 ts up.1))
   where
     after : (ts : Table) → AllByRecursion (λ k. word_cmp t.0 k ≡ Less) (keys_of ts) → AllByRecursion (λ k. word_cmp u k ≡ Less) (keys_of ts)
     after [] all = tt
-    after (s ∷ ss) all = (nat_list_cmp_total.trans u t.0 s.0 (less_is (word_cmp u t.0) up.0) all.0, after ss all.1)
+    after (s ∷ ss) all = (nat_list_cmp_total.trans u t.0 s.0 (is_less (word_cmp u t.0) up.0) all.0, after ss all.1)
 
 pub sorted_from_rising : (previous : Option (List ℕ)) (ts : Table) → TermsRise previous ts → IsStrictlySortedBy word_cmp (keys_of ts)
 unfolding IsStrictlySortedBy

@@ -1,5 +1,5 @@
 -- What shows that a record is right without making its document: label by label, and ordinal by ordinal.
-use Rattle.std.proofs.Common.{◌≡◌, ℕ, suc, ◌+◌, ◌<◌, Bool, true, false, ◌||◌, List, [], ◌∷◌, ◌++◌, length, take, get_or, slice_get, Option, Some, None, refl, sym, ap, subst, ◌∙◌, arith, inl, inr}
+use Rattle.std.proofs.Common.{◌≡◌, ℕ, suc, ◌+◌, ◌<◌, false, ◌||◌, List, [], ◌∷◌, ◌++◌, length, take, get_or, slice_get, Option, Some, None, refl, sym, ap, subst, ◌∙◌, arith, inl, inr}
 use Rattle.std.specs.Prelude.{not, unwrap_or, filter_map, flat_map, ◌&&◌, ◌==◌, nat_eq}
 use Rattle.std.specs.List.{enumerate_from, list_any, AllByRecursion}
 use Rattle.std.specs.Option.{option_map_or}
@@ -24,8 +24,9 @@ use Rattle.seg_decoding.specs.Facts.{AreFacts, AreSeen, AreUnbroken, IsUnbroken,
 use Rattle.seg_decoding.specs.Pairs.{IsRight, Passes}
 use Rattle.seg_decoding.specs.declared.facts.LabelFacts.{LabelFacts}
 use Rattle.seg_file.proofs.PlacesOf.{are_places, is_in_places}
-use Rattle.seg_decoding.proofs.Stored.{each_at}
 use Rattle.seg_decoding.proofs.Walked.{passes_more}
+use Rattle.std.proofs.lemmas.List.Elements.{All-from_recursion}
+use Rattle.live_records.proofs.Added.{is_in_append}
 
 -- ---- labels that break nothing
 
@@ -57,14 +58,6 @@ unbroken_more config labels label are is k lt = elim (cases_lt k (length labels)
 ]
 
 -- ---- ordinals that are counted
-
-or_assoc : (a b c : Bool) → (a || b) || c ≡ a || (b || c)
-or_assoc true b c = refl
-or_assoc false b c = refl
-
-pub is_in_append : (q : ℕ) (xs ys : List ℕ) → is_in q (xs ++ ys) ≡ (is_in q xs || is_in q ys)
-is_in_append q [] ys = refl
-is_in_append q (x ∷ xs) ys = ap (λ b. (q == x) || b) (is_in_append q xs ys) ∙ sym (or_assoc (q == x) (is_in q xs) (is_in q ys))
 
 pub is_in_any : (q : ℕ) (xs : List ℕ) → is_in q xs ≡ list_any (nat_eq q) xs
 is_in_any q [] = refl
@@ -114,7 +107,7 @@ module _ (config : Config) (known : Labels) (needs : ℕ) (terms : Table) (doc :
 pub right_where : (config : Config) (known : Labels) (needs : ℕ) (terms : Table) (doc : ℕ) (r : Stored) (counted old new : List ℕ) → AllByRecursion (IsLeaf needs) r.leaves → AreSeen config known terms doc r.leaves counted old new
     → IsRising r.counted → ((ord : ℕ) → is_in ord r.counted ≡ is_in ord counted) → IsRight config known needs r
 right_where config known needs terms doc r counted old new fit seen rise same = record {
-  leaves = each_at (IsLeaf needs) r.leaves fit;
+  leaves = All-from_recursion (IsLeaf needs) r.leaves fit;
   accepted = accepted_where config (doc_in known r) seen.unbroken;
   counted = are_places (is_counted config (labels_of known r.leaves)) known r.counted rise (λ ord. same ord ∙ seen.counted ord);
 }
@@ -126,4 +119,4 @@ dim_is known ord path dim at first = ap dim_of (get_or_from_slice_get known ord 
 
 -- what holds of each holds of the one that stands at a place
 pub at_place : {A : Type 0} (P : A → Type 0) (xs : List A) (at : ℕ) (x : A) → AllByRecursion P xs → slice_get xs at ≡ Some x → P x
-at_place P xs at x all e = subst P (get_or_from_slice_get xs at x x e) (each_at P xs all at x (slice_get_within xs at x e))
+at_place P xs at x all e = subst P (get_or_from_slice_get xs at x x e) (All-from_recursion P xs all at x (slice_get_within xs at x e))

@@ -1,5 +1,5 @@
 -- What holds of the records of segments that decode.
-use Rattle.std.proofs.Common.{◌≡◌, ℕ, zero, suc, ◌<◌, List, [], ◌∷◌, ◌++◌, length, map, get_or, slice_get, Some, option_map, refl, sym, ap, subst, ◌∙◌, arith}
+use Rattle.std.proofs.Common.{◌≡◌, ℕ, zero, suc, ◌<◌, List, [], ◌∷◌, length, map, get_or, slice_get, Some, option_map, refl, sym, ap, subst, ◌∙◌, arith}
 use Rattle.std.specs.Prelude.{All}
 use Rattle.std.specs.List.{AllZip, AllByRecursion}
 use Rattle.std.proofs.lemmas.Option.{get_or_from_slice_get, slice_get_within}
@@ -11,6 +11,8 @@ use Rattle.facet_model.specs.Stored.{Stored, Records, AreLabelsAt, IsRecordOf, I
 use Rattle.facet_counts.proofs.Documents.{each_unbroken}
 use Rattle.seg_decoding.specs.Decoding.{records_in}
 use Rattle.seg_decoding.proofs.Live.{each_alive, records_first}
+use Rattle.std.proofs.lemmas.List.Elements.{All-from_recursion}
+use Rattle.facet_model.proofs.Each.{each_append}
 
 -- the record is a document's
 abbrev pub IsOfDoc : Labels → Config → Stored → Type 0
@@ -22,29 +24,16 @@ zip_each known config [] (d ∷ ds) all = absurd all
 zip_each known config (r ∷ rs) [] all = absurd all
 zip_each known config (r ∷ rs) (d ∷ ds) all = ((d, all.0), zip_each known config rs ds all.1)
 
-all_append : {A : Type 0} (P : A → Type 0) (xs ys : List A) → AllByRecursion P xs → AllByRecursion P ys → AllByRecursion P (xs ++ ys)
-all_append P [] ys one two = two
-all_append P (x ∷ xs) ys one two = (one.0, all_append P xs ys one.1 two)
-
 pieces_each : (known : Labels) (config : Config) (segments : List Records) (pieces : List (List Doc)) → AllZip (IsSegmentOf known config) segments pieces → AllByRecursion (IsOfDoc known config) (records_in segments)
 pieces_each known config [] [] all = tt
 pieces_each known config [] (p ∷ ps) all = absurd all
 pieces_each known config (s ∷ ss) [] all = absurd all
 pieces_each known config (s ∷ ss) (p ∷ ps) all = subst (AllByRecursion (IsOfDoc known config)) (sym (records_first s ss))
-    (all_append (IsOfDoc known config) (alive s.dead s.records) (records_in ss) (each_alive (IsOfDoc known config) s.dead s.records (zip_each known config s.records p all.0.records)) (pieces_each known config ss ps all.1))
-
-pub each_at : {A : Type 0} (P : A → Type 0) (xs : List A) → AllByRecursion P xs → All P xs
-each_at P [] all k d lt = absurd (omega arith)
-each_at P (x ∷ xs) all zero d lt = all.0
-each_at P (x ∷ xs) all (suc k) d lt = each_at P xs all.1 k d (omega arith)
-
-pub all_each : {A : Type 0} (P : A → Type 0) (xs : List A) → All P xs → AllByRecursion P xs
-all_each P [] all = tt
-all_each P (x ∷ xs) all = (all 0 x (omega arith), all_each P xs (λ k d lt. all (suc k) d (omega arith)))
+    (each_append (IsOfDoc known config) (alive s.dead s.records) (records_in ss) (each_alive (IsOfDoc known config) s.dead s.records (zip_each known config s.records p all.0.records)) (pieces_each known config ss ps all.1))
 
 -- each record is a document's
 pub records_are : (known : Labels) (config : Config) (segments : List Records) (docs : List Doc) → Decodes known config segments docs → All (IsOfDoc known config) (records_in segments)
-records_are known config segments docs d = each_at (IsOfDoc known config) (records_in segments) (pieces_each known config segments d.0 d.1)
+records_are known config segments docs d = All-from_recursion (IsOfDoc known config) (records_in segments) (pieces_each known config segments d.0 d.1)
 
 -- ---- leaves
 

@@ -15,12 +15,12 @@ use Rattle.seg_decoding.proofs.Compared.{agrees, decodes}
 use Rattle.seg_decoding.proofs.Differences.{none_from_same}
 use Rattle.seg_decoding.proofs.Fitting.{Fits, documents_fit_where}
 use Rattle.seg_decoding.proofs.Pairs.{terms_are}
-use Rattle.seg_decoding.proofs.Stored.{all_each}
+use Rattle.std.proofs.lemmas.List.Elements.{recursion_from_All}
 
 module _ (config : Config) (known : Labels) (needs : ℕ) where
   each_fits : (rs : List Stored) → AllByRecursion (IsRight config known needs) rs → AllByRecursion (Fits config known needs) rs
   each_fits [] all = tt
-  each_fits (r ∷ rs) all = (record { leaves = all_each _ r.leaves all.0.leaves; accepted = all.0.accepted }, each_fits rs all.1)
+  each_fits (r ∷ rs) all = (record { leaves = recursion_from_All _ r.leaves all.0.leaves; accepted = all.0.accepted }, each_fits rs all.1)
 
   each_anew : (rs : List Stored) → AllByRecursion (IsRight config known needs) rs → map (counted_anew config known) rs ≡ rs
   each_anew [] all = refl

@@ -17,10 +17,14 @@ use Rattle.seg_postings.specs.Rising.{is_in}
 use Rattle.seg_file.specs.Search.{term_of}
 use Rattle.seg_terms.specs.Laws.{has_term}
 use Rattle.seg_terms.specs.Noting.{Table, found}
-use Rattle.seg_terms.proofs.Tables.{bytes_same, same_bytes}
+use Rattle.seg_terms.proofs.Tables.{bytes_same}
 use Rattle.seg_decoding.specs.Pairs.{is_stored, has_at, AreTheirs, IsPassed, OnlyTheirs, Passes}
 use Rattle.seg_decoding.proofs.Pairs.{behind}
-use Rattle.seg_decoding.proofs.Stored.{each_at, all_each}
+use Rattle.std.proofs.lemmas.List.Elements.{All-from_recursion, recursion_from_All}
+use Rattle.facet_model.proofs.Each.{each_append}
+use Rattle.std.specs.Cmp.{both_ways}
+use Rattle.seg_postings.proofs.Members.{is_there}
+use Rattle.std.specs.Cmp.Lexicographic.{nat_list_eq_equiv}
 
 -- ---- one after the other
 
@@ -31,10 +35,6 @@ all_front P (x ∷ xs) ys all = (all.0, all_front P xs ys all.1)
 all_back : {A : Type 0} (P : A → Type 0) (xs ys : List A) → AllByRecursion P (xs ++ ys) → AllByRecursion P ys
 all_back P [] ys all = all
 all_back P (x ∷ xs) ys all = all_back P xs ys all.1
-
-all_join : {A : Type 0} (P : A → Type 0) (xs ys : List A) → AllByRecursion P xs → AllByRecursion P ys → AllByRecursion P (xs ++ ys)
-all_join P [] ys one two = two
-all_join P (x ∷ xs) ys one two = (one.0, all_join P xs ys one.1 two)
 
 module _ (terms : Table) where
   pub passed_stays : (old new : List ℕ) (t : List ℕ) (p : ℕ) → ((at index : ℕ) → index < get_or old at 0 → index < get_or new at 0) → IsPassed terms old t p → IsPassed terms new t p
@@ -52,20 +52,20 @@ module _ (terms : Table) where
     size = two.size ∙ one.size;
     grows = λ at index lt. two.grows at index (one.grows at index lt);
     only = λ docs all only.
-        let each = all_each (λ t. has_at docs t place ≡ true) (xs ++ ys) all in
-        two.only docs (each_at (λ t. has_at docs t place ≡ true) ys (all_back (λ t. has_at docs t place ≡ true) xs ys each)) (one.only docs (each_at (λ t. has_at docs t place ≡ true) xs (all_front (λ t. has_at docs t place ≡ true) xs ys each)) only);
-    each = each_at (λ t. IsPassed terms c t place) (xs ++ ys) (all_join (λ t. IsPassed terms c t place) xs ys (all_stay b c place xs two.grows (all_each (λ t. IsPassed terms b t place) xs one.each)) (all_each (λ t. IsPassed terms c t place) ys two.each));
+        let each = recursion_from_All (λ t. has_at docs t place ≡ true) (xs ++ ys) all in
+        two.only docs (All-from_recursion (λ t. has_at docs t place ≡ true) ys (all_back (λ t. has_at docs t place ≡ true) xs ys each)) (one.only docs (All-from_recursion (λ t. has_at docs t place ≡ true) xs (all_front (λ t. has_at docs t place ≡ true) xs ys each)) only);
+    each = All-from_recursion (λ t. IsPassed terms c t place) (xs ++ ys) (each_append (λ t. IsPassed terms c t place) xs ys (all_stay b c place xs two.grows (recursion_from_All (λ t. IsPassed terms b t place) xs one.each)) (recursion_from_All (λ t. IsPassed terms c t place) ys two.each));
   }
 
   -- ---- all were passed
 
   found_at : (previous : Option (List ℕ)) (ts : Table) → TermsRise previous ts → (k : ℕ) → k < length ts → found ts (term_of ts k).0 ≡ Some (term_of ts k).1
   found_at previous [] up k lt = absurd (omega arith)
-  found_at previous (t ∷ ts) up zero lt = ap (λ b. cond b (Some t.1) (found ts t.0)) (same_bytes t.0)
+  found_at previous (t ∷ ts) up zero lt = ap (λ b. cond b (Some t.1) (found ts t.0)) (nat_list_eq_equiv.refl t.0)
   found_at previous (t ∷ ts) up (suc k) lt = ap (λ b. cond b (Some t.1) (found ts (term_of ts k).0)) (apart ts k (behind t.0 ts up.1) (omega arith)) ∙ found_at (Some t.0) ts up.1 k (omega arith)
     where
       self_less : word_cmp t.0 t.0 ≡ Less → ⊥
-      self_less e = absurd (true≢false (sym (same_bytes t.0) ∙ sym (is_eq-slice_cmp t.0 t.0) ∙ ap is_eq e))
+      self_less e = absurd (true≢false (sym (nat_list_eq_equiv.refl t.0) ∙ sym (is_eq-slice_cmp t.0 t.0) ∙ ap is_eq e))
 
       other : (q : List ℕ) (b : Bool) → word_cmp t.0 q ≡ Less → bytes_eq q t.0 ≡ b → b ≡ false
       other q true less e = absurd (self_less (sym (ap (word_cmp t.0) (bytes_same q t.0 e)) ∙ less))
@@ -75,14 +75,6 @@ module _ (terms : Table) where
       apart [] k all lt = absurd (omega arith)
       apart (u ∷ us) zero all lt = other u.0 (bytes_eq u.0 t.0) all.0 refl
       apart (u ∷ us) (suc k) all lt = apart us k all.1 (omega arith)
-
-  member : (ps : List ℕ) (j : ℕ) → j < length ps → is_in (get_or ps j 0) ps ≡ true
-  member [] j lt = absurd (omega arith)
-  member (p ∷ ps) zero lt = grind arith
-  member (p ∷ ps) (suc j) lt = later (get_or ps j 0) (member ps j (omega arith))
-    where
-      later : (q : ℕ) → is_in q ps ≡ true → is_in q (p ∷ ps) ≡ true
-      later q e = grind arith
 
   where_in : (q : ℕ) (ps : List ℕ) → is_in q ps ≡ true → (j : ℕ) × (j < length ps) × (get_or ps j 0 ≡ q)
   where_in q [] e = absurd cc
@@ -108,11 +100,6 @@ module _ (terms : Table) where
       by rest (inl here) = (0, omega arith, bytes_same t x here)
       by rest (inr later) = let r = rest later in (suc r.0, omega (arith, r.1), r.2)
 
-  either : (a b : Bool) → (a ≡ true → b ≡ true) → (b ≡ true → a ≡ true) → a ≡ b
-  either true b to from = sym (to refl)
-  either false true to from = from refl
-  either false false to from = refl
-
   module _ (docs : List Doc) (next : List ℕ) (up : TermsRise None terms) (ends : (k : ℕ) → k < length terms → get_or next k 0 ≡ length (term_of terms k).1) (only : OnlyTheirs docs terms next) (each : (p : ℕ) (doc : Doc) → slice_get docs p ≡ Some doc → All (λ t. IsPassed terms next t p) (doc_terms doc)) where
     stored_has : (t : List ℕ) (p : ℕ) (o : Option (List ℕ)) → found terms t ≡ o → option_map_or (is_in p) o false ≡ true → has_at docs t p ≡ true
     stored_has t p None e is = absurd cc
@@ -128,7 +115,7 @@ module _ (terms : Table) where
     passed_is_stored t p h =
         let own : found terms t ≡ Some (term_of terms h.at).1 = ap (found terms) (sym h.is) ∙ found_at None terms up h.at h.there in
         let low : h.index < length (term_of terms h.at).1 = omega (arith, h.within, ends h.at h.there) in
-        ap (λ o. option_map_or (is_in p) o false) own ∙ ap (λ q. is_in q (term_of terms h.at).1) (sym h.points) ∙ member (term_of terms h.at).1 h.index low
+        ap (λ o. option_map_or (is_in p) o false) own ∙ ap (λ q. is_in q (term_of terms h.at).1) (sym h.points) ∙ is_there (term_of terms h.at).1 h.index low
 
     has_stored : (t : List ℕ) (p : ℕ) (o : Option Doc) → slice_get docs p ≡ o → option_map_or (has_term t) o false ≡ true → is_stored terms t p ≡ true
     has_stored t p None e is = absurd cc
@@ -137,14 +124,14 @@ module _ (terms : Table) where
         passed_is_stored t p (subst (λ u. IsPassed terms next u p) (sym i.2) (each p doc e i.0 [] i.1))
 
     pub theirs_at_end : AreTheirs docs terms
-    theirs_at_end t p = either (is_stored terms t p) (has_at docs t p) (stored_has t p (found terms t) refl) (has_stored t p (slice_get docs p) refl)
+    theirs_at_end t p = both_ways (is_stored terms t p) (has_at docs t p) (stored_has t p (found terms t) refl) (has_stored t p (slice_get docs p) refl)
 
   pub own_has : (docs : List Doc) (p : ℕ) (doc : Doc) → slice_get docs p ≡ Some doc → All (λ t. has_at docs t p ≡ true) (doc_terms doc)
-  own_has docs p doc e = each_at (λ t. has_at docs t p ≡ true) (doc_terms doc) (each (doc_terms doc) (λ t is. ap (λ o. option_map_or (has_term t) o false) e ∙ is))
+  own_has docs p doc e = All-from_recursion (λ t. has_at docs t p ≡ true) (doc_terms doc) (each (doc_terms doc) (λ t is. ap (λ o. option_map_or (has_term t) o false) e ∙ is))
     where
       each : (ts : List (List ℕ)) → ((t : List ℕ) → list_any (bytes_eq t) ts ≡ true → has_at docs t p ≡ true) → AllByRecursion (λ t. has_at docs t p ≡ true) ts
       each [] so = tt
-      each (t ∷ ts) so = (so t (or_left (bytes_eq t t) (list_any (bytes_eq t) ts) (same_bytes t)), each ts (λ u is. so u (or_right (bytes_eq u t) (list_any (bytes_eq u) ts) is)))
+      each (t ∷ ts) so = (so t (or_left (bytes_eq t t) (list_any (bytes_eq t) ts) (nat_list_eq_equiv.refl t)), each ts (λ u is. so u (or_right (bytes_eq u t) (list_any (bytes_eq u) ts) is)))
 
 pub pushed_none : (xs : List ℕ) → ((at : ℕ) → get_or xs at 0 ≡ 0) → (at : ℕ) → get_or (xs ++ 0 ∷ []) at 0 ≡ 0
 pushed_none [] none zero = refl

@@ -11,7 +11,7 @@ ghost use Rattle.seg_decoding.specs.Pairs.{Passes};
 use crate::hints::TermHints;
 use crate::unlike::Unlike;
 use seg_file::Segment;
-use seg_terms::word_end;
+use seg_terms::{word_end, write_word_term};
 use std::alloc::Global;
 
 /// How many places of each term were passed, where words were found, and a buffer for the text of a term.
@@ -79,10 +79,7 @@ impl Walk {
         if word.is_empty() {
             return Ok(());
         }
-        let word = unsafe { str::from_utf8_unchecked(word) };
-        self.term.clear();
-        self.term.push('w')?;
-        self.term.push_str(word)?;
+        write_word_term(&mut self.term, word)?;
         let term = self.hints.find(segment, self.term.as_str())?;
         pass(segment, &mut self.next, term, doc)
     }

@@ -9,22 +9,20 @@ use Rattle.facet_codec.proofs.EachKind.{u32_read_back, vint_read_back, bytes_rea
 use Rattle.seg_postings.specs.Bytes.{ArePlaces, AreNumbers}
 use Rattle.seg_postings.proofs.Chunks.{length_bytes}
 use Rattle.seg_file.specs.Fronts.{BeginsText, BeginsList, BeginsPlaces}
+use Rattle.facet_codec.proofs.Taking.{place_at}
 
-abbrev place : ℕ → List ℕ → Place
-place at rest = record { at = at; rest = rest }
+vint_is : (p : Place) (m : ℕ) (rest : List ℕ) → m < 2 ^ 32 → p.rest ≡ vint m ++ rest → vint_at p ≡ Ok (m, place_at (p.at + length (vint m)) rest)
+vint_is p m rest lt e = ap (λ (bytes : List ℕ). vint_at (place_at p.at bytes)) e ∙ vint_read_back p.at m rest lt
 
-vint_is : (p : Place) (m : ℕ) (rest : List ℕ) → m < 2 ^ 32 → p.rest ≡ vint m ++ rest → vint_at p ≡ Ok (m, place (p.at + length (vint m)) rest)
-vint_is p m rest lt e = ap (λ (bytes : List ℕ). vint_at (place p.at bytes)) e ∙ vint_read_back p.at m rest lt
+number_is : (p : Place) (m : ℕ) (rest : List ℕ) → m < 2 ^ 32 → p.rest ≡ be32 m ++ rest → u32_at p ≡ Ok (m, place_at (p.at + 4) rest)
+number_is p m rest lt e = ap (λ (bytes : List ℕ). u32_at (place_at p.at bytes)) e ∙ u32_read_back p.at m rest lt
 
-number_is : (p : Place) (m : ℕ) (rest : List ℕ) → m < 2 ^ 32 → p.rest ≡ be32 m ++ rest → u32_at p ≡ Ok (m, place (p.at + 4) rest)
-number_is p m rest lt e = ap (λ (bytes : List ℕ). u32_at (place p.at bytes)) e ∙ u32_read_back p.at m rest lt
-
-bytes_are : (p : Place) (n : ℕ) (front tail : List ℕ) → n ≡ length front → p.rest ≡ front ++ tail → bytes_at n p ≡ Ok (front, place (p.at + length front) tail)
-bytes_are p n front tail k e = ap (λ (m : ℕ). bytes_at m p) k ∙ ap (λ (bytes : List ℕ). bytes_at (length front) (place p.at bytes)) e ∙ bytes_read_back (length front) p.at front tail refl
+bytes_are : (p : Place) (n : ℕ) (front tail : List ℕ) → n ≡ length front → p.rest ≡ front ++ tail → bytes_at n p ≡ Ok (front, place_at (p.at + length front) tail)
+bytes_are p n front tail k e = ap (λ (m : ℕ). bytes_at m p) k ∙ ap (λ (bytes : List ℕ). bytes_at (length front) (place_at p.at bytes)) e ∙ bytes_read_back (length front) p.at front tail refl
 
 pub vint_front : (p q : Place) (n m : ℕ) (rest : List ℕ) → m < 2 ^ 32 → p.rest ≡ vint m ++ rest → vint_at p ≡ Ok (n, q) → (n ≡ m) × (q.rest ≡ rest)
 vint_front p q n m rest lt e f =
-    let same : (n, q) ≡ (m, place (p.at + length (vint m)) rest) = let a = vint_is p m rest lt e in cc in
+    let same : (n, q) ≡ (m, place_at (p.at + length (vint m)) rest) = let a = vint_is p m rest lt e in cc in
     (ap (λ (x : ℕ × Place). x.0) same, ap (λ (x : ℕ × Place). x.1.rest) same)
 
 pub no_vint_fault : (p : Place) (f : CodecFault) (m : ℕ) (rest : List ℕ) → m < 2 ^ 32 → p.rest ≡ vint m ++ rest → vint_at p ≡ Err f → ⊥
@@ -32,12 +30,12 @@ no_vint_fault p f m rest lt e h = let a = vint_is p m rest lt e in cc
 
 pub number_front : (p q : Place) (n m : ℕ) (rest : List ℕ) → m < 2 ^ 32 → p.rest ≡ be32 m ++ rest → u32_at p ≡ Ok (n, q) → (n ≡ m) × (q.rest ≡ rest)
 number_front p q n m rest lt e f =
-    let same : (n, q) ≡ (m, place (p.at + 4) rest) = let a = number_is p m rest lt e in cc in
+    let same : (n, q) ≡ (m, place_at (p.at + 4) rest) = let a = number_is p m rest lt e in cc in
     (ap (λ (x : ℕ × Place). x.0) same, ap (λ (x : ℕ × Place). x.1.rest) same)
 
 pub bytes_front : (p q : Place) (n : ℕ) (bytes front tail : List ℕ) → n ≡ length front → p.rest ≡ front ++ tail → bytes_at n p ≡ Ok (bytes, q) → (bytes ≡ front) × (q.rest ≡ tail)
 bytes_front p q n bytes front tail k e f =
-    let same : (bytes, q) ≡ (front, place (p.at + length front) tail) = let a = bytes_are p n front tail k e in cc in
+    let same : (bytes, q) ≡ (front, place_at (p.at + length front) tail) = let a = bytes_are p n front tail k e in cc in
     (ap (λ (x : List ℕ × Place). x.0) same, ap (λ (x : List ℕ × Place). x.1.rest) same)
 
 pub no_bytes_fault : (p : Place) (n : ℕ) (f : CodecFault) (front tail : List ℕ) → n ≡ length front → p.rest ≡ front ++ tail → bytes_at n p ≡ Err f → ⊥

@@ -1,6 +1,6 @@
 -- Where the offsets of an index lead.
 use Rattle.std.proofs.Common.{◌≡◌, ℕ, zero, suc, ◌+◌, ◌≤◌, ◌<◌, List, [], ◌∷◌, ◌++◌, length, get_or, drop, refl, sym, ap, subst, ◌∙◌, append_assoc, arith, length-append}
-use Rattle.std.specs.List.{flat_map, AllByRecursion}
+use Rattle.std.specs.List.{flat_map}
 use Rattle.std.proofs.lemmas.List.{drop_at, append-nil}
 use Rattle.facet_codec.specs.Spelling.{be32}
 use Rattle.facet_codec.specs.Lists.{offsets}
@@ -84,9 +84,3 @@ counted_count r bytes index h = ap length h.offsets.counted ∙ length_counted 1
 
 pub terms_count : (r : Records) (bytes : List ℕ) (index : Index) → IsIndexed r bytes index → length index.terms.items ≡ length r.terms
 terms_count r bytes index h = ap length h.offsets.terms ∙ length_offsets term_bytes (16 + length (flat_map record_bytes r.records)) r.terms
-
--- what holds of each holds of the one at an index
-pub fits_at : {A : Type 0} (Fits : A → Type 0) (xs : List A) (i : ℕ) (d : A) → AllByRecursion Fits xs → i < length xs → Fits (get_or xs i d)
-fits_at Fits [] i d h lt = absurd (omega arith)
-fits_at Fits (x ∷ xs) zero d h lt = h.0
-fits_at Fits (x ∷ xs) (suc i) d h lt = fits_at Fits xs i d h.1 (omega arith)

@@ -5,16 +5,13 @@ use Rattle.std.specs.List.{enumerate_from}
 use Rattle.std.specs.Option.{option_map_or}
 use Rattle.facet_model.specs.CountedPaths.{places}
 use Rattle.seg_postings.specs.Rising.{IsBelowAll, IsRising, is_in}
-use Rattle.seg_postings.proofs.Members.{one_rising}
-use Rattle.seg_postings.proofs.Sets.{is_in_below}
+use Rattle.seg_postings.proofs.Members.{one_rising, here_in}
+use Rattle.seg_postings.proofs.Sets.{is_in_below, is_in_later}
+pub use Rattle.live_records.proofs.Alive.{places_from}
 
 -- the element at a place passes the test
 abbrev pub at : {A : Type 0} → (A → Bool) → List A → ℕ → Bool
 at test xs n = option_map_or test (slice_get xs n) false
-
--- the places, counted from k on
-abbrev pub places_from : {A : Type 0} → ℕ → (A → Bool) → List A → List ℕ
-places_from k test xs = map (λ e. e.0) (filter (λ e. test e.1) (enumerate_from k xs))
 
 below_places : {A : Type 0} (j k : ℕ) (test : A → Bool) (xs : List A) → j < k → IsBelowAll j (places_from k test xs)
 below_places j k test [] lt = tt
@@ -35,18 +32,12 @@ rising_from_place k test (x ∷ xs) = by (test x) (rising_from_place (k + 1) tes
 pub rising_places : {A : Type 0} (test : A → Bool) (xs : List A) → IsRising (places test xs)
 rising_places test xs = rising_from_place 0 test xs
 
-is_in_later : (n k : ℕ) (rest : List ℕ) → k < n → is_in n (k ∷ rest) ≡ is_in n rest
-is_in_later n k rest lt = grind arith
-
-is_in_here : (k : ℕ) (rest : List ℕ) → is_in k (k ∷ rest) ≡ true
-is_in_here k rest = grind arith
-
 is_in_from_place : {A : Type 0} (n k : ℕ) (test : A → Bool) (xs : List A) → is_in (k + n) (places_from k test xs) ≡ at test xs n
 is_in_from_place n k test [] = refl
 is_in_from_place zero k test (x ∷ xs) = by (test x)
   where
     by : (b : Bool) → is_in (k + 0) (map (λ e. e.0) (cond b ((k, x) ∷ filter (λ e. test e.1) (enumerate_from (k + 1) xs)) (filter (λ e. test e.1) (enumerate_from (k + 1) xs)))) ≡ b
-    by true = let e : k ≡ k + 0 = omega arith in subst (λ m. is_in m (k ∷ places_from (k + 1) test xs) ≡ true) e (is_in_here k (places_from (k + 1) test xs))
+    by true = let e : k ≡ k + 0 = omega arith in subst (λ m. is_in m (k ∷ places_from (k + 1) test xs) ≡ true) e (here_in k (places_from (k + 1) test xs))
     by false = let e : k ≡ k + 0 = omega arith in subst (λ m. is_in m (places_from (k + 1) test xs) ≡ false) e (is_in_below k (places_from (k + 1) test xs) (below_places k (k + 1) test xs (omega arith)))
 is_in_from_place (suc n) k test (x ∷ xs) = by (test x) (let e : (k + 1) + n ≡ k + suc n = omega arith in subst (λ m. is_in m (places_from (k + 1) test xs) ≡ at test xs n) e (is_in_from_place n (k + 1) test xs))
   where

@@ -14,16 +14,12 @@ use Rattle.std.proofs.lemmas.Map.Text.{is_eq-slice_cmp}
 use Rattle.seg_grammar.specs.Spelling.{TermsRise}
 use Rattle.seg_grammar.specs.Lookups.{places_of_term}
 use Rattle.seg_file.specs.Search.{term_of, IsFirstFrom}
+use Rattle.facet_names.proofs.Ordered.{is_less}
 
 abbrev order : List ℕ → List ℕ → Ordering
 order a b = slice_cmp nat_cmp a b
 
 -- ---- what comes before what
-
-less_is : (o : Ordering) → is_lt o ≡ true → o ≡ Less
-less_is Less e = refl
-less_is Equal e = absurd cc
-less_is Greater e = absurd cc
 
 greater_is : (o : Ordering) → is_lt o ≡ false → is_eq o ≡ false → o ≡ Greater
 greater_is Less e f = absurd cc
@@ -72,8 +68,8 @@ agrees a b o is e = sym (is_eq-slice_cmp a b) ∙ ap is_eq (sym is) ∙ eq_is o 
 
 after_all : (u : List ℕ) (ts : List (List ℕ × List ℕ)) (j : ℕ) → TermsRise (Some u) ts → j < length ts → order u (term_of ts j).0 ≡ Less
 after_all u [] j h lt = absurd (omega arith)
-after_all u (t ∷ ts) zero h lt = less_is (order u t.0) h.0
-after_all u (t ∷ ts) (suc j) h lt = before u t.0 (term_of ts j).0 (less_is (order u t.0) h.0) (after_all t.0 ts j h.1 (omega arith))
+after_all u (t ∷ ts) zero h lt = is_less (order u t.0) h.0
+after_all u (t ∷ ts) (suc j) h lt = before u t.0 (term_of ts j).0 (is_less (order u t.0) h.0) (after_all t.0 ts j h.1 (omega arith))
 
 rising_between : (previous : Option (List ℕ)) (ts : List (List ℕ × List ℕ)) (i j : ℕ) → TermsRise previous ts → i < j → j < length ts → order (term_of ts i).0 (term_of ts j).0 ≡ Less
 rising_between previous [] i j h le lt = absurd (omega arith)
@@ -97,7 +93,7 @@ other_first (x ∷ xs) word other = by (nat_lt x 119) (x == 119) (λ e. other xs
 
 pub first_low : (text : List ℕ) (ts : List (List ℕ × List ℕ)) (low high m : ℕ) → TermsRise None ts → IsFirstFrom text ts low high → m < length ts → is_lt (order (term_of ts m).0 text) ≡ true → IsFirstFrom text ts (m + 1) high
 first_low text ts low high m rise h lt e =
-    let here : order (term_of ts m).0 text ≡ Less = less_is (order (term_of ts m).0 text) e in
+    let here : order (term_of ts m).0 text ≡ Less = is_less (order (term_of ts m).0 text) e in
     record {
       below = λ k le. elim (cases_lt k m) [
         | inl less ↦ ap is_lt (before (term_of ts k).0 (term_of ts m).0 text (rising_between None ts k m rise less lt) here)
@@ -136,7 +132,7 @@ find_at text (t ∷ ts) zero h lt e = rw e refl
 find_at text (t ∷ ts) (suc i) h lt e = rw (h 0 (omega arith)) (find_at text ts i (λ k le. h (suc k) (omega arith)) (omega arith) e)
 
 none_below : (text : List ℕ) (ts : List (List ℕ × List ℕ)) (at k : ℕ) → IsFirstFrom text ts at at → k < at → bytes_eq text (term_of ts k).0 ≡ false
-none_below text ts at k h lt = not_it (term_of ts k).0 text (less_is (order (term_of ts k).0 text) (h.below k lt))
+none_below text ts at k h lt = not_it (term_of ts k).0 text (is_less (order (term_of ts k).0 text) (h.below k lt))
 
 pub none_at_end : (text : List ℕ) (ts : List (List ℕ × List ℕ)) (at : ℕ) → IsFirstFrom text ts at at → at ≡ length ts → places_of_term ts text ≡ None
 none_at_end text ts at h e = ap (λ (t : Option (List ℕ × List ℕ)). option_map (λ u. u.1) t) (find_none text ts (λ k lt. none_below text ts at k h (omega arith)))

@@ -1,8 +1,8 @@
 -- What is read is spelled so, and is within the limits.
-use Rattle.std.proofs.Common.{◌≡◌, ℕ, zero, suc, ◌+◌, ◌^◌, ◌≤◌, ◌<◌, Bool, true, false, cond, ◌||◌, leb, ltb, eqb, List, [], ◌∷◌, ◌++◌, length, Option, Some, None, Result, Ok, Err, refl, sym, ap, subst, ◌∙◌, arith}
+use Rattle.std.proofs.Common.{◌≡◌, ℕ, zero, suc, ◌+◌, ◌^◌, ◌≤◌, ◌<◌, true, cond, ◌||◌, leb, ltb, eqb, List, [], ◌∷◌, ◌++◌, length, Option, Some, None, Result, Ok, Err, refl, sym, ap, subst, ◌∙◌, arith}
 use Rattle.std.specs.List.{flat_map, AllByRecursion}
 use Rattle.std.proofs.lemmas.List.{append-nil, nil_from_length}
-use Rattle.std.proofs.lemmas.Bool.{ltb-false, leb-false, eqb-false, eqb-true}
+use Rattle.std.proofs.lemmas.Bool.{ltb-false, leb-false, eqb-false, eqb-true, or_parts}
 use Rattle.facet_codec.specs.declared.fault.CodecFault.{CodecFault}
 use Rattle.facet_codec.specs.Places.{Place, IsBytes}
 use Rattle.facet_codec.specs.Faults.{fault_at}
@@ -69,10 +69,6 @@ from_more : (low x : ℕ) (xs : List ℕ) → low ≤ x → AllByRecursion (λ y
 from_more low x [] le h = tt
 from_more low x (y ∷ ys) le h = (omega (arith, h.0), from_more low x ys le h.1)
 
-neither : (a b : Bool) → (a || b) ≡ false → (a ≡ false) × (b ≡ false)
-neither true b e = absurd cc
-neither false b e = (refl, e)
-
 pub rising_spelled : (n low high : ℕ) → IsSpelled (rising_at n low high) (flat_map be32) (RiseWithin n low high)
 unfolding rising_at
 rising_spelled zero low high p xs q fits e =
@@ -82,7 +78,7 @@ rising_spelled (suc n) low high p xs q fits e =
     let a = bind_ok (number_at p) (λ first. cond (ltb first.0 low || leb high first.0) (Err (Disorder p.at)) (one_more first.0 (rising_at n (first.0 + 1) high first.1))) (xs, q) e in
     let g = guard_ok (ltb a.0.0 low || leb high a.0.0) (Disorder p.at) (one_more a.0.0 (rising_at n (a.0.0 + 1) high a.0.1)) (xs, q) a.2 in
     let b = bind_ok (rising_at n (a.0.0 + 1) high a.0.1) (λ o. done (a.0.0 ∷ o.0, o.1)) (xs, q) g.1 in
-    let t = neither (ltb a.0.0 low) (leb high a.0.0) g.0 in
+    let t = or_parts (ltb a.0.0 low) (leb high a.0.0) g.0 in
     let le : low ≤ a.0.0 = ltb-false _ _ t.0 in
     let lt : a.0.0 < high = leb-false _ _ t.1 in
     let k = number_spelled p a.0.0 a.0.1 fits a.1 in

@@ -36,7 +36,7 @@ pub record AreMarked (start p : Place) (marks counted : List ℕ) (read total : 
   pub counted_are : counted ≡ counted_offsets start.at front
   pub taken : Takes start (flat_map record_bytes front) p
 
-counted_push : (at : ℕ) (xs : List Stored) (x : Stored) → counted_offsets at (xs ++ x ∷ []) ≡ counted_offsets at xs ++ (at + length (flat_map record_bytes xs) + length (front_bytes x)) ∷ []
+pub counted_push : (at : ℕ) (xs : List Stored) (x : Stored) → counted_offsets at (xs ++ x ∷ []) ≡ counted_offsets at xs ++ (at + length (flat_map record_bytes xs) + length (front_bytes x)) ∷ []
 counted_push at [] x = ap (λ (n : ℕ). n ∷ []) (omega arith)
 counted_push at (y ∷ xs) x =
     let n : at + length (record_bytes y) + length (flat_map record_bytes xs) + length (front_bytes x) ≡ at + length (record_bytes y ++ flat_map record_bytes xs) + length (front_bytes x) = omega (arith, length-append (record_bytes y) (flat_map record_bytes xs)) in
@@ -90,3 +90,7 @@ unfolding terms_at
 terms_done n i docs previous start p marks total le h =
     let k : n - i ≡ zero = omega arith in
     marked_done term_bytes start p marks (terms_at (n - i) previous docs p) total (rw k refl) h
+
+-- what stands for the record of a document that is not there
+abbrev pub no_record : Stored
+no_record = record { id = []; text = []; leaves = []; counted = [] }

@@ -1,9 +1,9 @@
 -- The union of rising lists.
 use Rattle.std.proofs.Common.{◌≡◌, ℕ, ◌+◌, ◌<◌, ◌≤◌, List, [], ◌∷◌, Option, Some, refl, sym, ap, ◌∙◌, arith, inl, inr}
-use Rattle.std.proofs.lemmas.Bool.{le-leb, lt-leb, le-ltb, lt-ltb, ne_eqb, eq-eqb, cases_lt}
+use Rattle.std.proofs.lemmas.Bool.{le-leb, le-ltb, lt-ltb, ne_eqb, eq-eqb, cases_lt}
 use Rattle.seg_postings.specs.Rising.{IsBelowAll, IsRising, from_place}
 use Rattle.seg_postings.specs.Sets.{put_in, either}
-use Rattle.seg_postings.proofs.Order.{IsFrom, below_weaker, from_all}
+use Rattle.seg_postings.proofs.Order.{IsFrom, below_weaker, from_all, from_later}
 
 pub put_less : (x y : ℕ) (ys : List ℕ) → x < y → put_in x (y ∷ ys) ≡ x ∷ y ∷ ys
 unfolding put_in
@@ -48,10 +48,6 @@ unfolding either
 rising_either [] ys h = h
 rising_either (x ∷ xs) ys h = rising_put x (either xs ys) (rising_either xs ys h)
 
-from_skips : (p x : ℕ) (xs : List ℕ) → x < p → from_place p (x ∷ xs) ≡ from_place p xs
-unfolding from_place
-from_skips p x xs lt = rw (lt-leb p x lt) refl
-
 from_keeps : (p x : ℕ) (xs : List ℕ) → p ≤ x → from_place p (x ∷ xs) ≡ x ∷ from_place p xs
 unfolding from_place
 from_keeps p x xs le = rw (le-leb p x le) refl
@@ -61,12 +57,12 @@ unfolding from_place
 from_none p = refl
 
 from_put_low : (p x : ℕ) (ys : List ℕ) → x < p → from_place p (put_in x ys) ≡ from_place p ys
-from_put_low p x [] lt = rw (put_none x) (from_skips p x [] lt)
+from_put_low p x [] lt = rw (put_none x) (from_later p x [] lt)
 from_put_low p x (y ∷ ys) lt =
     elim (cases_lt x y) [
-      | inl less ↦ rw (put_less x y ys less) (from_skips p x (y ∷ ys) lt)
+      | inl less ↦ rw (put_less x y ys less) (from_later p x (y ∷ ys) lt)
       | inr ge ↦ elim (cases_lt y x) [
-        | inl more ↦ rw (put_more x y ys more) (from_skips p y (put_in x ys) (omega arith) ∙ from_put_low p x ys lt ∙ sym (from_skips p y ys (omega arith)))
+        | inl more ↦ rw (put_more x y ys more) (from_later p y (put_in x ys) (omega arith) ∙ from_put_low p x ys lt ∙ sym (from_later p y ys (omega arith)))
         | inr le ↦ rw (put_same x y ys (omega arith)) refl
       ]
     ]
@@ -78,7 +74,7 @@ from_put_high p x (y ∷ ys) le =
       | inl less ↦ rw (put_less x y ys less, from_keeps p y ys (omega arith), put_less x y (from_place p ys) less) (from_keeps p x (y ∷ ys) le ∙ ap (λ (r : List ℕ). x ∷ r) (from_keeps p y ys (omega arith)))
       | inr ge ↦ elim (cases_lt y x) [
         | inl more ↦ elim (cases_lt y p) [
-          | inl low ↦ rw (put_more x y ys more, from_skips p y ys low) (from_skips p y (put_in x ys) low ∙ from_put_high p x ys le)
+          | inl low ↦ rw (put_more x y ys more, from_later p y ys low) (from_later p y (put_in x ys) low ∙ from_put_high p x ys le)
           | inr high ↦ rw (put_more x y ys more, from_keeps p y ys high, put_more x y (from_place p ys) more) (from_keeps p y (put_in x ys) high ∙ ap (λ (r : List ℕ). y ∷ r) (from_put_high p x ys le))
         ]
         | inr le2 ↦ rw (put_same x y ys (omega arith), from_keeps p y ys (omega arith), put_same x y (from_place p ys) (omega arith)) refl
@@ -90,7 +86,7 @@ unfolding either
 either-from_place p [] ys = rw (from_none p) refl
 either-from_place p (x ∷ xs) ys =
     elim (cases_lt x p) [
-      | inl low ↦ rw (from_skips p x xs low) (from_put_low p x (either xs ys) low ∙ either-from_place p xs ys)
+      | inl low ↦ rw (from_later p x xs low) (from_put_low p x (either xs ys) low ∙ either-from_place p xs ys)
       | inr high ↦ rw (from_keeps p x xs high) (from_put_high p x (either xs ys) high ∙ ap (λ (r : List ℕ). put_in x r) (either-from_place p xs ys))
     ]
 
@@ -115,7 +111,7 @@ from_next x [] h = tt
 from_next x (y ∷ ys) h = (omega (arith, h.0), from_next x ys h.1)
 
 pub after_head : (x : ℕ) (xs : List ℕ) → IsBelowAll x xs → from_place (x + 1) (x ∷ xs) ≡ xs
-after_head x xs h = from_skips (x + 1) x xs (omega arith) ∙ from_all (x + 1) xs (from_next x xs h)
+after_head x xs h = from_later (x + 1) x xs (omega arith) ∙ from_all (x + 1) xs (from_next x xs h)
 
 abbrev some : ℕ → Option ℕ
 some n = Some n

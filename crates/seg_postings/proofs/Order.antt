@@ -8,6 +8,10 @@ abbrev pub IsFrom : ℕ → List ℕ → Type 0
 IsFrom p [] = Unit {0}
 IsFrom p (x ∷ xs) = (p ≤ x) × IsFrom p xs
 
+pub from_zero : (xs : List ℕ) → IsFrom 0 xs
+from_zero [] = tt
+from_zero (x ∷ xs) = (omega arith, from_zero xs)
+
 pub below_get : (x : ℕ) (xs : List ℕ) → IsBelowAll x xs → (j : ℕ) → j < length xs → x < get_or xs j 0
 below_get x [] h j lt = absurd (omega arith)
 below_get x (y ∷ ys) h zero lt = h.0
@@ -19,6 +23,12 @@ rising_get (x ∷ xs) h zero zero le lt = omega arith
 rising_get (x ∷ xs) h zero (suc j) le lt = omega (arith, below_get x xs h.0 j (omega arith))
 rising_get (x ∷ xs) h (suc i) zero le lt = absurd (omega arith)
 rising_get (x ∷ xs) h (suc i) (suc j) le lt = rising_get xs h.1 i j (omega arith) (omega arith)
+
+pub rising_less : (xs : List ℕ) → IsRising xs → (i j : ℕ) → i < j → j < length xs → get_or xs i 0 < get_or xs j 0
+rising_less [] h i j l w = absurd (omega arith)
+rising_less (x ∷ xs) h i zero l w = absurd (omega arith)
+rising_less (x ∷ xs) h zero (suc j) l w = below_get x xs h.0 j (omega arith)
+rising_less (x ∷ xs) h (suc i) (suc j) l w = rising_less xs h.1 i j (omega arith) (omega arith)
 
 pub rising_drop : (n : ℕ) (xs : List ℕ) → IsRising xs → IsRising (drop n xs)
 rising_drop zero xs h = h
@@ -47,6 +57,9 @@ pub from_all : (p : ℕ) (xs : List ℕ) → IsFrom p xs → from_place p xs ≡
 unfolding from_place
 from_all p [] h = refl
 from_all p (x ∷ xs) h = rw (le-leb p x h.0) (ap (λ (ys : List ℕ). x ∷ ys) (from_all p xs h.1))
+
+pub from_start : (xs : List ℕ) → from_place 0 xs ≡ xs
+from_start xs = from_all 0 xs (from_zero xs)
 
 pub from_later : (p x : ℕ) (xs : List ℕ) → x < p → from_place p (x ∷ xs) ≡ from_place p xs
 unfolding from_place

@@ -9,10 +9,10 @@ pub is_in_below : (q : ℕ) (xs : List ℕ) → IsBelowAll q xs → is_in q xs �
 is_in_below q [] h = refl
 is_in_below q (y ∷ ys) h = rw (ne_eqb q y (λ e. omega (arith, h.0)), is_in_below q ys h.1) refl
 
-is_in_later : (q e : ℕ) (ys : List ℕ) → e < q → is_in q (e ∷ ys) ≡ is_in q ys
+pub is_in_later : (q e : ℕ) (ys : List ℕ) → e < q → is_in q (e ∷ ys) ≡ is_in q ys
 is_in_later q e ys lt = rw (ne_eqb q e (λ h. omega arith)) refl
 
-is_in_from : (q p : ℕ) (ys : List ℕ) → p ≤ q → is_in q (from_place p ys) ≡ is_in q ys
+pub is_in_from : (q p : ℕ) (ys : List ℕ) → p ≤ q → is_in q (from_place p ys) ≡ is_in q ys
 unfolding from_place picked
 is_in_from q p [] le = refl
 is_in_from q p (y ∷ ys) le =

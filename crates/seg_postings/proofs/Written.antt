@@ -6,6 +6,7 @@ use Rattle.facet_codec.specs.Spelling.{be32}
 use Rattle.facet_codec.specs.Laws.{IsBelow}
 use Rattle.seg_postings.specs.Rising.{IsBelowAll, IsRising}
 use Rattle.seg_postings.specs.Bytes.{ArePlaces}
+use Rattle.facet_codec.proofs.Lists.{each_push}
 
 -- The bytes are rising places below a number.
 pub record AreWritten (bytes : List ℕ) (least : ℕ) : Type 0 where
@@ -13,15 +14,11 @@ pub record AreWritten (bytes : List ℕ) (least : ℕ) : Type 0 where
   pub are : ArePlaces bytes places
   pub below : AllByRecursion (IsBelow least) places
 
-pub all_push : (P : ℕ → Type 0) (xs : List ℕ) (x : ℕ) → AllByRecursion P xs → P x → AllByRecursion P (xs ++ x ∷ [])
-all_push P [] x h k = (k, tt)
-all_push P (y ∷ ys) x h k = (h.0, all_push P ys x h.1 k)
-
 below_later : (n m : ℕ) (xs : List ℕ) → n ≤ m → AllByRecursion (IsBelow n) xs → AllByRecursion (IsBelow m) xs
 below_later n m [] le h = tt
 below_later n m (x ∷ xs) le h = (omega (arith, h.0), below_later n m xs le h.1)
 
-below_push : (y x : ℕ) (xs : List ℕ) → y < x → IsBelowAll y xs → IsBelowAll y (xs ++ x ∷ [])
+pub below_push : (y x : ℕ) (xs : List ℕ) → y < x → IsBelowAll y xs → IsBelowAll y (xs ++ x ∷ [])
 below_push y x [] lt h = (lt, tt)
 below_push y x (z ∷ zs) lt h = (h.0, below_push y x zs lt h.1)
 
@@ -34,8 +31,8 @@ written_push bytes least p h le fits = record {
   places = h.places ++ p ∷ [];
   are = record {
     spelled = ap (λ (bs : List ℕ). bs ++ be32 p) h.are.spelled ∙ flat_map_more be32 [] h.places p;
-    fit = all_push (IsBelow (2 ^ 32)) h.places p h.are.fit fits;
+    fit = each_push (IsBelow (2 ^ 32)) h.places p h.are.fit fits;
     rise = rising_push h.places p h.are.rise (below_later least p h.places le h.below);
   };
-  below = all_push (IsBelow (p + 1)) h.places p (below_later least (p + 1) h.places (omega arith) h.below) (omega arith);
+  below = each_push (IsBelow (p + 1)) h.places p (below_later least (p + 1) h.places (omega arith) h.below) (omega arith);
 }

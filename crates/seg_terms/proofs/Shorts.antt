@@ -20,12 +20,9 @@ use Rattle.seg_terms.specs.Laws.{has_term}
 use Rattle.seg_terms.specs.Places.{IsShortTerm}
 use Rattle.seg_terms.proofs.Tables.{bytes_same}
 use Rattle.seg_terms.proofs.TermLists.{each_term}
+use Rattle.facet_model.proofs.Each.{each_append}
 
 -- ---- all of a list
-
-pub all_append : {A : Type 0} (P : A → Type 0) (xs ys : List A) → AllByRecursion P xs → AllByRecursion P ys → AllByRecursion P (xs ++ ys)
-all_append P [] ys front back = back
-all_append P (x ∷ xs) ys front back = (front.0, all_append P xs ys front.1 back)
 
 all_map : {A B : Type 0} (P : A → Type 0) (Q : B → Type 0) (f : A → B) → ((x : A) → P x → Q (f x)) → (xs : List A) → AllByRecursion P xs → AllByRecursion Q (map f xs)
 all_map P Q f so [] all = tt
@@ -71,13 +68,13 @@ fronts_fit path fits a (suc m) low high = (front_fits a path (omega arith) (omeg
 
 prefixes_fit : (labels : List (List (List ℕ))) → AllByRecursion IsPath labels → AllByRecursion IsPath (flat_map prefixes labels)
 prefixes_fit [] all = tt
-prefixes_fit (l ∷ ls) all = all_append IsPath (prefixes l) (flat_map prefixes ls) (fronts_fit l all.0 1 (length l) (omega arith) (omega arith)) (prefixes_fit ls all.1)
+prefixes_fit (l ∷ ls) all = each_append IsPath (prefixes l) (flat_map prefixes ls) (fronts_fit l all.0 1 (length l) (omega arith) (omega arith)) (prefixes_fit ls all.1)
 
 -- ---- documents
 
 pub doc_short : (doc : Doc) → length doc.text ≤ 65536 → AllByRecursion IsPath doc.labels → AllByRecursion IsShortTerm (doc_terms doc)
 doc_short doc short fit =
-    all_append IsShortTerm (map (λ w. codes "w" ++ w) (words doc.text)) (map (λ p. codes "f" ++ term_text p) (flat_map prefixes doc.labels)) (words_short doc.text short)
+    each_append IsShortTerm (map (λ w. codes "w" ++ w) (words doc.text)) (map (λ p. codes "f" ++ term_text p) (flat_map prefixes doc.labels)) (words_short doc.text short)
     (all_map IsPath IsShortTerm (λ p. codes "f" ++ term_text p) (λ p is. omega (arith, length-append (codes "f") (term_text p), term_text_is_short p is)) (flat_map prefixes doc.labels) (prefixes_fit doc.labels fit))
 
 -- each of their terms is

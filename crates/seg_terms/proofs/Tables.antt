@@ -26,12 +26,10 @@ use Rattle.std.proofs.lemmas.List.{map-append}
 use Rattle.seg_terms.specs.Noting.{Table, table_of, found, with_place, AreNoted}
 use Rattle.seg_terms.specs.Places.{term_view}
 use Rattle.seg_terms.specs.declared.term_places.TermPlaces.{TermPlaces}
+use Rattle.facet_names.proofs.Keys.{is_key}
 
 abbrev pub Entries : Type 0
 Entries = List (String Global × Vec ℕ Global)
-
-abbrev pub is_term : List ℕ → String Global → Bool
-is_term t key = bytes_eq t (string_bytes key)
 
 abbrev pub items_of : Option (Vec ℕ Global) → Option (List ℕ)
 items_of o = option_map (λ v. v.items) o
@@ -46,19 +44,16 @@ bytes_same a b e = exact_bytes a b (equal (slice_cmp nat_cmp a b) (is_eq-slice_c
     equal Equal e = refl
     equal Greater e = absurd cc
 
-pub same_bytes : (a : List ℕ) → bytes_eq a a ≡ true
-same_bytes a = nat_list_eq_equiv.refl a
-
 pub bytes_back : (a b : List ℕ) → bytes_eq a b ≡ bytes_eq b a
 bytes_back a b = nat_list_eq_equiv.symm a b
 
 -- ---- entries
 
-pub found_is : (t : List ℕ) (es : Entries) → found (table_of es) t ≡ items_of (lookup (is_term t) es)
+pub found_is : (t : List ℕ) (es : Entries) → found (table_of es) t ≡ items_of (lookup (is_key t) es)
 found_is t [] = refl
-found_is t (e ∷ es) = by (is_term t e.0) refl (found_is t es)
+found_is t (e ∷ es) = by (is_key t e.0) refl (found_is t es)
   where
-    by : (b : Bool) → is_term t e.0 ≡ b → found (table_of es) t ≡ items_of (lookup (is_term t) es) → found (table_of (e ∷ es)) t ≡ items_of (lookup (is_term t) (e ∷ es))
+    by : (b : Bool) → is_key t e.0 ≡ b → found (table_of es) t ≡ items_of (lookup (is_key t) es) → found (table_of (e ∷ es)) t ≡ items_of (lookup (is_key t) (e ∷ es))
     by true h rest = rw h refl
     by false h rest = rw h rest
 
@@ -79,10 +74,10 @@ noted_one old new bs place ps updates is t = by (bytes_eq t bs) refl
         ∙ sym (ap (λ b. cond (b || false) (with_place (found old t) place) (found old t)) e)
 
 -- what an update of a map at a term is in the table
-pub updated : {S : Type 0} (m n : HashMap (String Global) (Vec ℕ Global) S) (bs : List ℕ) (v : Vec ℕ Global) → hash.UpdatesBy string_eq (is_term bs) m n (Some v) → (t : List ℕ) → found (table_of n.entries) t ≡ cond (bytes_eq bs t) (Some v.items) (found (table_of m.entries) t)
+pub updated : {S : Type 0} (m n : HashMap (String Global) (Vec ℕ Global) S) (bs : List ℕ) (v : Vec ℕ Global) → hash.UpdatesBy string_eq (is_key bs) m n (Some v) → (t : List ℕ) → found (table_of n.entries) t ≡ cond (bytes_eq bs t) (Some v.items) (found (table_of m.entries) t)
 updated m n bs v u t = found_is t n.entries ∙ ap items_of (hash_map_updates_text bs m n (Some v) u t) ∙ by (bytes_eq bs t)
   where
-    by : (b : Bool) → items_of (cond b (Some v) (lookup (is_term t) m.entries)) ≡ cond b (Some v.items) (found (table_of m.entries) t)
+    by : (b : Bool) → items_of (cond b (Some v) (lookup (is_key t) m.entries)) ≡ cond b (Some v.items) (found (table_of m.entries) t)
     by true = refl
     by false = sym (found_is t m.entries)
 

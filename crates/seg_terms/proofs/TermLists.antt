@@ -21,7 +21,9 @@ use Rattle.facet_model.specs.CountedPaths.{places}
 use Rattle.facet_model.specs.Terms.{doc_terms, put_term, terms_of}
 use Rattle.seg_terms.specs.Noting.{Table, found}
 use Rattle.seg_terms.specs.Laws.{has_term, term_places}
-use Rattle.seg_terms.proofs.Tables.{bytes_same, same_bytes, none_below}
+use Rattle.seg_terms.proofs.Tables.{bytes_same, none_below}
+use Rattle.std.proofs.lemmas.Option.{same_Some, none-some}
+use Rattle.std.proofs.Math.Bool.{or-false, or_self_left}
 
 abbrev pub Terms : Type 0
 Terms = List (List ℕ)
@@ -64,25 +66,17 @@ either_way true false c = refl
 either_way false true c = refl
 either_way false false c = refl
 
-twice : (a c : Bool) → (a || c) ≡ (a || (a || c))
-twice true c = refl
-twice false c = refl
-
 put_is_there : (us : Terms) (t q : List ℕ) → list_any (bytes_eq q) (put_term us t) ≡ (bytes_eq q t || list_any (bytes_eq q) us)
 put_is_there [] t q = refl
 put_is_there (u ∷ us) t q = by (word_cmp t u) refl (put_is_there us t q)
   where
     by : (o : Ordering) → word_cmp t u ≡ o → list_any (bytes_eq q) (put_term us t) ≡ (bytes_eq q t || list_any (bytes_eq q) us) → list_any (bytes_eq q) (match_ordering o (t ∷ u ∷ us) (u ∷ us) (u ∷ put_term us t)) ≡ (bytes_eq q t || (bytes_eq q u || list_any (bytes_eq q) us))
     by Less e rest = refl
-    by Equal e rest = twice (bytes_eq q u) (list_any (bytes_eq q) us) ∙ ap (λ v. bytes_eq q v || (bytes_eq q u || list_any (bytes_eq q) us)) (sym (exact_bytes t u e))
+    by Equal e rest = sym (or_self_left (bytes_eq q u) (list_any (bytes_eq q) us)) ∙ ap (λ v. bytes_eq q v || (bytes_eq q u || list_any (bytes_eq q) us)) (sym (exact_bytes t u e))
     by Greater e rest = ap (λ b. bytes_eq q u || b) rest ∙ either_way (bytes_eq q u) (bytes_eq q t) (list_any (bytes_eq q) us)
 
 put_all_are_there : (us ts : Terms) (q : List ℕ) → list_any (bytes_eq q) (fold put_term us ts) ≡ (list_any (bytes_eq q) us || list_any (bytes_eq q) ts)
-put_all_are_there us [] q = by (list_any (bytes_eq q) us)
-  where
-    by : (b : Bool) → b ≡ (b || false)
-    by true = refl
-    by false = refl
+put_all_are_there us [] q = sym (or-false (list_any (bytes_eq q) us))
 put_all_are_there us (t ∷ ts) q =
     put_all_are_there (put_term us t) ts q
     ∙ ap (λ b. b || list_any (bytes_eq q) ts) (put_is_there us t q)
@@ -139,14 +133,8 @@ found_is_find (e ∷ es) q = by (bytes_eq q e.0) refl (found_is_find es q)
 
 -- ---- tables that rise and find the same are equal
 
-nothing_is_not : {X : Type 0} {x : X} → None ≡ Some x → ⊥
-nothing_is_not h = absurd cc
-
-same_some : {X : Type 0} {x y : X} → Some x ≡ Some y → x ≡ y
-same_some h = cc
-
 at_head : (e : List ℕ × List ℕ) (es : Table) → found (e ∷ es) e.0 ≡ Some e.1
-at_head e es = lookup_head (bytes_eq e.0) e es (same_bytes e.0)
+at_head e es = lookup_head (bytes_eq e.0) e es (nat_list_eq_equiv.refl e.0)
 
 past_head : (e : List ℕ × List ℕ) (es : Table) → IsStrictlySortedBy word_cmp (keys_of (e ∷ es)) → found es e.0 ≡ None
 unfolding IsStrictlySortedBy
@@ -155,8 +143,8 @@ past_head e (f ∷ fs) up = none_below e.0 f fs up.1 up.0.0
 
 pub same_tables : (es fs : Table) → IsStrictlySortedBy word_cmp (keys_of es) → IsStrictlySortedBy word_cmp (keys_of fs) → ((q : List ℕ) → found es q ≡ found fs q) → es ≡ fs
 same_tables [] [] up up' same = refl
-same_tables [] (f ∷ fs) up up' same = absurd (nothing_is_not (same f.0 ∙ at_head f fs))
-same_tables (e ∷ es) [] up up' same = absurd (nothing_is_not (sym (same e.0) ∙ at_head e es))
+same_tables [] (f ∷ fs) up up' same = absurd (none-some _ (same f.0 ∙ at_head f fs))
+same_tables (e ∷ es) [] up up' same = absurd (none-some _ (sym (same e.0) ∙ at_head e es))
 same_tables (e ∷ es) (f ∷ fs) up up' same = by (word_cmp e.0 f.0) refl (same_tables es fs (sorted_tail word_cmp e.0 (keys_of es) up) (sorted_tail word_cmp f.0 (keys_of fs) up'))
   where
     tails : e.0 ≡ f.0 → (q : List ℕ) → found es q ≡ found fs q
@@ -170,11 +158,11 @@ same_tables (e ∷ es) (f ∷ fs) up up' same = by (word_cmp e.0 f.0) refl (same
             sym (lookup_tail (bytes_eq q) e es is) ∙ same q ∙ lookup_tail (bytes_eq q) f fs (ap (bytes_eq q) (sym head) ∙ is)
 
     by : (o : Ordering) → word_cmp e.0 f.0 ≡ o → (((q : List ℕ) → found es q ≡ found fs q) → es ≡ fs) → e ∷ es ≡ f ∷ fs
-    by Less less rest = absurd (nothing_is_not (sym (none_below e.0 f fs up' less) ∙ sym (same e.0) ∙ at_head e es))
-    by Greater greater rest = absurd (nothing_is_not (sym (none_below f.0 e es up (above e.0 f.0 greater)) ∙ same f.0 ∙ at_head f fs))
+    by Less less rest = absurd (none-some _ (sym (none_below e.0 f fs up' less) ∙ sym (same e.0) ∙ at_head e es))
+    by Greater greater rest = absurd (none-some _ (sym (none_below f.0 e es up (above e.0 f.0 greater)) ∙ same f.0 ∙ at_head f fs))
     by Equal equal rest =
         let head : e.0 ≡ f.0 = exact_bytes e.0 f.0 equal in
-        let value : e.1 ≡ f.1 = same_some (sym (at_head e es) ∙ same e.0 ∙ ap (found (f ∷ fs)) head ∙ at_head f fs) in
+        let value : e.1 ≡ f.1 = same_Some _ _ (sym (at_head e es) ∙ same e.0 ∙ ap (found (f ∷ fs)) head ∙ at_head f fs) in
         let after : es ≡ fs = rest (tails head) in
         λ i. (head i, value i) ∷ after i
 

@@ -1,4 +1,4 @@
-ghost use Rattle.std.specs.Prelude.{◌≡◌, ℕ, ◌<◌, List, [], ◌∷◌, map, flat_map, position, string_bytes, IfOk, OnOk};
+ghost use Rattle.std.specs.Prelude.{◌≡◌, ℕ, ◌<◌, List, [], ◌∷◌, ◌++◌, codes, map, flat_map, position, string_bytes, IfOk, OnOk};
 ghost use Rattle.std.specs.List.{slice_split, AllByRecursion};
 ghost use Rattle.std.specs.List.Sorted.{IsStrictlySortedBy};
 ghost use Rattle.std.specs.Map.{keys_of};
@@ -12,7 +12,7 @@ ghost use Rattle.seg_terms.specs.Places.{term_view, IsShortTerm};
 
 use crate::table::TermTable;
 use crate::term_places::TermPlaces;
-use facet_model::Document;
+use facet_model::{Document, is_blank};
 use facet_names::{NoMemory, Path, push_part};
 use std::alloc::Global;
 
@@ -23,13 +23,6 @@ pub struct TermCollector {
     term: String,
 }
 
-// A space, a tab, a carriage return or a line feed.
-fn is_blank(byte: u8) -> bool
-    ensures { result ≡ is_blank byte }
-{
-    matches!(byte, b' ' | b'\t' | b'\r' | b'\n')
-}
-
 /// Where the first blank of a text stands: the end of its first word, which has no byte where the text begins with a blank.
 ///
 /// Blanks are the space, the tab, the carriage return and the line feed.
@@ -37,6 +30,18 @@ pub fn word_end(text: &[u8]) -> Option<usize>
     ensures { result ≡ position is_blank text.now }
 {
     text.iter().position(|byte| is_blank(*byte))
+}
+
+/// Makes `term` the term of a word, which is a text: a `w` and the word.
+pub fn write_word_term(term: &mut String, word: &[u8]) -> Result<(), NoMemory>
+    requires { IsUtf8 word.now }
+    ensures { OnOk result (string_bytes term.new ≡ codes "w" ++ word.now) }
+{
+    let word = unsafe { str::from_utf8_unchecked(word) };
+    term.clear();
+    term.push('w')?;
+    term.push_str(word)?;
+    Ok(())
 }
 
 impl TermCollector {
@@ -58,10 +63,7 @@ impl TermCollector {
         if word.is_empty() {
             return Ok(());
         }
-        let word = unsafe { str::from_utf8_unchecked(word) };
-        self.term.clear();
-        self.term.push('w')?;
-        self.term.push_str(word)?;
+        write_word_term(&mut self.term, word)?;
         self.table.note(self.term.as_str(), place)
     }
 

@@ -7,7 +7,7 @@ mod laws;
 mod table;
 mod term_places;
 
-pub use collector::word_end;
+pub use collector::{word_end, write_word_term};
 pub use entry::Entry;
 pub use laws::{terms_are_found, terms_rise};
 pub use term_places::{TermPlaces, terms_of};

@@ -1,14 +1,12 @@
 -- What was appended piece by piece is the spelling of the whole.
 use Rattle.std.proofs.Common.{◌≡◌, ℕ, ◌+◌, List, [], ◌∷◌, ◌++◌, length, sym, ap, ◌∙◌, arith, append_assoc, length-append}
-use Rattle.std.specs.List.{flat_map, AllByRecursion}
-use Rattle.std.proofs.lemmas.List.{append-nil}
-use Rattle.std.proofs.lemmas.List.Concat.{flat_map-append}
+use Rattle.std.specs.List.{flat_map}
 use Rattle.facet_codec.specs.Spelling.{be32, vint, text}
-use Rattle.facet_codec.proofs.Lists.{offsets_push}
+use Rattle.facet_codec.proofs.Lists.{offsets_push, each_push, bytes_push}
 use Rattle.facet_model.specs.Stored.{Stored}
 use Rattle.seg_grammar.specs.Spelling.{front_bytes, record_bytes, term_bytes, IsRecord}
-use Rattle.seg_grammar.specs.Index.{counted_offsets}
 use Rattle.seg_writing.specs.Written.{IsRecordPut, AreRecordsPut, IsTermText, AreTermsPut}
+use Rattle.seg_grammar.proofs.Marks.{counted_push}
 
 four : (o a b c d : List ℕ) → (((o ++ a) ++ b) ++ c) ++ d ≡ o ++ (a ++ (b ++ (c ++ d)))
 four o a b c d = simp append_assoc
@@ -32,22 +30,6 @@ record_put r o d e f ed ee ef =
     ∙ ap (λ x. x ++ flat_map be32 r.counted) (ee ∙ ap (λ x. x ++ vint (length r.counted)) ed)
     ∙ three o (front_bytes r) (vint (length r.counted)) (flat_map be32 r.counted)
 
-flat_push : {A : Type 0} (f : A → List ℕ) (xs : List A) (x : A) → flat_map f (xs ++ x ∷ []) ≡ flat_map f xs ++ f x
-flat_push f xs x = flat_map-append f xs (x ∷ []) ∙ ap (λ ys. flat_map f xs ++ ys) (append-nil (f x))
-
-fit_push : {A : Type 0} (P : A → Type 0) (xs : List A) (x : A) → AllByRecursion P xs → P x → AllByRecursion P (xs ++ x ∷ [])
-fit_push P [] x all fits = (fits, tt)
-fit_push P (y ∷ xs) x all fits = (all.0, fit_push P xs x all.1 fits)
-
-counted_push : (at : ℕ) (xs : List Stored) (x : Stored) → counted_offsets at (xs ++ x ∷ []) ≡ counted_offsets at xs ++ (at + length (flat_map record_bytes xs) + length (front_bytes x)) ∷ []
-counted_push at [] x = ap (λ (n : ℕ). n ∷ []) (omega arith)
-counted_push at (y ∷ xs) x =
-    let n : at + length (record_bytes y) + length (flat_map record_bytes xs) + length (front_bytes x) ≡ at + length (record_bytes y ++ flat_map record_bytes xs) + length (front_bytes x) = omega (arith, length-append (record_bytes y) (flat_map record_bytes xs)) in
-    ap (λ (ns : List ℕ). (at + length (front_bytes y)) ∷ ns) (counted_push (at + length (record_bytes y)) xs x ∙ ap (λ (m : ℕ). counted_offsets (at + length (record_bytes y)) xs ++ m ∷ []) n)
-
-appended : {A : Type 0} (f : A → List ℕ) (old mid new : List ℕ) (xs : List A) (x : A) → mid ≡ old ++ flat_map f xs → new ≡ mid ++ f x → new ≡ old ++ flat_map f (xs ++ x ∷ [])
-appended f old mid new xs x before then = then ∙ ap (λ t. t ++ f x) before ∙ append_assoc old (flat_map f xs) (f x) ∙ ap (λ t. old ++ t) (sym (flat_push f xs x))
-
 grown : (old mid more : List ℕ) → mid ≡ old ++ more → length mid ≡ length old + length more
 grown old mid more e = ap length e ∙ length-append old more
 
@@ -57,10 +39,10 @@ records_more old mid new marks counted rs at r before then =
     let size : length mid ≡ length old + length (flat_map record_bytes rs) = grown old mid (flat_map record_bytes rs) before.bytes in
     let place : at ≡ length old + length (flat_map record_bytes rs) + length (front_bytes r) = omega (arith, size, then.counted) in
     record {
-      bytes = appended record_bytes old mid new rs r before.bytes then.bytes;
+      bytes = bytes_push record_bytes old mid new rs r before.bytes then.bytes;
       marks = (λ i. before.marks i ++ size i ∷ []) ∙ sym (offsets_push record_bytes (length old) rs r);
       counted = (λ i. before.counted i ++ place i ∷ []) ∙ sym (counted_push (length old) rs r);
-      fit = fit_push IsRecord rs r before.fit then.fits;
+      fit = each_push IsRecord rs r before.fit then.fits;
     }
 
 -- ---- terms
@@ -77,9 +59,9 @@ pub terms_more : (old mid new marks : List ℕ) (ts : List (List ℕ × List ℕ
 terms_more old mid new marks ts t before bytes fits =
     let size : length mid ≡ length old + length (flat_map term_bytes ts) = grown old mid (flat_map term_bytes ts) before.bytes in
     record {
-      bytes = appended term_bytes old mid new ts t before.bytes bytes;
+      bytes = bytes_push term_bytes old mid new ts t before.bytes bytes;
       marks = (λ i. before.marks i ++ size i ∷ []) ∙ sym (offsets_push term_bytes (length old) ts t);
-      fit = fit_push IsTermText ts t before.fit fits;
+      fit = each_push IsTermText ts t before.fit fits;
     }
 
 -- ---- the whole

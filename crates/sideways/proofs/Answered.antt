@@ -17,11 +17,7 @@ use Rattle.sideways.specs.Questions.{Question, HasDocs, counted_of, docs_of}
 use Rattle.sideways.specs.declared.pass.LiftedCounts.{LiftedCounts}
 use Rattle.sideways.proofs.Decoded.{terms_are}
 use Rattle.sideways.proofs.Ready.{lifts_nothing}
-
-all_at : {A : Type 0} (P : A → Type 0) (xs : List A) (i : ℕ) (d : A) → AllByRecursion P xs → i < length xs → P (get_or xs i d)
-all_at P [] i d all lt = absurd (omega arith)
-all_at P (x ∷ xs) zero d all lt = all.0
-all_at P (x ∷ xs) (suc i) d all lt = all_at P xs i d all.1 (omega arith)
+use Rattle.std.proofs.lemmas.List.Elements.{All-from_recursion}
 
 -- the counts for which a dimension is lifted
 abbrev pub is_for : List ℕ → LiftedCounts → Bool
@@ -33,7 +29,7 @@ module _ (q : Question) (dim : List ℕ) (all : List LiftedCounts) (covers : (d 
   lifted_counts i one each lt here is docs has = by q.sideways (sym (covers dim) ∙ list_any_at (is_for dim) all i one lt (ap (is_for dim) (sym here) ∙ is))
     where
       are : AreCountsOf q (Some dim) one.counts
-      are = subst (λ d. AreCountsOf q (Some d) one.counts) ((bytes_decides one.dim.now dim).0 is) (subst (λ (c : LiftedCounts). AreCountsOf q (Some c.dim.now) c.counts) (sym here) (all_at (λ c. AreCountsOf q (Some c.dim.now) c.counts) all i one each lt))
+      are = subst (λ d. AreCountsOf q (Some d) one.counts) ((bytes_decides one.dim.now dim).0 is) (subst (λ (c : LiftedCounts). AreCountsOf q (Some c.dim.now) c.counts) (sym here) (All-from_recursion (λ c. AreCountsOf q (Some c.dim.now) c.counts) all each i one lt))
 
       by : (b : Bool) → (b && list_any (λ path. bytes_eq (dim_of path) dim) q.drill) ≡ true → AreCounts one.counts (counted_of q (cond b (lifted docs q.query q.drill dim) (hits docs q.query q.drill)))
       by true e = are.each docs has
@@ -41,7 +37,7 @@ module _ (q : Question) (dim : List ℕ) (all : List LiftedCounts) (covers : (d 
 
   pub lifted_same : (i : ℕ) (one : LiftedCounts) → AllByRecursion (λ c. AreCountsOf q (Some c.dim.now) c.counts) all → i < length all → one ≡ get_or all i one → (one.counts.labels ≡ q.labels) × (one.counts.config ≡ q.config)
   lifted_same i one each lt here =
-      let are : AreCountsOf q (Some one.dim.now) one.counts = subst (λ (c : LiftedCounts). AreCountsOf q (Some c.dim.now) c.counts) (sym here) (all_at (λ c. AreCountsOf q (Some c.dim.now) c.counts) all i one each lt) in
+      let are : AreCountsOf q (Some one.dim.now) one.counts = subst (λ (c : LiftedCounts). AreCountsOf q (Some c.dim.now) c.counts) (sym here) (All-from_recursion (λ c. AreCountsOf q (Some c.dim.now) c.counts) all each i one lt) in
       (are.labels, are.config)
 
   pub hit_counts : (counts : Totals) → AreCountsOf q None counts → list_any (is_for dim) all ≡ false → (docs : List Doc) → HasDocs q docs → AreCounts counts (counted_of q (docs_of q docs dim))

@@ -1,6 +1,6 @@
 -- What segments that have documents say of these.
 use Rattle.std.proofs.Common.{◌≡◌, ℕ, zero, suc, ◌+◌, ◌<◌, Bool, true, false, List, [], ◌∷◌, ◌++◌, length, map, get_or, slice_get, Some, refl, sym, ap, ◌∙◌, arith}
-use Rattle.std.specs.Prelude.{cond, filter, sum_by, ◌||◌}
+use Rattle.std.specs.Prelude.{cond, filter, sum_by}
 use Rattle.std.specs.List.{list_all, enumerate_from, AllZip}
 use Rattle.std.proofs.lemmas.Bool.{and_from}
 use Rattle.std.proofs.lemmas.List.{length-append}
@@ -22,9 +22,9 @@ use Rattle.live_records.proofs.Alive.{is_in-is_dead, length_alive, live_places}
 use Rattle.seg_postings.specs.Sets.{picked, without}
 use Rattle.sideways.specs.Counted.{AreCountable, ArePartsOf, IsPartOf, PartLeft, lists_at, lists_of, live_in, placed, ranks_from}
 use Rattle.sideways.proofs.Placed.{alive_in}
-
-abbrev no_record : Stored
-no_record = record { id = []; text = []; leaves = []; counted = [] }
+use Rattle.std.proofs.Math.Bool.{or-true}
+use Rattle.facet_names.proofs.LabelLists.{label_stands}
+use Rattle.seg_grammar.proofs.Marks.{no_record}
 
 -- ---- one segment
 
@@ -34,21 +34,11 @@ terms_are known config segment docs is = record { terms = is.terms; records = sy
 path_same : (path : List (List ℕ)) → path_eq path path ≡ true
 path_same path = (pointwise_decides bytes_decides path path).1 refl
 
--- a label at an ordinal is a label
-stands_at : (known : List (List (List ℕ))) (i : ℕ) (label : List (List ℕ)) → slice_get known i ≡ Some label → stands known label ≡ true
-stands_at [] i label at = absurd cc
-stands_at (k ∷ ks) zero label at = let same : k ≡ label = cc in ap (λ b. b || stands ks label) (ap (path_eq label) same ∙ path_same label)
-stands_at (k ∷ ks) (suc i) label at = ap (λ b. path_eq label k || b) (stands_at ks i label at) ∙ or_true (path_eq label k)
-  where
-    or_true : (b : Bool) → (b || true) ≡ true
-    or_true true = refl
-    or_true false = refl
-
 labels_stand : (known : List (List (List ℕ))) (leaves : List ℕ) (labels : List (List (List ℕ))) → AreLabelsAt known leaves labels → list_all (stands known) labels ≡ true
 labels_stand known [] [] are = refl
 labels_stand known [] (l ∷ ls) are = absurd cc
 labels_stand known (o ∷ os) [] are = absurd cc
-labels_stand known (o ∷ os) (l ∷ ls) are = and_from (stands known l) (list_all (stands known) ls) (stands_at known o l (head_is are)) (labels_stand known os ls (tail_is are))
+labels_stand known (o ∷ os) (l ∷ ls) are = and_from (stands known l) (list_all (stands known) ls) (label_stands known o l (head_is are)) (labels_stand known os ls (tail_is are))
   where
     head_is : slice_get known o ∷ map (slice_get known) os ≡ Some l ∷ map Some ls → slice_get known o ≡ Some l
     head_is h = cc

@@ -18,10 +18,9 @@ use Rattle.sideways.specs.Kept.{AreDistinct, HasNear, HasNears, HasPart, HasPart
 use Rattle.sideways.specs.Questions.{Question}
 use Rattle.sideways.specs.declared.pass.LiftedPass.{LiftedPass}
 use Rattle.sideways.specs.declared.pass.Pass.{Pass}
-
-pub all_push : {A : Type 0} (P : A → Type 0) (xs : List A) (y : A) → AllByRecursion P xs → P y → AllByRecursion P (xs ++ y ∷ [])
-all_push P [] y all here = (here, tt)
-all_push P (x ∷ xs) y all here = (all.0, all_push P xs y all.1 here)
+use Rattle.std.proofs.Math.Bool.{or-false}
+use Rattle.std.proofs.lemmas.Slice.Zip.{all_zipped_more}
+use Rattle.facet_codec.proofs.Lists.{each_push}
 
 pub all_front : {A : Type 0} (P : A → Type 0) (xs : List A) (y : A) → AllByRecursion P (xs ++ y ∷ []) → AllByRecursion P xs
 all_front P [] y all = tt
@@ -31,12 +30,8 @@ pub all_last : {A : Type 0} (P : A → Type 0) (xs : List A) (y : A) → AllByRe
 all_last P [] y all = all.0
 all_last P (x ∷ xs) y all = all_last P xs y all.1
 
-or_false : (b : Bool) → (b || false) ≡ b
-or_false true = refl
-or_false false = refl
-
 pub any_push : {A : Type 0} (p : A → Bool) (xs : List A) (y : A) → list_any p (xs ++ y ∷ []) ≡ (list_any p xs || p y)
-any_push p xs y = list_any-append p xs (y ∷ []) ∙ ap (λ b. list_any p xs || b) (or_false (p y))
+any_push p xs y = list_any-append p xs (y ∷ []) ∙ ap (λ b. list_any p xs || b) (or-false (p y))
 
 -- what goes from one list to another is in one of them as before
 pub moved_over : {A B : Type 0} (p : A → Bool) (r : B → Bool) (xs : List A) (y : A) (zs : List B) (z : B) → r z ≡ p y → (list_any p xs || list_any r (zs ++ z ∷ [])) ≡ (list_any p (xs ++ y ∷ []) || list_any r zs)
@@ -64,7 +59,7 @@ covers_same drill i dim lt other = by (bytes_eq (dim_of (get_or drill i [])) dim
 
     by : (b : Bool) → bytes_eq (dim_of (get_or drill i [])) dim ≡ b → list_any (λ path. bytes_eq (dim_of path) dim) (take i drill) ≡ (list_any (λ path. bytes_eq (dim_of path) dim) (take i drill) || bytes_eq (dim_of (get_or drill i [])) dim)
     by true e = let there : list_any (λ path. bytes_eq (dim_of path) dim) (take i drill) ≡ true = subst (λ d. is_again drill i d ≡ true) ((bytes_decides (dim_of (get_or drill i [])) dim).0 e) (again (is_again drill i (dim_of (get_or drill i []))) other) in rw there refl
-    by false e = rw e (sym (or_false (list_any (λ path. bytes_eq (dim_of path) dim) (take i drill))))
+    by false e = rw e (sym (or-false (list_any (λ path. bytes_eq (dim_of path) dim) (take i drill))))
 
 -- ---- parts of segments
 
@@ -73,17 +68,11 @@ mapped_at P f [] i x all lt here = absurd (omega arith)
 mapped_at P f (y ∷ ys) zero x all lt here = subst (λ z. P (f z)) (sym here) all.0
 mapped_at P f (y ∷ ys) (suc i) x all lt here = mapped_at P f ys i x all.1 (omega arith) here
 
-pub zip_push : {A B : Type 0} (R : A → B → Type 0) (xs : List A) (ys : List B) (x : A) (y : B) → AllZip R xs ys → R x y → AllZip R (xs ++ x ∷ []) (ys ++ y ∷ [])
-zip_push R [] [] x y all here = (here, tt)
-zip_push R [] (b ∷ bs) x y all here = absurd all
-zip_push R (a ∷ xs) [] x y all here = absurd all
-zip_push R (a ∷ xs) (b ∷ bs) x y all here = (all.0, zip_push R xs bs x y all.1 here)
-
 pub zip_more : {A C B : Type 0} (R : C → B → Type 0) (f : A → C) (xs : List A) (i : ℕ) (x : A) (ys : List B) (y : B) → i < length xs → x ≡ get_or xs i x → AllZip R (map f (take i xs)) ys → R (f x) y → AllZip R (map f (take (i + 1) xs)) (ys ++ y ∷ [])
-zip_more R f xs i x ys y lt is all here = subst (λ l. AllZip R l (ys ++ y ∷ [])) (sym (ap (map f) (take_more xs i x lt ∙ ap (λ z. take i xs ++ z ∷ []) (sym is)) ∙ map_push f (take i xs) x)) (zip_push R (map f (take i xs)) ys (f x) y all here)
+zip_more R f xs i x ys y lt is all here = subst (λ l. AllZip R l (ys ++ y ∷ [])) (sym (ap (map f) (take_more xs i x lt ∙ ap (λ z. take i xs ++ z ∷ []) (sym is)) ∙ map_push f (take i xs) x)) (all_zipped_more R (map f (take i xs)) ys (f x) y all here)
 
 pub all_more : {A B : Type 0} (P : B → Type 0) (f : A → B) (xs : List A) (i : ℕ) (x : A) → i < length xs → x ≡ get_or xs i x → AllByRecursion P (map f (take i xs)) → P (f x) → AllByRecursion P (map f (take (i + 1) xs))
-all_more P f xs i x lt is all here = subst (AllByRecursion P) (sym (ap (map f) (take_more xs i x lt ∙ ap (λ z. take i xs ++ z ∷ []) (sym is)) ∙ map_push f (take i xs) x)) (all_push P (map f (take i xs)) (f x) all here)
+all_more P f xs i x lt is all here = subst (AllByRecursion P) (sym (ap (map f) (take_more xs i x lt ∙ ap (λ z. take i xs ++ z ∷ []) (sym is)) ∙ map_push f (take i xs) x)) (each_push P (map f (take i xs)) (f x) all here)
 
 -- ---- distinct dimensions
 

@@ -4,15 +4,17 @@ use Rattle.std.specs.Prelude.{◌||◌, ◌&&◌, not, cond, filter, sum_by, nat
 use Rattle.std.specs.List.{list_all, list_any, AllByRecursion}
 use Rattle.std.specs.Str.{bytes_eq}
 use Rattle.std.specs.Cmp.Lexicographic.{bytes_decides}
-use Rattle.std.proofs.Math.Bool.{or-true}
+use Rattle.std.proofs.Math.Bool.{or-true, and_assoc}
 use Rattle.std.proofs.lemmas.Bool.{lt-leb, ne_eqb, true≢false}
 use Rattle.std.proofs.lemmas.List.Sums.{sum_by-cons}
 use Rattle.facet_model.specs.Documents.{Doc, dim_of}
 use Rattle.facet_model.specs.Hits.{passes}
 use Rattle.facet_model.specs.Queries.{QueryTree, matches}
-use Rattle.sideways.specs.Counted.{fails_alone, is_drilled, is_near, passes_all, passes_tests}
+use Rattle.sideways.specs.Counted.{fails_alone, is_drilled, is_near, passes_all}
 use Rattle.sideways.specs.Kept.{AreDistinct, dim_in}
 use Rattle.sideways.specs.declared.pass.LiftedPass.{LiftedPass}
+use Rattle.std.specs.Cmp.{both_ways}
+use Rattle.query_eval.specs.Segments.{passes_tests}
 
 -- ---- sums over two kinds of documents
 
@@ -79,14 +81,10 @@ module _ (P : List ℕ → Bool) where
 module _ (query : QueryTree) (drill : List (List (List ℕ))) (dim : List ℕ) (doc : Doc) (drilled : is_drilled drill dim ≡ true) where
   hit_is : passes_all query drill None doc ≡ (passes_all query drill (Some dim) doc && passes doc drill dim)
   hit_is =
-      ap (λ b. matches query doc && b) (all_and_one (λ d. passes doc drill d) dim drill ∙ ap (λ b. others && (not b || passes doc drill dim)) drilled) ∙ grouped (matches query doc) others (passes doc drill dim)
+      ap (λ b. matches query doc && b) (all_and_one (λ d. passes doc drill d) dim drill ∙ ap (λ b. others && (not b || passes doc drill dim)) drilled) ∙ sym (and_assoc (matches query doc) others (passes doc drill dim))
     where
       others : Bool
       others = list_all (λ path. bytes_eq (dim_of path) dim || passes doc drill (dim_of path)) drill
-
-      grouped : (a b c : Bool) → (a && (b && c)) ≡ ((a && b) && c)
-      grouped true b c = refl
-      grouped false b c = refl
 
   pub near_or_hit : (is_near query drill dim doc || passes_all query drill None doc) ≡ passes_all query drill (Some dim) doc
   near_or_hit = ap (λ b. is_near query drill dim doc || b) hit_is ∙ by (passes_all query drill (Some dim) doc) (passes doc drill dim)
@@ -122,14 +120,9 @@ all_from P f (x ∷ xs) each =
     (λ i. each (f x) (ap (λ b. b || list_any (λ y. bytes_eq (f y) (f x)) xs) ((bytes_decides (f x) (f x)).1 refl)) i
     && all_from P f xs (λ dim some. each dim (ap (λ b. bytes_eq (f x) dim || b) some ∙ or-true (bytes_eq (f x) dim))) i)
 
-same_bool : (a b : Bool) → (a ≡ true → b ≡ true) → (b ≡ true → a ≡ true) → a ≡ b
-same_bool true b f g = sym (f refl)
-same_bool false true f g = g refl
-same_bool false false f g = refl
-
 -- as many dimensions, whichever list they are taken from
 pub same_dims : (P : List ℕ → Bool) (drill : List (List (List ℕ))) (lifted : List LiftedPass) → ((dim : List ℕ) → list_any (λ l. bytes_eq l.dim.now dim) lifted ≡ is_drilled drill dim) → list_all (λ l. P l.dim.now) lifted ≡ list_all (λ path. P (dim_of path)) drill
-same_dims P drill lifted covers = same_bool (list_all (λ l. P l.dim.now) lifted) (list_all (λ path. P (dim_of path)) drill)
+same_dims P drill lifted covers = both_ways (list_all (λ l. P l.dim.now) lifted) (list_all (λ path. P (dim_of path)) drill)
     (λ all. all_from P dim_of drill (λ dim some. all_of P dim_in lifted all dim (covers dim ∙ some)))
     (λ all. all_from P dim_in lifted (λ dim some. all_of P dim_of drill all dim (sym (covers dim) ∙ some)))
 

@@ -19,7 +19,10 @@ use Rattle.seg_postings.proofs.Members.{is_in-either, is_in-without}
 use Rattle.seg_postings.proofs.Sets.{rising_without}
 use Rattle.seg_postings.specs.Rising.{IsRising, is_in}
 use Rattle.seg_postings.specs.Sets.{without}
-use Rattle.sideways.specs.Counted.{AreAllOf, AreNodesFor, AreWithin, is_lifted, passes_each, passes_tests, is_again, is_first}
+use Rattle.sideways.specs.Counted.{AreAllOf, AreNodesFor, AreWithin, is_lifted, passes_each, is_again, is_first}
+use Rattle.std.proofs.Math.Bool.{or-false, and-true, and_assoc}
+use Rattle.std.proofs.lemmas.Bool.{and_parts}
+use Rattle.query_eval.specs.Segments.{passes_tests}
 
 -- no node, where every document passes
 pub none_all : (docs : List Doc) → AreAllOf docs (λ doc. true) []
@@ -30,16 +33,8 @@ same_all docs f g nodes same all = record { each = all.each; have = λ n doc the
 
 -- one node more
 pub all_have_more : (n : ℕ) (nodes : List Planned) (p : Planned) → all_have n (nodes ++ p ∷ []) ≡ (all_have n nodes && is_in n p.left)
-all_have_more n [] p = and_true (is_in n p.left)
-  where
-    and_true : (b : Bool) → (b && true) ≡ b
-    and_true true = refl
-    and_true false = refl
-all_have_more n (q ∷ qs) p = ap (λ b. is_in n q.left && b) (all_have_more n qs p) ∙ grouped (is_in n q.left) (all_have n qs) (is_in n p.left)
-  where
-    grouped : (a b c : Bool) → (a && (b && c)) ≡ ((a && b) && c)
-    grouped true b c = refl
-    grouped false b c = refl
+all_have_more n [] p = and-true (is_in n p.left)
+all_have_more n (q ∷ qs) p = ap (λ b. is_in n q.left && b) (all_have_more n qs p) ∙ sym (and_assoc (is_in n q.left) (all_have n qs) (is_in n p.left))
 
 each_more : (P : Planned → Type 0) (nodes : List Planned) (p : Planned) → AllByRecursion P nodes → P p → AllByRecursion P (nodes ++ p ∷ [])
 each_more P [] p all here = (here, tt)
@@ -53,21 +48,13 @@ push_all docs test f nodes p all is = record {
 
 -- a node more for each test
 pub append_all : (docs : List Doc) (test : Doc → Bool) (tests : List (Doc → Bool)) (nodes more : List Planned) → AreAllOf docs test nodes → AreNodesFor docs tests more → AreAllOf docs (λ doc. test doc && passes_tests tests doc) (nodes ++ more)
-append_all docs test [] nodes [] all is = subst (AreAllOf docs (λ doc. test doc && true)) (sym (append-nil nodes)) (same_all docs test (λ doc. test doc && true) nodes (λ doc. sym (and_true (test doc))) all)
-  where
-    and_true : (b : Bool) → (b && true) ≡ b
-    and_true true = refl
-    and_true false = refl
+append_all docs test [] nodes [] all is = subst (AreAllOf docs (λ doc. test doc && true)) (sym (append-nil nodes)) (same_all docs test (λ doc. test doc && true) nodes (λ doc. sym (and-true (test doc))) all)
 append_all docs test [] nodes (p ∷ ps) all is = absurd is
 append_all docs test (t ∷ ts) nodes [] all is = absurd is
 append_all docs test (t ∷ ts) nodes (p ∷ ps) all is =
     subst (AreAllOf docs (λ doc. test doc && passes_tests (t ∷ ts) doc)) (append_assoc nodes (p ∷ []) ps)
-    (same_all docs (λ doc. (test doc && t doc) && passes_tests ts doc) (λ doc. test doc && passes_tests (t ∷ ts) doc) ((nodes ++ p ∷ []) ++ ps) (λ doc. grouped (test doc) (t doc) (passes_tests ts doc))
+    (same_all docs (λ doc. (test doc && t doc) && passes_tests ts doc) (λ doc. test doc && passes_tests (t ∷ ts) doc) ((nodes ++ p ∷ []) ++ ps) (λ doc. and_assoc (test doc) (t doc) (passes_tests ts doc))
     (append_all docs (λ doc. test doc && t doc) ts (nodes ++ p ∷ []) ps (push_all docs test t nodes p all is.0) is.1))
-  where
-    grouped : (a b c : Bool) → ((a && b) && c) ≡ (a && (b && c))
-    grouped true b c = refl
-    grouped false b c = refl
 
 -- ---- the places of the documents that pass
 
@@ -93,12 +80,8 @@ none_past docs n (p ∷ ps) some none all = ap (λ b. b && all_have n ps) (ap (i
 
 pub all_left : (docs : List Doc) (test : Doc → Bool) (nodes : List Planned) (xs : List ℕ) → 0 < length nodes → AreAllOf docs test nodes
     → ((n : ℕ) → is_in n xs ≡ (all_have n nodes && not (is_in n (any_of [])))) → (All (λ p. IsRising p.left) nodes → IsRising xs) → xs ≡ places test docs
-all_left docs test nodes xs some all members rises = are_places test docs xs (rises (each_rises docs nodes all.each)) (λ n. members n ∙ and_true (all_have n nodes) ∙ by n (slice_get docs n) refl)
+all_left docs test nodes xs some all members rises = are_places test docs xs (rises (each_rises docs nodes all.each)) (λ n. members n ∙ and-true (all_have n nodes) ∙ by n (slice_get docs n) refl)
   where
-    and_true : (b : Bool) → (b && true) ≡ b
-    and_true true = refl
-    and_true false = refl
-
     by : (n : ℕ) (o : Option Doc) → slice_get docs n ≡ o → all_have n nodes ≡ at test docs n
     by n None e = rw (none_past docs n nodes some e all.each, e) refl
     by n (Some doc) e = rw e (all.have n doc e)
@@ -107,13 +90,9 @@ all_left docs test nodes xs some all members rises = are_places test docs xs (ri
 pub within_docs : (segment : Records) (docs : List Doc) (test : Doc → Bool) (dead left : List ℕ) → length segment.records ≡ length docs → left ≡ without (places test docs) dead → AreWithin segment left
 within_docs segment docs test dead left long is = record {
   rising = subst IsRising (sym is) (rising_without (places test docs) dead (rising_places test docs));
-  within = λ n among. within n (sym (is_in_places n test docs) ∙ first (is_in n (places test docs)) (not (is_in n dead)) (sym (is_in-without n (places test docs) dead) ∙ ap (is_in n) (sym is) ∙ among));
+  within = λ n among. within n (sym (is_in_places n test docs) ∙ (and_parts (is_in n (places test docs)) (not (is_in n dead)) (sym (is_in-without n (places test docs) dead) ∙ ap (is_in n) (sym is) ∙ among)).0);
 }
   where
-    first : (a b : Bool) → (a && b) ≡ true → a ≡ true
-    first true b h = refl
-    first false b h = absurd cc
-
     past : (n : ℕ) (xs : List Doc) → at test xs n ≡ true → n < length xs
     past n [] among = absurd cc
     past zero (x ∷ xs) among = omega arith
@@ -130,11 +109,7 @@ module _ (drill : List (List (List ℕ))) (lift : Option (List ℕ)) where
   one_of doc path = is_lifted lift (dim_of path) || passes doc drill (dim_of path)
 
   each_to : (doc : Doc) (i : ℕ) → i < length drill → passes_each drill lift (take (i + 1) drill) doc ≡ (passes_each drill lift (take i drill) doc && one_of doc (get_or drill i []))
-  each_to doc i lt = ap (list_all (one_of doc)) (take_more drill i [] lt) ∙ list_all-append (one_of doc) (take i drill) (get_or drill i [] ∷ []) ∙ ap (λ b. passes_each drill lift (take i drill) doc && b) (and_true (one_of doc (get_or drill i [])))
-    where
-      and_true : (b : Bool) → (b && true) ≡ b
-      and_true true = refl
-      and_true false = refl
+  each_to doc i lt = ap (list_all (one_of doc)) (take_more drill i [] lt) ∙ list_all-append (one_of doc) (take i drill) (get_or drill i [] ∷ []) ∙ ap (λ b. passes_each drill lift (take i drill) doc && b) (and-true (one_of doc (get_or drill i [])))
 
   -- a path whose dimension stood before says no more
   again : (doc : Doc) (dim : List ℕ) (ps : List (List (List ℕ))) → list_any (λ path. bytes_eq (dim_of path) dim) ps ≡ true → list_all (one_of doc) ps ≡ true → (is_lifted lift dim || passes doc drill dim) ≡ true
@@ -151,15 +126,11 @@ module _ (drill : List (List (List ℕ))) (lift : Option (List ℕ)) where
   pub narrowed : (m : Bool) (doc : Doc) (i : ℕ) (dim : List ℕ) → i < length drill → dim_of (get_or drill i []) ≡ dim → is_first drill i lift ≡ true
       → ((m && passes_each drill lift (take i drill) doc) && passes doc drill dim) ≡ (m && passes_each drill lift (take (i + 1) drill) doc)
   narrowed m doc i dim lt is first =
-      grouped m (passes_each drill lift (take i drill) doc) (passes doc drill dim)
+      and_assoc m (passes_each drill lift (take i drill) doc) (passes doc drill dim)
       ∙ ap (λ d. m && (passes_each drill lift (take i drill) doc && passes doc drill d)) (sym is)
       ∙ ap (λ b. m && (passes_each drill lift (take i drill) doc && (b || passes doc drill (dim_of (get_or drill i []))))) (sym (kept (is_again drill i (dim_of (get_or drill i []))) (is_lifted lift (dim_of (get_or drill i []))) first))
       ∙ ap (λ b. m && b) (sym (each_to doc i lt))
     where
-      grouped : (a b c : Bool) → ((a && b) && c) ≡ (a && (b && c))
-      grouped true b c = refl
-      grouped false b c = refl
-
       kept : (a b : Bool) → (not a && not b) ≡ true → b ≡ false
       kept a false h = refl
       kept true true h = absurd cc
@@ -184,13 +155,9 @@ dim_at drill i path dim lt is at = ap dim_of (get_or_from_slice_get drill i path
 pub one_left : (docs : List Doc) (test : Doc → Bool) (p : Planned) → AreAllOf docs test (p ∷ []) → p.left ≡ places test docs
 one_left docs test p all = are_places test docs p.left (subst IsRising (sym all.each.0.1) (rising_places all.each.0.0 docs)) (λ n. by n (slice_get docs n) refl)
   where
-    and_true : (b : Bool) → b ≡ (b && true)
-    and_true true = refl
-    and_true false = refl
-
     by : (n : ℕ) (o : Option Doc) → slice_get docs n ≡ o → is_in n p.left ≡ at test docs n
     by n None e = ap (is_in n) all.each.0.1 ∙ is_in_places n all.each.0.0 docs ∙ ap (λ o. option_map_or all.each.0.0 o false) e ∙ sym (ap (λ o. option_map_or test o false) e)
-    by n (Some doc) e = and_true (is_in n p.left) ∙ all.have n doc e ∙ sym (ap (λ o. option_map_or test o false) e)
+    by n (Some doc) e = sym (and-true (is_in n p.left)) ∙ all.have n doc e ∙ sym (ap (λ o. option_map_or test o false) e)
 
 -- ---- all nodes but not one
 
@@ -204,11 +171,7 @@ have_at docs test nodes some all n = by (slice_get docs n) refl
 
 -- where there are none, every document passes
 pub every_at : (docs : List Doc) (test : Doc → Bool) (whole : Planned) → whole.left ≡ range_with_len 0 (length docs) → AreAllOf docs test [] → (n : ℕ) → all_have n (whole ∷ []) ≡ at test docs n
-every_at docs test whole is all n = and_true (is_in n whole.left) ∙ ap (is_in n) (is ∙ all_pass docs test all) ∙ is_in_places n test docs
-  where
-    and_true : (b : Bool) → (b && true) ≡ b
-    and_true true = refl
-    and_true false = refl
+every_at docs test whole is all n = and-true (is_in n whole.left) ∙ ap (is_in n) (is ∙ all_pass docs test all) ∙ is_in_places n test docs
 
 pub nodes_rise : (docs : List Doc) (test : Doc → Bool) (nodes : List Planned) → AreAllOf docs test nodes → All (λ p. IsRising p.left) nodes
 nodes_rise docs test nodes all = each_rises docs nodes all.each
@@ -220,19 +183,11 @@ pub left_without : (docs : List Doc) (test other : Doc → Bool) (nodes : List P
     → ((n : ℕ) → is_in n left ≡ (all_have n nodes && not (is_in n (any_of (own ∷ []))))) → left ≡ places (λ doc. test doc && not (other doc)) docs
 left_without docs test other nodes own left have is rising members = are_places (λ doc. test doc && not (other doc)) docs left rising (λ n. members n ∙ by n (slice_get docs n) refl)
   where
-    or_false : (b : Bool) → (b || false) ≡ b
-    or_false true = refl
-    or_false false = refl
-
     own_at : (n : ℕ) → is_in n (any_of (own ∷ [])) ≡ at other docs n
-    own_at n = is_in-either n own.left [] ∙ or_false (is_in n own.left) ∙ ap (is_in n) is ∙ is_in_places n other docs
+    own_at n = is_in-either n own.left [] ∙ or-false (is_in n own.left) ∙ ap (is_in n) is ∙ is_in_places n other docs
 
     by : (n : ℕ) (o : Option Doc) → slice_get docs n ≡ o → (all_have n nodes && not (is_in n (any_of (own ∷ [])))) ≡ at (λ doc. test doc && not (other doc)) docs n
     by n None e = ap (λ b. b && not (is_in n (any_of (own ∷ [])))) (have n ∙ ap (λ o. option_map_or test o false) e) ∙ sym (ap (λ o. option_map_or (λ doc. test doc && not (other doc)) o false) e)
     by n (Some doc) e =
         (λ i. (have n ∙ ap (λ o. option_map_or test o false) e) i && not ((own_at n ∙ ap (λ o. option_map_or other o false) e) i))
         ∙ sym (ap (λ o. option_map_or (λ d. test d && not (other d)) o false) e)
-
-pub no_nodes : (nodes : List Planned) → length nodes ≡ 0 → nodes ≡ []
-no_nodes [] e = refl
-no_nodes (p ∷ ps) e = absurd (omega (arith, e))

@@ -1,16 +1,16 @@
 -- The parts of a pass, one after the other.
 use Rattle.std.proofs.Common.{◌≡◌, ℕ, zero, suc, ◌+◌, ◌<◌, ◌≤◌, ◌⊎◌, inl, inr, Bool, true, false, List, [], ◌∷◌, ◌++◌, length, take, min, get_or, set, refl, sym, ap, subst, ◌∙◌, arith, append_assoc}
 use Rattle.std.specs.Prelude.{cond, sum_by}
-use Rattle.std.specs.List.{AllByRecursion}
 use Rattle.std.proofs.lemmas.Bool.{cases_lt}
 use Rattle.std.proofs.lemmas.Grind.{flat_map-append}
-use Rattle.std.proofs.lemmas.List.{append-nil, get_or_default, get_or-set_other, length-append, length-map, length-set, map-append, map_push, take_all, take_more}
+use Rattle.std.proofs.lemmas.List.{append-nil, get_or_default, get_or-set_other, length-append, length-map, length-set, map-append, map_push, take_all, take_more, take-append-le}
 use Rattle.seg_grammar.specs.Lookups.{record_of}
 use Rattle.std.proofs.lemmas.List.Sums.{sum_by-cons}
 use Rattle.facet_counts.specs.Tallies.{Tally}
 use Rattle.facet_model.specs.Stored.{is_dead, live_before}
 use Rattle.sideways.specs.Counted.{PartLeft, AreCountable, IsGrown, IsNoting, IsReady, IsTaking, lists_at, lists_of, live_in, placed, ranks_from}
 use Rattle.sideways.proofs.Walked.{grown_more}
+use Rattle.std.proofs.lemmas.List.Elements.{All-from_recursion}
 
 sum_to : {A : Type 0} (f : A → ℕ) (xs : List A) (i : ℕ) (d : A) → i < length xs → sum_by f (take i xs) + f (get_or xs i d) ≤ sum_by f xs
 sum_to f [] i d lt = absurd (omega arith)
@@ -51,11 +51,6 @@ take_first zero ps (x ∷ xs) le = absurd (omega (arith, length-append (take 0 p
 take_first (suc m) [] first le = take_all (suc m) first le
 take_first (suc m) (p ∷ ps) first le = ap (λ l. p ∷ l) (take_first m ps first (omega arith))
 
-take_more_than : {A : Type 0} (limit : ℕ) (xs ys : List A) → limit ≤ length xs → take limit (xs ++ ys) ≡ take limit xs
-take_more_than zero xs ys le = refl
-take_more_than (suc m) [] ys le = absurd (omega arith)
-take_more_than (suc m) (x ∷ xs) ys le = ap (λ l. x ∷ l) (take_more_than m xs ys (omega arith))
-
 short_take : {A : Type 0} (limit : ℕ) (xs : List A) → limit ≤ length (take limit xs) → limit ≤ length xs
 short_take zero xs le = omega arith
 short_take (suc m) [] le = absurd (omega arith)
@@ -69,7 +64,7 @@ first_taken limit ps first rest new is few (inr none) =
 first_taken limit ps first rest new is few (inl enough) =
     let same : take limit (ps ++ first) ≡ take limit ps ++ first = take_first limit ps first (omega (arith, ap length is, few)) in
     let full : limit ≤ length (take limit (ps ++ first)) = omega (arith, ap length same, ap length is, enough) in
-    is ∙ sym same ∙ sym (take_more_than limit (ps ++ first) rest (short_take limit (ps ++ first) full)) ∙ ap (take limit) (append_assoc ps first rest)
+    is ∙ sym same ∙ sym (take-append-le limit (ps ++ first) rest (short_take limit (ps ++ first) full)) ∙ ap (take limit) (append_assoc ps first rest)
 
 -- ---- what holds between the parts
 
@@ -86,11 +81,6 @@ counted_more i now new all before mid after p q counted lt here is grown = recor
   grown = subst (IsGrown before after) (sym (lists_to all i p lt (sym (counted.same i p (omega arith)) ∙ sym here))) (grown_more before mid after (lists_of (take i all)) (lists_at p.segment p.left) counted.grown grown);
 }
 
-all_at : (P : PartLeft → Type 0) (xs : List PartLeft) (i : ℕ) (d : PartLeft) → AllByRecursion P xs → i < length xs → P (get_or xs i d)
-all_at P [] i d all lt = absurd (omega arith)
-all_at P (x ∷ xs) zero d all lt = all.0
-all_at P (x ∷ xs) (suc i) d all lt = all_at P xs i d all.1 (omega arith)
-
 -- the part that is next stands at its index
 pub part_here : (i : ℕ) (now all : List PartLeft) (before mid : Tally) (item : PartLeft) → AreCountedTo i now all before mid → i < length all → get_or now i item ≡ get_or now i (get_or now i item)
 part_here i now all before mid item counted lt = get_or_default now i item (get_or now i item) (omega (arith, counted.long, lt))
@@ -104,7 +94,7 @@ pub next_part : (i : ℕ) (now all : List PartLeft) (before mid : Tally) (p : Pa
 next_part i now all before mid p counted ready lt here =
     let there : get_or all i p ≡ p = sym (counted.same i p (omega arith)) ∙ sym here in
     record {
-      countable = subst (λ c. AreCountable c mid.labels p.segment) (sym counted.grown.config) (subst (λ l. AreCountable before.config l p.segment) (sym counted.grown.labels) (subst (λ (x : PartLeft). AreCountable before.config before.labels x.segment) there (all_at (λ x. AreCountable before.config before.labels x.segment) all i p ready.countable lt)));
+      countable = subst (λ c. AreCountable c mid.labels p.segment) (sym counted.grown.config) (subst (λ l. AreCountable before.config l p.segment) (sym counted.grown.labels) (subst (λ (x : PartLeft). AreCountable before.config before.labels x.segment) there (All-from_recursion (λ x. AreCountable before.config before.labels x.segment) all ready.countable i p lt)));
       room = omega (arith, counted.grown.number, ready.fresh.number, lists_length (take i all), sum_to left_in all i p lt, ap left_in there, ready.room);
     }
 

@@ -11,7 +11,7 @@ use Rattle.facet_model.specs.CountedPaths.{places, counted_ordinals}
 use Rattle.facet_model.specs.Documents.{Doc, dim_of}
 use Rattle.facet_model.specs.Hits.{hits, is_hit, lifted, passes}
 use Rattle.facet_model.specs.Queries.{matches}
-use Rattle.facet_model.specs.Stored.{Stored, Records, IsRecordOf, IsSegmentOf, alive, alive_from, is_dead, live_before, live_docs}
+use Rattle.facet_model.specs.Stored.{Stored, Records, IsRecordOf, IsSegmentOf, alive, live_before, live_docs}
 use Rattle.facet_counts.specs.Laws.{MayBeCounted}
 use Rattle.facet_counts.specs.Lists.{IsListOf}
 use Rattle.facet_counts.specs.Tallies.{Tally, Totals, AreCounts, HasAdded}
@@ -27,20 +27,14 @@ use Rattle.sideways.specs.declared.pass.LiftedPass.{LiftedPass}
 use Rattle.sideways.proofs.Decoded.{all_lists, all_placed, all_records, countable_of, list_is, terms_are}
 use Rattle.sideways.proofs.Misses.{near_not_hit, near_or_hit, one_each, short_filter, sums_joined}
 use Rattle.sideways.proofs.Placed.{left_in, lists_length, alive_in}
+use Rattle.facet_model.proofs.Each.{each_append, each_from}
+use Rattle.facet_counts.proofs.Turns.{count_most}
 
 -- each segment has documents
 pub each_has : (q : Question) (segments : List Records) (pieces : List (List Doc)) → AllZip (IsSegmentOf q.labels q.config) segments pieces → AllByRecursion (λ s. (docs : List Doc) × HasTermsOf s docs) segments
 each_has q [] pieces are = tt
 each_has q (s ∷ ss) [] are = absurd are
 each_has q (s ∷ ss) (d ∷ ds) are = ((d, terms_are q.labels q.config s d are.0), each_has q ss ds are.1)
-
-count_most : (test : Doc → Bool) (docs : List Doc) → count_by test docs ≤ length docs
-count_most test [] = omega arith
-count_most test (d ∷ ds) = omega (arith, sum_by-cons (λ doc. cond (test doc) 1 0) d ds, count_most test ds, one (test d))
-  where
-    one : (b : Bool) → cond b 1 0 ≤ 1
-    one true = omega arith
-    one false = omega arith
 
 module _ (q : Question) (test : Doc → Bool) where
   left_most : (segments : List Records) (parts : List PartLeft) (pieces : List (List Doc)) → ArePartsOf test segments parts → AllZip (IsSegmentOf q.labels q.config) segments pieces → sum_by left_in parts ≤ sum_by alive_in parts
@@ -150,23 +144,11 @@ each_listed q list [] (d ∷ ds) are = absurd are
 each_listed q list (s ∷ ss) [] are = absurd are
 each_listed q list (s ∷ ss) (d ∷ ds) are = (subst (λ l. IsListOf q.config q.labels l d) are.0.counted (list_is q.labels q.config s d are.0), each_listed q list ss ds are.1)
 
-join_all : (P : Doc → Type 0) (xs ys : List Doc) → AllByRecursion P xs → AllByRecursion P ys → AllByRecursion P (xs ++ ys)
-join_all P [] ys xall yall = yall
-join_all P (x ∷ xs) ys xall yall = (xall.0, join_all P xs ys xall.1 yall)
-
-all_alive : (P : Doc → Type 0) (dead : List ℕ) (k : ℕ) (xs : List Doc) → AllByRecursion P xs → AllByRecursion P (alive_from dead k xs)
-all_alive P dead k [] all = tt
-all_alive P dead k (x ∷ xs) all = by (is_dead dead k) (all_alive P dead (k + 1) xs all.1)
-  where
-    by : (b : Bool) → AllByRecursion P (alive_from dead (k + 1) xs) → AllByRecursion P (cond b (alive_from dead (k + 1) xs) (x ∷ alive_from dead (k + 1) xs))
-    by true rest = rest
-    by false rest = (all.0, rest)
-
 all_listed : (q : Question) → IsLabelList q.labels → (segments : List Records) (pieces : List (List Doc)) → AllZip (IsSegmentOf q.labels q.config) segments pieces → AllByRecursion (λ doc. IsListOf q.config q.labels (counted_ordinals q.labels q.config doc.labels) doc) (live_docs segments pieces)
 all_listed q list [] [] are = tt
 all_listed q list [] (d ∷ ds) are = absurd are
 all_listed q list (s ∷ ss) [] are = absurd are
-all_listed q list (s ∷ ss) (d ∷ ds) are = join_all (λ doc. IsListOf q.config q.labels (counted_ordinals q.labels q.config doc.labels) doc) (alive s.dead d) (live_docs ss ds) (all_alive (λ doc. IsListOf q.config q.labels (counted_ordinals q.labels q.config doc.labels) doc) s.dead 0 d (each_listed q list s.records d are.0.records)) (all_listed q list ss ds are.1)
+all_listed q list (s ∷ ss) (d ∷ ds) are = each_append (λ doc. IsListOf q.config q.labels (counted_ordinals q.labels q.config doc.labels) doc) (alive s.dead d) (live_docs ss ds) (each_from (λ doc. IsListOf q.config q.labels (counted_ordinals q.labels q.config doc.labels) doc) s.dead 0 d (each_listed q list s.records d are.0.records)) (all_listed q list ss ds are.1)
 
 some_listed : (q : Question) (test : Doc → Bool) (docs : List Doc) → AllByRecursion (λ doc. IsListOf q.config q.labels (counted_ordinals q.labels q.config doc.labels) doc) docs → AllZip (IsListOf q.config q.labels) (counted_of q (filter test docs)) (filter test docs)
 some_listed q test [] all = tt

@@ -17,11 +17,11 @@ use Rattle.place_bits.specs.Words.{Marked}
 use Rattle.plan_places.specs.Planned.{Planned}
 use Rattle.query_eval.proofs.Living.{are_live}
 use Rattle.query_eval.proofs.Marks.{at, is_in_places, same_places}
-use Rattle.query_eval.specs.Segments.{HasTermsOf}
+use Rattle.query_eval.specs.Segments.{HasTermsOf, passes_tests}
 use Rattle.seg_postings.specs.Rising.{IsRising, is_in}
 use Rattle.seg_postings.specs.Sets.{without}
 use Rattle.seg_postings.proofs.Members.{is_in-without}
-use Rattle.sideways.specs.Counted.{AreNodesFor, IsMarkedBy, IsSetWithin, fails_alone, is_drilled, is_near, passes_tests}
+use Rattle.sideways.specs.Counted.{AreNodesFor, IsMarkedBy, IsSetWithin, fails_alone, is_drilled, is_near}
 use Rattle.sideways.specs.Kept.{AreDistinct, HasNear, IsGivenSet, IsGivenSets, dim_in}
 use Rattle.sideways.specs.declared.pass.LiftedPass.{LiftedPass}
 use Rattle.sideways.proofs.Misses.{near_test, test_of}

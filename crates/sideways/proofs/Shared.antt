@@ -1,7 +1,6 @@
 -- What nodes have in common, one node after the other.
 use Rattle.std.proofs.Common.{◌≡◌, ℕ, zero, suc, ◌+◌, ◌/◌, ◌<◌, Bool, true, false, ◌&&◌, ◌||◌, List, [], ◌∷◌, ◌++◌, length, get_or, Option, Some, None, refl, sym, ap, subst, ◌∙◌, arith}
-use Rattle.std.specs.Prelude.{◌==◌, not, slice_get}
-use Rattle.std.proofs.lemmas.Bool.{eqb-true}
+use Rattle.std.specs.Prelude.{not, slice_get}
 use Rattle.std.specs.List.{range_with_len, AllByRecursion}
 use Rattle.std.specs.Option.{option_map_or}
 use Rattle.std.proofs.lemmas.Option.{slice_get_within}
@@ -19,6 +18,9 @@ use Rattle.seg_postings.proofs.Sets.{rising_without}
 use Rattle.sideways.specs.Counted.{AreAllOf, AreNodesFor, IsAmong, IsMarkedBy}
 use Rattle.sideways.proofs.Gathered.{all_front, all_last}
 use Rattle.sideways.proofs.Narrowed.{all_have_more}
+use Rattle.std.proofs.Math.Bool.{and-true}
+use Rattle.live_records.proofs.Added.{below_in}
+use Rattle.std.proofs.lemmas.List.{nil_from_length}
 
 at_within : (test : Doc → Bool) (docs : List Doc) (n : ℕ) → at test docs n ≡ true → n < length docs
 at_within test docs n among = by (slice_get docs n) refl among
@@ -44,8 +46,8 @@ all_places among docs same = ap (range_with_len 0) same ∙ all_from_place 0 amo
 
 pub none_common : (docs : ℕ) (all : List Planned) (among : List Doc) (test : Doc → Bool) (empty common : Marked) → AreAllOf among test all → docs ≡ length among → empty ≡ empty_set ((docs + 63) / 64) → common ≡ with_places (range_with_len 0 docs) empty
     → AreCommonSoFar docs all all common
-none_common docs all among test empty common are same none filled = record {
-  words = ap (λ (m : Marked). m.words) filled ∙ ap (λ (m : Marked). m.words) none;
+none_common docs all among test empty common are same nil_from_length filled = record {
+  words = ap (λ (m : Marked). m.words) filled ∙ ap (λ (m : Marked). m.words) nil_from_length;
   rising = subst IsRising (sym (ap (λ (m : Marked). m.places) filled ∙ all_places among docs same)) (rising_places (λ (doc : Doc). true) among);
   each = nodes_among among docs all same are.each;
   same = λ n. ap (λ (m : Marked). is_in n m.places && all_have n all) filled;
@@ -56,16 +58,16 @@ module _ (docs : ℕ) (all left rest : List Planned) (node : Planned) (common : 
   each_left = subst (AllByRecursion (IsAmong docs)) is so_far.each
 
   pub node_room : (empty : Marked) → empty ≡ empty_set ((docs + 63) / 64) → IsMarkable empty node.left
-  node_room empty none n there = omega (arith, ap (λ (m : Marked). m.words) none, all_last (IsAmong docs) rest node each_left n there)
+  node_room empty nil_from_length n there = omega (arith, ap (λ (m : Marked). m.words) nil_from_length, all_last (IsAmong docs) rest node each_left n there)
 
   pub one_common : (empty marked new : Marked) → empty ≡ empty_set ((docs + 63) / 64) → AreMarkedToo node.left marked empty → new.words ≡ common.words → IsRising new.places
       → ((n : ℕ) → is_in n new.places ≡ (is_in n common.places && is_in n marked.places)) → AreCommonSoFar docs all rest new
-  one_common empty marked new none too words rising kept = record {
+  one_common empty marked new nil_from_length too words rising kept = record {
     words = words ∙ so_far.words;
     rising = rising;
     each = all_front (IsAmong docs) rest node each_left;
     same = λ n.
-        let has : is_in n marked.places ≡ is_in n node.left = too.members n ∙ ap (λ (m : Marked). is_in n m.places || is_in n node.left) none in
+        let has : is_in n marked.places ≡ is_in n node.left = too.members n ∙ ap (λ (m : Marked). is_in n m.places || is_in n node.left) nil_from_length in
         ap (λ b. b && all_have n rest) (kept n ∙ ap (λ b. is_in n common.places && b) has) ∙ turned (is_in n common.places) (is_in n node.left) (all_have n rest)
         ∙ ap (λ b. is_in n common.places && b) (sym (ap (all_have n) is ∙ all_have_more n rest node)) ∙ so_far.same n;
   }
@@ -77,19 +79,11 @@ module _ (docs : ℕ) (all left rest : List Planned) (node : Planned) (common : 
       turned true false false = refl
       turned false b c = refl
 
-none : (ps : List Planned) → length ps ≡ 0 → ps ≡ []
-none [] e = refl
-none (p ∷ ps) e = absurd (omega (arith, e))
-
 pub all_common : (docs : ℕ) (all left : List Planned) (common : Marked) → AreCommonSoFar docs all left common → length left ≡ 0
     → (among : List Doc) (test : Doc → Bool) → docs ≡ length among → AreAllOf among test all → common.places ≡ places test among
 all_common docs all left common so_far end among test same are =
-    are_places test among common.places so_far.rising (λ n. sym (and_true (is_in n common.places)) ∙ ap (λ ps. is_in n common.places && all_have n ps) (sym (none left end)) ∙ so_far.same n ∙ by n (slice_get among n) refl)
+    are_places test among common.places so_far.rising (λ n. sym (and-true (is_in n common.places)) ∙ ap (λ ps. is_in n common.places && all_have n ps) (sym (nil_from_length left end)) ∙ so_far.same n ∙ by n (slice_get among n) refl)
   where
-    and_true : (b : Bool) → (b && true) ≡ b
-    and_true true = refl
-    and_true false = refl
-
     among_at : (n : ℕ) → is_in n (range_with_len 0 docs) ≡ at (λ (d : Doc). true) among n
     among_at n = ap (is_in n) (all_places among docs same) ∙ is_in_places n (λ (d : Doc). true) among
 
@@ -100,24 +94,15 @@ all_common docs all left common so_far end among test same are =
 
 -- ---- without the dead
 
-below_in : (docs : ℕ) (dead : List ℕ) → AllByRecursion (IsBelow docs) dead → (n : ℕ) → is_in n dead ≡ true → n < docs
-below_in docs [] below n there = absurd cc
-below_in docs (d ∷ ds) below n there = by (below_in docs ds below.1 n) (n == d) refl (is_in n ds) refl there
-  where
-    by : (is_in n ds ≡ true → n < docs) → (a : Bool) → (n == d) ≡ a → (b : Bool) → is_in n ds ≡ b → (a || b) ≡ true → n < docs
-    by rest true e b f h = omega (arith, eqb-true n d e, below.0)
-    by rest false e true f h = rest f
-    by rest false e false f h = absurd cc
-
 -- there is room for all of them
 pub dead_room : (docs : ℕ) (dead : List ℕ) (empty : Marked) → AllByRecursion (IsBelow docs) dead → empty ≡ empty_set ((docs + 63) / 64) → IsMarkable empty dead
-dead_room docs dead empty below none n there = omega (arith, ap (λ (m : Marked). m.words) none, below_in docs dead below n there)
+dead_room docs dead empty below nil_from_length n there = omega (arith, ap (λ (m : Marked). m.words) nil_from_length, below_in docs dead below n there)
 
 pub dead_left : (dead : List ℕ) (empty marked old new : Marked) (words : ℕ) → empty ≡ empty_set words → AreMarkedToo dead marked empty → IsRising old.places → IsRising new.places → ((n : ℕ) → is_in n new.places ≡ (is_in n old.places && not (is_in n marked.places)))
     → new.places ≡ without old.places dead
-dead_left dead empty marked old new words none too rising after left =
+dead_left dead empty marked old new words nil_from_length too rising after left =
     one_rising new.places (without old.places dead) after (rising_without old.places dead rising)
-    (λ n. left n ∙ ap (λ b. is_in n old.places && not b) (too.members n ∙ ap (λ (m : Marked). is_in n m.places || is_in n dead) none) ∙ sym (is_in-without n old.places dead))
+    (λ n. left n ∙ ap (λ b. is_in n old.places && not b) (too.members n ∙ ap (λ (m : Marked). is_in n m.places || is_in n dead) nil_from_length) ∙ sym (is_in-without n old.places dead))
 
 -- ---- each node for itself
 
@@ -134,11 +119,11 @@ among_at_index docs (p ∷ ps) zero d all lt = all.0
 among_at_index docs (p ∷ ps) (suc i) d all lt = among_at_index docs ps i d all.1 (omega arith)
 
 pub markable_here : (docs : ℕ) (ps : List Planned) (i : ℕ) (p : Planned) (empty : Marked) → AllByRecursion (IsAmong docs) ps → i < length ps → p ≡ get_or ps i p → empty ≡ empty_set ((docs + 63) / 64) → IsMarkable empty p.left
-markable_here docs ps i p empty all lt is none n there =
-    omega (arith, ap (λ (m : Marked). m.words) none, among_at_index docs ps i p all lt n (ap (λ (q : Planned). is_in n q.left) (sym is) ∙ there))
+markable_here docs ps i p empty all lt is nil_from_length n there =
+    omega (arith, ap (λ (m : Marked). m.words) nil_from_length, among_at_index docs ps i p all lt n (ap (λ (q : Planned). is_in n q.left) (sym is) ∙ there))
 
 pub marked_by : (docs : ℕ) (p : Planned) (empty marked : Marked) → empty ≡ empty_set ((docs + 63) / 64) → AreMarkedToo p.left marked empty → IsMarkedBy docs p marked
-marked_by docs p empty marked none too = record {
-  words = too.words ∙ ap (λ (m : Marked). m.words) none;
-  members = λ n. too.members n ∙ ap (λ (m : Marked). is_in n m.places || is_in n p.left) none;
+marked_by docs p empty marked nil_from_length too = record {
+  words = too.words ∙ ap (λ (m : Marked). m.words) nil_from_length;
+  members = λ n. too.members n ∙ ap (λ (m : Marked). is_in n m.places || is_in n p.left) nil_from_length;
 }

@@ -1,28 +1,22 @@
 -- Counting records one after the other.
-use Rattle.std.proofs.Common.{◌≡◌, ℕ, zero, suc, ◌+◌, ◌<◌, true, List, [], ◌∷◌, ◌++◌, get_or, length, map, Option, Some, None, refl, sym, ap, subst, ◌∙◌, arith, append_assoc}
-use Rattle.std.specs.Prelude.{◌||◌, ◌==◌, IfSome}
-use Rattle.std.proofs.Math.Bool.{or-true}
+use Rattle.std.proofs.Common.{◌≡◌, ℕ, zero, suc, ◌+◌, ◌<◌, List, [], ◌∷◌, ◌++◌, get_or, length, map, Option, Some, None, refl, sym, ap, subst, ◌∙◌, arith, append_assoc}
+use Rattle.std.specs.Prelude.{IfSome}
 use Rattle.std.proofs.lemmas.List.{length-append, length-map, map_push}
 use Rattle.facet_model.specs.Stored.{Records, Stored}
 use Rattle.facet_counts.specs.Lists.{IsCounted}
 use Rattle.facet_counts.specs.Tallies.{Tally, HasAdded}
 use Rattle.seg_grammar.specs.Lookups.{record_of}
 use Rattle.place_bits.specs.Words.{Marked}
-use Rattle.seg_postings.specs.Rising.{IsNext, is_in}
+use Rattle.seg_postings.specs.Rising.{IsNext}
 use Rattle.sideways.specs.Counted.{AreCountable, AreWithin, IsGrown, IsSetWithin, lists_at}
-
-here_is_in : (x : ℕ) (xs : List ℕ) → is_in x (x ∷ xs) ≡ true
-here_is_in x xs = grind arith
-
-there_is_in : (n x : ℕ) (xs : List ℕ) → is_in n xs ≡ true → is_in n (x ∷ xs) ≡ true
-there_is_in n x xs among = ap (λ b. (n == x) || b) among ∙ or-true (n == x)
+use Rattle.seg_postings.proofs.Members.{here_in, later_in}
 
 -- the first place has a record, and the others are still within
 pub within_first : (segment : Records) (x : ℕ) (xs : List ℕ) → AreWithin segment (x ∷ xs) → x < length segment.records
-within_first segment x xs within = within.within x (here_is_in x xs)
+within_first segment x xs within = within.within x (here_in x xs)
 
 pub within_rest : (segment : Records) (x : ℕ) (xs : List ℕ) → AreWithin segment (x ∷ xs) → AreWithin segment xs
-within_rest segment x xs within = record { rising = within.rising.1; within = λ n among. within.within n (there_is_in n x xs among) }
+within_rest segment x xs within = record { rising = within.rising.1; within = λ n among. within.within n (later_in n x xs among) }
 
 pub grown_more : (a b c : Tally) (xs ys : List (List ℕ)) → IsGrown a b xs → IsGrown b c ys → IsGrown a c (xs ++ ys)
 grown_more a b c xs ys first second = record {

@@ -71,10 +71,6 @@ pub record IsMarkedBy (docs : ℕ) (p : Planned) (set : Marked) : Type 0 where
   pub words : set.words ≡ (docs + 63) / 64
   pub members : (n : ℕ) → is_in n set.places ≡ is_in n p.left
 
--- it passes all tests
-abbrev pub passes_tests : List (Doc → Bool) → Doc → Bool
-passes_tests tests doc = list_all (λ test. test doc) tests
-
 -- of the tests it fails this one, and no other
 abbrev pub fails_alone : List (Doc → Bool) → (Doc → Bool) → Doc → Bool
 fails_alone tests test doc = not (test doc) && nat_le (length (filter (λ t. not (t doc)) tests)) 1

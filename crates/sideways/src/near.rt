@@ -7,11 +7,11 @@ ghost use Rattle.facet_model.specs.Documents.{Doc};
 ghost use Rattle.facet_model.specs.Hits.{passes};
 ghost use Rattle.facet_model.specs.QueryViews.{query_view};
 ghost use Rattle.place_bits.specs.Misses.{HaveWords};
-ghost use Rattle.query_eval.specs.Segments.{HasTermsOf};
+ghost use Rattle.query_eval.specs.Segments.{HasTermsOf, passes_tests};
 ghost use Rattle.facet_codec.specs.Laws.{IsBelow};
 ghost use Rattle.seg_postings.specs.Rising.{IsRising};
 ghost use Rattle.seg_postings.specs.Sets.{without};
-ghost use Rattle.sideways.specs.Counted.{AreAllOf, AreNodesFor, IsSetWithin, fails_alone, is_drilled, passes_all, passes_tests};
+ghost use Rattle.sideways.specs.Counted.{AreAllOf, AreNodesFor, IsSetWithin, fails_alone, is_drilled, passes_all};
 ghost use Rattle.sideways.specs.Kept.{AreDistinct, HasNear, HasPart, IsGivenSet, IsGivenSets, dim_in};
 
 use crate::common::{are_near_many, in_common, marked_each};

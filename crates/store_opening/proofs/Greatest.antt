@@ -2,7 +2,7 @@
 use Rattle.std.proofs.Common.{◌≡◌, ◌≢◌, ◌⊎◌, ◌≤◌, ◌<◌, ◌^◌, inl, inr, refl, sym, ap, ◌∙◌, subst, ⊎_elim, arith, ℕ, List, [], ◌∷◌, ◌++◌, Option, Some, None, Bool, true, false, ◌&&◌, ◌||◌, is_some, max, if◌then◌else◌, Contains, Result, Ok, Err, nat_lt, length, get_or, ◌-◌, length-append}
 use Rattle.std.specs.Option.{option_map_or}
 use Rattle.std.specs.Prelude.{IfSome}
-use Rattle.std.proofs.lemmas.Bool.{cases_lt}
+use Rattle.std.proofs.lemmas.Bool.{cases_lt, and_parts, true≢false}
 use Rattle.std.proofs.lemmas.Bool.Decides.{nat_tests}
 use Rattle.std.proofs.Math.Nat.{le-max_left, le-max_right, max-eq_left, max-eq_right}
 use Rattle.std.proofs.lemmas.List.{get_or_append_left, get_or-append_right}
@@ -87,11 +87,6 @@ false_from : (b : Bool) → (b ≡ true → ⊥) → b ≡ false
 false_from true not = absurd (not refl)
 false_from false failing = refl
 
-both_from : (a b : Bool) → (a && b) ≡ true → (a ≡ true) × (b ≡ true)
-both_from true true is = (refl, refl)
-both_from true false is = absurd (cc is)
-both_from false b is = absurd (cc is)
-
 -- the greatest number that passes a test, where each name that counts passes it and each number that passes is of a name that counts
 module _ (c : Image) (names : List FileName) (test : ℕ → Bool) (counts : FileName → Bool)
     (there : (n : FileName) → Contains names n → counts n ≡ true → test n.number ≡ true)
@@ -147,7 +142,7 @@ module _ (c : Image) (names : List FileName) (listed : AreListed c names) where
     where
       there : (n : FileName) → Contains names n → is_commit dir n ≡ true → is_some (c (file dir Commit n.number)) ≡ true
       there n has is =
-          let two = both_from (same_dir n.dir dir) (same_kind n.kind Commit) is in
+          let two = and_parts (same_dir n.dir dir) (same_kind n.kind Commit) is in
           let same : n ≡ file dir Commit n.number = λ i. record { dir = dir_from n.dir dir two.0 i; kind = kind_from n.kind Commit two.1 i; number = n.number } in
           some_present (c (file dir Commit n.number)) (subst (λ (m : FileName). c m ≢ None) same (listed.each n has))
 
@@ -224,7 +219,4 @@ none_from names (Some k) is none n has = absurd (cc none)
 
 -- the newest commit file is there
 pub newest_number_there : (dir : Dir) (c : Image) (n : ℕ) → newest dir c ≡ Some n → c (file dir Commit n) ≢ None
-newest_number_there dir c n is none = clash (sym (subst (IsGreatest (λ k. is_some (c (file dir Commit k))) (2 ^ 64)) is (greatest_is (λ k. is_some (c (file dir Commit k))) (2 ^ 64))).1 ∙ ap is_some none)
-  where
-    clash : true ≡ false → ⊥
-    clash e = cc e
+newest_number_there dir c n is none = true≢false (sym (subst (IsGreatest (λ k. is_some (c (file dir Commit k))) (2 ^ 64)) is (greatest_is (λ k. is_some (c (file dir Commit k))) (2 ^ 64))).1 ∙ ap is_some none)

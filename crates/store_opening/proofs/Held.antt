@@ -24,7 +24,6 @@ use Rattle.commit_file.specs.declared.index.DocumentPart.{DocumentPart}
 use Rattle.commit_file.specs.Commits.{TaxonomyListing, IndexListing}
 use Rattle.commit_file.specs.Reading.{taxonomy_commit, index_commit}
 use Rattle.label_file.specs.LabelReading.{stored_labels}
-use Rattle.seg_decoding.proofs.Stored.{all_each, each_at}
 use Rattle.seg_decoding.specs.Opening.{stored_segment}
 use Rattle.store_opening.specs.declared.fault.OpenFault.{OpenFault}
 use Rattle.store_opening.specs.declared.fault.OpenFault.TheVariants.{Malformed}
@@ -33,6 +32,7 @@ use Rattle.store_opening.specs.Quiet.{IsQuiet}
 use Rattle.store_opening.specs.Settled.{label_numbers, document_numbers, named, before, there, held_in, IsSettled}
 use Rattle.store_opening.proofs.Greatest.{small_unspent, unspent_small}
 use Rattle.store_opening.proofs.Whole.{files_read}
+use Rattle.std.proofs.lemmas.List.Elements.{All-from_recursion, recursion_from_All}
 
 -- ---- bytes that are the same under each number that a commit names
 
@@ -205,10 +205,10 @@ module _ (config : Config) (next : ℕ) (t i : Held) (c : Image) (f : Found) (st
       let a = bind_ok (taxonomy_in t.commit (held_segments t)) (λ labels. index_in config labels i.commit (held_segments i) >>= λ segments. Ok (record { labels = labels; segments = segments })) f e in
       let b = bind_ok (index_in config a.0 i.commit (held_segments i)) (λ segments. Ok (record { labels = a.0; segments = segments })) f a.2 in
       let taxonomy : AreSame (segments_in Taxonomy c) (held_segments t) (named Taxonomy t.commit) =
-      same_from (segments_in Taxonomy c) (held_segments t) (found_there (segments_in Taxonomy c) t.segments (all_each (λ s. segments_in Taxonomy c s.0 ≡ Some s.1) t.segments stands.taxonomy_held.segments))
+      same_from (segments_in Taxonomy c) (held_segments t) (found_there (segments_in Taxonomy c) t.segments (recursion_from_All (λ s. segments_in Taxonomy c s.0 ≡ Some s.1) t.segments stands.taxonomy_held.segments))
       (named Taxonomy t.commit) (taxonomy_there (held_segments t) t.commit a.0 a.1) in
       let index : AreSame (segments_in Index c) (held_segments i) (named Index i.commit) =
-      same_from (segments_in Index c) (held_segments i) (found_there (segments_in Index c) i.segments (all_each (λ s. segments_in Index c s.0 ≡ Some s.1) i.segments stands.index_held.segments))
+      same_from (segments_in Index c) (held_segments i) (found_there (segments_in Index c) i.segments (recursion_from_All (λ s. segments_in Index c s.0 ≡ Some s.1) i.segments stands.index_held.segments))
       (named Index i.commit) (index_there (held_segments i) config a.0 i.commit b.0 b.1) in
       files_read config c (small_unspent c stands.small) a.0
       (ap (λ (o : Option (ℕ × List ℕ)). taxonomy_in o (segments_in Taxonomy c)) stands.taxonomy_held.commit ∙ taxonomy_same (segments_in Taxonomy c) (held_segments t) t.commit taxonomy ∙ a.1)
@@ -283,7 +283,7 @@ module _ (next : ℕ) (d : Image) (below : Below next d) where
   named_below : (dir : Dir) → NamedBelow next (held_in dir d)
   named_below dir = record {
     commit = newest_low dir (newest_file dir d) (newest_there dir d);
-    segments = each_at (λ s. s.0 < next) (held_in dir d).segments
+    segments = All-from_recursion (λ s. s.0 < next) (held_in dir d).segments
         (there_low (segments_in dir d) next (λ n b is. below (file dir Segment n) (some_is (d (file dir Segment n)) b is)) (named dir (newest_file dir d)));
   }
 
@@ -292,8 +292,8 @@ module _ {D : Type 0} (disk : Ghosts D) (now : D) (wide : (c : Image) → disk.m
   holds : (dir : Dir) (c : Image) → disk.may_leave now c → Holds dir (held_in dir s.files) c
   holds dir c left = record {
     commit = settled.commits dir c left;
-    segments = each_at (λ x. segments_in dir c x.0 ≡ Some x.1) (held_in dir s.files).segments
-        (there_held (segments_in dir c) (segments_in dir s.files) (named dir (newest_file dir s.files)) (all_each (λ n. segments_in dir c n ≡ segments_in dir s.files n) (named dir (newest_file dir s.files)) (settled.segments dir c left)));
+    segments = All-from_recursion (λ x. segments_in dir c x.0 ≡ Some x.1) (held_in dir s.files).segments
+        (there_held (segments_in dir c) (segments_in dir s.files) (named dir (newest_file dir s.files)) (recursion_from_All (λ n. segments_in dir c n ≡ segments_in dir s.files n) (named dir (newest_file dir s.files)) (settled.segments dir c left)));
   }
 
   pub settled_stands : (c : Image) → disk.may_leave now c → Stands next (held_in Taxonomy s.files) (held_in Index s.files) c
@@ -336,7 +336,7 @@ module _ (config : Config) (next : ℕ) (t i : Held) (f : Found) (e : files_of c
 
   named_same : (dir : Dir) (c : Image) → Stands next t i c → AreSame (segments_in dir c) (held_segments (held dir)) (named dir (held dir).commit)
   named_same dir c stands = same_from (segments_in dir c) (held_segments (held dir))
-      (found_there (segments_in dir c) (held dir).segments (all_each (λ s. segments_in dir c s.0 ≡ Some s.1) (held dir).segments (held_by dir c stands).segments)) (named dir (held dir).commit) (named_there dir)
+      (found_there (segments_in dir c) (held dir).segments (recursion_from_All (λ s. segments_in dir c s.0 ≡ Some s.1) (held dir).segments (held_by dir c stands).segments)) (named dir (held dir).commit) (named_there dir)
 
   pub stands_settled : {D : Type 0} (disk : Ghosts D) (now : D) (s : Told) → disk.may_leave now s.files → ((c : Image) → disk.may_leave now c → Stands next t i c) → IsSettled disk config s now
   stands_settled disk now s own stands =
@@ -344,7 +344,7 @@ module _ (config : Config) (next : ℕ) (t i : Held) (f : Found) (e : files_of c
       record {
         same = λ c left. files_stand config next t i c f (stands c left) e ∙ sym (files_stand config next t i s.files f reads e);
         commits = λ dir c left. (held_by dir c (stands c left)).commit ∙ sym (held_by dir s.files reads).commit;
-        segments = λ dir c left. each_at (λ n. segments_in dir c n ≡ segments_in dir s.files n) (named dir (newest_file dir s.files))
+        segments = λ dir c left. All-from_recursion (λ n. segments_in dir c n ≡ segments_in dir s.files n) (named dir (newest_file dir s.files))
             (subst (λ (o : Option (ℕ × List ℕ)). AreSame (segments_in dir c) (segments_in dir s.files) (named dir o)) (sym (held_by dir s.files reads).commit)
             (same_both (segments_in dir c) (segments_in dir s.files) (held_segments (held dir)) (named dir (held dir).commit) (named_same dir c (stands c left)) (named_same dir s.files reads)));
       }

@@ -1,6 +1,5 @@
 -- Loops that read one segment after the other.
 use Rattle.std.proofs.Common.{◌≡◌, ℕ, zero, suc, ◌+◌, ◌≤◌, ◌<◌, List, [], ◌∷◌, ◌++◌, length, drop, get_or, Result, Ok, Err, refl, sym, ap, subst, ◌∙◌, arith, append_assoc}
-use Rattle.std.specs.List.{AllZip}
 use Rattle.std.proofs.lemmas.List.{drop_all, append-nil}
 use Rattle.facet_codec.specs.Reading.{◌>>=◌}
 use Rattle.facet_model.specs.Flags.{Config}
@@ -67,10 +66,3 @@ module _ (config : Config) (labels : List (List (List ℕ))) (needs : ℕ) (segm
   pub segments_end : (whole : Result (List Records) OpenFault) → length parts ≤ i → behind front (segments_of config labels needs segments (drop i parts)) ≡ whole → whole ≡ Ok front
   unfolding segments_of
   segments_end whole le read = sym read ∙ ap (λ (xs : List DocumentPart). behind front (segments_of config labels needs segments xs)) (drop_all i parts le) ∙ ap (λ (xs : List Records). Ok xs) (append-nil front)
-
--- one more pair
-pub zip_push : {A B : Type 0} (R : A → B → Type 0) (xs : List A) (ys : List B) (x : A) (y : B) → AllZip R xs ys → R x y → AllZip R (xs ++ x ∷ []) (ys ++ y ∷ [])
-zip_push R [] [] x y all here = (here, tt)
-zip_push R [] (b ∷ bs) x y all here = absurd all
-zip_push R (a ∷ as') [] x y all here = absurd all
-zip_push R (a ∷ as') (b ∷ bs) x y all here = (all.0, zip_push R as' bs x y all.1 here)

@@ -128,7 +128,7 @@ unfolding greatest
 greatest_alike p q zero alike = refl
 greatest_alike p q (suc n) alike = λ j. cond (alike n (omega arith) j) (Some n) (greatest_alike p q n (λ i lt. alike i (omega arith)) j)
 
-ordinal_or_none : (o : Option ℕ) → ordinal (or_none o) ≡ o
+pub ordinal_or_none : (o : Option ℕ) → ordinal (or_none o) ≡ o
 ordinal_or_none None = refl
 ordinal_or_none (Some n) = refl
 

@@ -18,16 +18,18 @@ use Rattle.chronicle.specs.Shown.{Shown, SeesOn, mine}
 use Rattle.chronicle.proofs.Entries.{entries-prefix}
 use Rattle.chronicle.proofs.Prefixes.{prefix_append, prefix_get}
 use Rattle.facet_names.specs.Paths.{path_eq, path_eq_equiv}
-use Rattle.facet_names.specs.Labels.{place, prefixes, stands}
-use Rattle.facet_names.proofs.LabelLists.{label_at}
+use Rattle.facet_names.specs.Labels.{place, prefixes, stands, skips_none}
+use Rattle.facet_names.proofs.LabelLists.{label_at, still_stands}
 use Rattle.facet_model.specs.CountedPaths.{AreResolved}
 use Rattle.taxo_cache.specs.Seen.{labels_of}
 use Rattle.taxo_list.specs.declared.fault.TaxoFault.{TaxoFault}
 use Rattle.taxo_list.specs.declared.fault.TaxoFault.TheVariants.{NoMemory as Memory}
 use Rattle.taxo_writer.specs.Adding.{lacking, HaveOrdinals, Adds}
-use Rattle.taxo_writer.specs.Several.{skips_none, EachNew, IsInTurn, EachHaveOrdinals, EachHaveFirst, IsFullForOne}
-use Rattle.taxo_writer.proofs.Ordinals.{ordinals_seen, none_missing, labels_entered, as_many_prefixes}
+use Rattle.taxo_writer.specs.Several.{EachNew, IsInTurn, EachHaveOrdinals, EachHaveFirst, IsFullForOne}
+use Rattle.taxo_writer.proofs.Ordinals.{ordinals_seen, none_missing, labels_entered}
 use Rattle.taxo_writer.proofs.Entering.{adds_none}
+use Rattle.std.proofs.lemmas.Slice.Zip.{all_zipped_more}
+use Rattle.facet_names.proofs.Fronts.{as_many_prefixes}
 
 -- ---- entries of a number
 
@@ -134,9 +136,6 @@ module _ (known : List (List (List ℕ))) (p : List (List ℕ)) where
           first_skipped S p q qs (λ other. some q first)
           (later k (λ x there. some x (ap (λ b. path_eq x q || b) there ∙ or-true (path_eq x q))) at)
 
-stands_first : (xs ys : List (List (List ℕ))) (x : List (List ℕ)) → stands xs x ≡ true → stands (xs ++ ys) x ≡ true
-stands_first xs ys x there = list_any-append (path_eq x) xs ys ∙ ap (λ b. b || stands ys x) there
-
 stands_last : (xs ys : List (List (List ℕ))) (x : List (List ℕ)) → stands ys x ≡ true → stands (xs ++ ys) x ≡ true
 stands_last xs ys x there = list_any-append (path_eq x) xs ys ∙ ap (λ b. stands xs x || b) there ∙ or-true (stands xs x)
 
@@ -151,7 +150,7 @@ one_in_turn limit known added paths i k p first few at here =
       missing_among known p paths k there,
       (let size = length-append known added in omega arith),
       missing_skips known p (stands (take (i + 1) (known ++ added)))
-          (λ x is. subst (λ (l : List (List (List ℕ))). stands l x ≡ true) cut (stands_first known (take k added) x is)) paths k
+          (λ x is. subst (λ (l : List (List (List ℕ))). stands l x ≡ true) cut (still_stands known (take k added) x is)) paths k
           (λ x is. subst (λ (l : List (List (List ℕ))). stands l x ≡ true) cut (stands_last known (take k added) x (subst (λ (l : List (List (List ℕ))). stands l x ≡ true) begun is))) there,
     )
 
@@ -239,12 +238,6 @@ module _ {A B : Type 0} where
   zip_kept R S keeps [] (y ∷ ys) all = absurd all
   zip_kept R S keeps (x ∷ xs) [] all = absurd all
   zip_kept R S keeps (x ∷ xs) (y ∷ ys) all = (keeps x y all.0, zip_kept R S keeps xs ys all.1)
-
-  zip_push : (R : A → B → Type 0) (xs : List A) (ys : List B) (a : A) (b : B) → AllZip R xs ys → R a b → AllZip R (xs ++ a ∷ []) (ys ++ b ∷ [])
-  zip_push R [] [] a b all here = (here, tt)
-  zip_push R [] (y ∷ ys) a b all here = absurd all
-  zip_push R (x ∷ xs) [] a b all here = absurd all
-  zip_push R (x ∷ xs) (y ∷ ys) a b all here = (all.0, zip_push R xs ys a b all.1 here)
 
   zip_many : (R : A → B → Type 0) (xs : List A) (ys : List B) → AllZip R xs ys → length xs ≡ length ys
   zip_many R [] [] all = refl
@@ -339,12 +332,12 @@ module _ (paths : List (List (List ℕ))) (i : ℕ) (p : List (List ℕ)) (lt : 
   pub each_next : (seen later : List (ℕ × List (List ℕ))) → IsPrefix seen later → (resolved now : List (List ℕ)) (r : List ℕ) → EachHaveOrdinals (labels_of seen) (take i paths) resolved → HaveOrdinals (labels_of later) (prefixes p) r → now ≡ resolved ++ r ∷ [] → EachHaveOrdinals (labels_of later) (take (i + 1) paths) now
   each_next seen later more resolved now r before here pushed =
       subst (λ (rs : List (List ℕ)). EachHaveOrdinals (labels_of later) (take (i + 1) paths) rs) (sym pushed)
-      (subst (λ (ps : List (List (List ℕ))). EachHaveOrdinals (labels_of later) ps (resolved ++ r ∷ [])) (sym next_path) (zip_push (IsWhole (labels_of later)) (take i paths) resolved p r (each_seen seen later more (take i paths) resolved before) here))
+      (subst (λ (ps : List (List (List ℕ))). EachHaveOrdinals (labels_of later) ps (resolved ++ r ∷ [])) (sym next_path) (all_zipped_more (IsWhole (labels_of later)) (take i paths) resolved p r (each_seen seen later more (take i paths) resolved before) here))
 
   pub first_next : (seen later : List (ℕ × List (List ℕ))) → IsPrefix seen later → (found now : List (List ℕ)) (r : List ℕ) → EachHaveFirst (labels_of seen) (take i paths) found → HaveOrdinals (labels_of later) (take (length r) (prefixes p)) r → now ≡ found ++ r ∷ [] → EachHaveFirst (labels_of later) (take (i + 1) paths) now
   first_next seen later more found now r before here pushed =
       subst (λ (rs : List (List ℕ)). EachHaveFirst (labels_of later) (take (i + 1) paths) rs) (sym pushed)
-      (subst (λ (ps : List (List (List ℕ))). EachHaveFirst (labels_of later) ps (found ++ r ∷ [])) (sym next_path) (zip_push (IsFirst (labels_of later)) (take i paths) found p r (first_seen seen later more (take i paths) found before) here))
+      (subst (λ (ps : List (List (List ℕ))). EachHaveFirst (labels_of later) ps (found ++ r ∷ [])) (sym next_path) (all_zipped_more (IsFirst (labels_of later)) (take i paths) found p r (first_seen seen later more (take i paths) found before) here))
 
   -- what was found for this one
   pub first_at : (labels : List (List (List ℕ))) (found : List (List ℕ)) (r : List ℕ) → get_or found i r ≡ r → EachHaveFirst labels paths found → HaveOrdinals labels (take (length r) (prefixes p)) r

@@ -1,16 +1,11 @@
 -- What resolving several paths adds to the labels.
-use Rattle.std.specs.Prelude.{◌≡◌, ◌≤◌, ◌<◌, ◌+◌, ℕ, Bool, List, length, take, slice_get, Some, Contains, IsTrue}
-use Rattle.std.specs.List.{AllZip, list_all, position_or_len}
+use Rattle.std.specs.Prelude.{◌≡◌, ◌≤◌, ◌<◌, ◌+◌, ℕ, List, length, take, slice_get, Some, Contains, IsTrue}
+use Rattle.std.specs.List.{AllZip}
 use Rattle.chronicle.specs.Shown.{Shown}
-use Rattle.facet_names.specs.Paths.{path_eq}
-use Rattle.facet_names.specs.Labels.{prefixes, stands}
+use Rattle.facet_names.specs.Labels.{prefixes, stands, skips_none}
 use Rattle.taxo_list.specs.declared.fault.TaxoFault.{TaxoFault}
 use Rattle.taxo_cache.specs.Seen.{labels_of}
 use Rattle.taxo_writer.specs.Adding.{HaveOrdinals, IsFull}
-
--- of these paths, those before the first such one are among the labels
-abbrev pub skips_none : List (List (List ℕ)) → List (List (List ℕ)) → List (List ℕ) → Bool
-skips_none labels paths path = list_all (stands labels) (take (position_or_len (path_eq path) paths) paths)
 
 -- each entry under this number behind the old ones is as it has to be, given its place
 abbrev pub EachNew : {A : Type 0} → ℕ → (ℕ → A → Type 0) → List (ℕ × A) → List (ℕ × A) → Type 0

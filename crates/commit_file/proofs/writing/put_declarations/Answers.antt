@@ -5,8 +5,9 @@ use Rattle.commit_file.specs.declared.kept.Declaration.{Declaration}
 use Rattle.commit_file.specs.Commits.{declaration}
 use Rattle.commit_file.specs.Limits.{IsDeclaration}
 use Rattle.commit_file.specs.Spelling.{declaration_bytes}
-use Rattle.commit_file.proofs.Puts.{bytes_push, fit_push, mapped_at}
+use Rattle.commit_file.proofs.Puts.{mapped_at}
 use Rattle.commit_file.proofs.writing.put_declarations.Goals as goal
+use Rattle.facet_codec.proofs.Lists.{each_push, bytes_push}
 
 pub loop-one-preserved : goal.loop-one-preserved
 loop-one-preserved c =
@@ -18,7 +19,7 @@ loop-one-preserved c =
     let longer : map declaration (take (i + 1) kept) ≡ map declaration (take i kept) ++ declaration one ∷ [] = ap (map declaration) (take_more kept i blank within) ∙ map-append declaration (take i kept) (one ∷ []) in
     rw longer (record {
       bytes = bytes_push declaration_bytes c.args.out.now.items c.loop-one.out.items c.put_declaration.new.out.items (map declaration (take i kept)) (declaration one) c.loop-one.invariant.bytes c.in_ok-put_declaration.ensures.bytes;
-      fit = fit_push IsDeclaration (map declaration (take i kept)) (declaration one) c.loop-one.invariant.fit c.in_ok-put_declaration.ensures.fits;
+      fit = each_push IsDeclaration (map declaration (take i kept)) (declaration one) c.loop-one.invariant.fit c.in_ok-put_declaration.ensures.fits;
     })
 
 pub put_declaration-requires : goal.put_declaration-requires

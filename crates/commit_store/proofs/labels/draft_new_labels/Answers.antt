@@ -1,9 +1,10 @@
 use Rattle.commit_file.specs.Commits.{AreInOrder}
-use Rattle.commit_store.proofs.Ordering.{order_end, order_with}
+use Rattle.commit_store.proofs.Ordering.{order_with}
 use Rattle.commit_store.proofs.labels.draft_new_labels.Goals as goal
+use Rattle.store_opening.proofs.Loops.{order_low}
 
 pub write_labels-requires-clause-some : goal.write_labels-requires-clause-some
-write_labels-requires-clause-some c = order_end c.state.inside.labels 1 c.state.inside.label_parts.items c.state.invariant.order
+write_labels-requires-clause-some c = order_low c.state.inside.labels 1 c.state.inside.label_parts.items c.state.invariant.order
 
 pub write_taxonomy_commit-requires-clause-order : goal.write_taxonomy_commit-requires-clause-order
 write_taxonomy_commit-requires-clause-order c =

@@ -9,8 +9,9 @@ use Rattle.commit_turns.specs.Seen.{docs_of}
 use Rattle.pair_manager.specs.declared.point.CommitPoint.{CommitPoint}
 use Rattle.commit_turns.proofs.Carried.{stands_more}
 use Rattle.commit_turns.proofs.Ended.{count_is, counts, rose, fails_with, lasts}
-use Rattle.commit_turns.proofs.Prefixed.{labels_on, docs_on}
+use Rattle.commit_turns.proofs.Prefixed.{docs_on}
 use Rattle.commit_turns.proofs.ending.end_commits.Goals as goal
+use Rattle.taxo_writer.proofs.Growing.{seen_goes_on}
 
 pub returns-clause-counts : goal.returns-clause-counts
 returns-clause-counts g c =
@@ -81,7 +82,7 @@ returns-clause-lasts g c config first moment faults failures is texts numbers =
     let labels = labels_of c.meet.new.into.seen in
     let docs = docs_of c.meet-2.new.into.seen in
     let points = entries c.end-committer.new.token.seen in
-    let st = stands_more d n.told n.settled v.start.value v.begun.value.state v.committer v.last (labels_of v.labels.seen) labels (docs_of v.operations.seen) docs points (labels_on _ _ c.meet.ensures.told) (docs_on _ _ c.meet-2.ensures.told) c.end-committer.ensures.value.0 in
+    let st = stands_more d n.told n.settled v.start.value v.begun.value.state v.committer v.last (labels_of v.labels.seen) labels (docs_of v.operations.seen) docs points (seen_goes_on _ _ c.meet.ensures.told) (docs_on _ _ c.meet-2.ensures.told) c.end-committer.ensures.value.0 in
     let frame = c.end-committer.ensures.value.1 ∙ ap (λ t. t.frame) c.end-committer.ensures.ended in
     let config_is : v.committer.config ≡ config = config_told v.committer.config config (ap (λ f. f.texts) frame ∙ sym texts) in
     let are : v.begun.value.state.next ∷ d.moment v.start.value ∷ d.faults v.start.value ∷ d.failures v.start.value ∷ [] ≡ first ∷ moment ∷ faults ∷ failures ∷ [] = ap (λ f. f.numbers) frame ∙ numbers in

@@ -1,7 +1,7 @@
 use Rattle.std.proofs.Common.{◌+◌, ◌<◌, ℕ, arith, drop, get_or, length}
-use Rattle.counted_column.proofs.Members.{is_there}
 use Rattle.counted_column.proofs.Raising.{one_in, each_more, raised_here}
 use Rattle.counted_column.proofs.counting.count_each.Goals as goal
+use Rattle.seg_postings.proofs.Members.{is_there}
 
 pub bounds-counts-ords : goal.bounds-counts-ords
 bounds-counts-ords c = omega (arith, c.loop-k.invariant.len, c.requires.within (get_or c.args.ords.now c.loop-k.k 0) (is_there c.args.ords.now c.loop-k.k (omega arith)))

@@ -1,14 +1,15 @@
 use Rattle.std.proofs.Common.{◌≡◌, ◌∙◌, ◌+◌, ◌<◌, ℕ, List, true, refl, arith, ap, sym, subst, get_or, length, cond}
 use Rattle.seg_postings.specs.Rising.{is_in, from_place}
 use Rattle.counted_column.specs.Columns.{sparse_at}
-use Rattle.counted_column.proofs.Raising.{AreRaised, one_in, sparse_in, place_more, raised_by, raised_same, walk_start, walk_out, walk_end}
+use Rattle.counted_column.proofs.Raising.{AreRaised, one_in, sparse_in, place_more, raised_by, raised_same, walk_out, walk_end}
 use Rattle.counted_column.proofs.counting.count_sparse.Goals.{then-has, else-has}
 use Rattle.counted_column.proofs.counting.count_sparse.Goals as goal
+use Rattle.seg_postings.proofs.Order.{from_start}
 
 pub loop-place-init : goal.loop-place-init
 loop-place-init c = record {
   len = refl;
-  left = λ ord l. ap (λ (xs : List ℕ). get_or c.args.counts.now ord 0 + sparse_in c.args.starts.now c.args.ords.now xs ord) (walk_start c.args.places.now.places);
+  left = λ ord l. ap (λ (xs : List ℕ). get_or c.args.counts.now ord 0 + sparse_in c.args.starts.now c.args.ords.now xs ord) (from_start c.args.places.now.places);
 }
 
 pub count_each-requires-clause-rising : goal.count_each-requires-clause-rising

@@ -4,10 +4,11 @@ use Rattle.facet_engine.specs.declared.session.Session.{Session}
 use Rattle.facet_replies.specs.ReplyViews.{reply_view}
 use Rattle.facet_engine.specs.Systems.{Engine}
 use Rattle.facet_words.specs.declared.sessions.command.Order.{Order}
-use Rattle.facet_phases.proofs.Belonging.{same_pass, session_then, still_belongs}
+use Rattle.facet_phases.proofs.Belonging.{session_then}
 use Rattle.facet_phases.proofs.Going.{IsGoing, going_none, going_more, answers_all, answers_some}
 use Rattle.facet_phases.proofs.Taken.{one_of_all, taken_one, taken_first, none_left, turned_round}
 use Rattle.facet_phases.proofs.answering.answer_all.Goals as goal
+use Rattle.facet_engine.proofs.SeenPairs.{same_pass, still_belongs}
 
 pub loop-order-init : goal.loop-order-init
 loop-order-init g c = record {

@@ -2,10 +2,10 @@ use Rattle.std.proofs.Common.{rules}
 use Rattle.std.specs.Prelude.{All, IsOk}
 use Rattle.facet_engine.specs.Steps.{seen_of}
 use Rattle.facet_phases.specs.declared.lane.Lane.{Lane}
-use Rattle.facet_phases.proofs.Belonging.{same_pass}
 use Rattle.facet_phases.proofs.Carrying.{still_ready, still_idle, carries_out, dealt_ready, may_run, all_ran, none_ran}
 use Rattle.facet_phases.proofs.Did.{all_did}
 use Rattle.facet_phases.proofs.phase.carry_out_phase.Goals as goal
+use Rattle.facet_engine.proofs.SeenPairs.{same_pass}
 
 pub returns-in_err-deal-clause-ran : goal.returns-in_err-deal-clause-ran
 returns-in_err-deal-clause-ran g c = none_ran g.C.Collector.holds c.args.system.now _ c.args.first.now c.args.lanes.now c.deal.new.lanes c.from_residual.result (search rules)

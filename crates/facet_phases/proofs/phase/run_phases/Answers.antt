@@ -9,9 +9,10 @@ use Rattle.facet_words.specs.Sessions.Laws.{lines_rise}
 use Rattle.facet_words.specs.declared.sessions.command.Order.{Order}
 use Rattle.facet_phases.specs.Ending.{EndsPhases}
 use Rattle.facet_words.specs.Sessions.CommandViews.{order_view}
-use Rattle.facet_phases.proofs.Belonging.{pass_then, same_pass}
+use Rattle.facet_phases.proofs.Belonging.{pass_then}
 use Rattle.facet_phases.proofs.Closing.{phases_none, phases_more, phases_stop, taken_all, taken_next}
 use Rattle.facet_phases.proofs.phase.run_phases.Goals as goal
+use Rattle.facet_engine.proofs.SeenPairs.{same_pass}
 
 pub loop-orders-init : goal.loop-orders-init
 loop-orders-init g c =

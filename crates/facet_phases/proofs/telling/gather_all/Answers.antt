@@ -6,9 +6,10 @@ use Rattle.facet_output.specs.Seen.{Seen, Sees}
 use Rattle.facet_output.proofs.Chain.{sees_trans}
 use Rattle.facet_engine.specs.Steps.{seen_of}
 use Rattle.facet_phases.specs.declared.lane.Lane.{Lane}
-use Rattle.facet_phases.proofs.Belonging.{still_belongs, still_numbered}
+use Rattle.facet_phases.proofs.Belonging.{still_numbered}
 use Rattle.facet_phases.proofs.Told.{gathers_then}
 use Rattle.facet_phases.proofs.telling.gather_all.Goals as goal
+use Rattle.facet_engine.proofs.SeenPairs.{still_belongs}
 
 pub loop-lane-preserved : goal.loop-lane-preserved
 loop-lane-preserved g c =

@@ -5,8 +5,8 @@ use Rattle.chronicle.specs.Shown.{Shown}
 use Rattle.chronicle.proofs.Prefixes.{prefix_self, prefix_trans}
 use Rattle.taxo_cache.specs.Seen.{labels_of, SeesLabels}
 use Rattle.pair_manager.proofs.Publishing.{still_right}
-use Rattle.label_bench.proofs.Bare.{bare_entry}
 use Rattle.label_bench.proofs.pairs.append.Goals as goal
+use Rattle.seg_decoding.proofs.Bare.{bare_entry}
 
 pub append-requires-clause-entry : goal.append-requires-clause-entry
 append-requires-clause-entry g c = bare_entry c.take-index.result.config (labels_of c.args.pass.now.labels.seen) c.args.entry c.requires.bare

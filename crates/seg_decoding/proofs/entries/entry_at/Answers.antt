@@ -7,9 +7,9 @@ use Rattle.seg_grammar.specs.Lookups.{record_of}
 use Rattle.seg_decoding.specs.Answers.{IsLeaf}
 use Rattle.seg_decoding.specs.Opening.{leaves_fit, leaves_place, document_fits}
 use Rattle.seg_decoding.proofs.Fitting.{leaves_are, leaves_refused, document_refused, document_accepted}
-use Rattle.seg_decoding.proofs.Stored.{each_at}
 use Rattle.seg_decoding.proofs.Telling.{fails_on}
 use Rattle.seg_decoding.proofs.entries.entry_at.Goals as goal
+use Rattle.std.proofs.lemmas.List.Elements.{All-from_recursion}
 
 pub returns-in_err-check_leaves-clause-fits : goal.returns-in_err-check_leaves-clause-fits
 returns-in_err-check_leaves-clause-fits c =
@@ -23,7 +23,7 @@ returns-in_err-check_leaves-clause-fits c =
 pub document_of-requires-clause-within : goal.document_of-requires-clause-within
 document_of-requires-clause-within c =
     let all : AllByRecursion (IsLeaf c.args.needs) c.deref-2.result.now = subst (AllByRecursion (IsLeaf c.args.needs)) (c.deref.ensures.value ∙ sym c.deref-2.ensures.value) (leaves_are c.args.needs c.leaves_place.result c.deref.result.now c.in_ok-check_leaves.ensures) in
-    λ k d lt. let leaf = each_at (IsLeaf c.args.needs) c.deref-2.result.now all k d lt in (leaf.0, omega (arith, leaf.1, c.requires.needs))
+    λ k d lt. let leaf = All-from_recursion (IsLeaf c.args.needs) c.deref-2.result.now all k d lt in (leaf.0, omega (arith, leaf.1, c.requires.needs))
 
 pub returns-in-Err-clause-fits : goal.returns-in-Err-clause-fits
 returns-in-Err-clause-fits c =

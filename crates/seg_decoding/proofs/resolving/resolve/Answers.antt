@@ -3,8 +3,9 @@ use Rattle.std.proofs.lemmas.List.{take_all}
 use Rattle.facet_names.specs.Labels.{place, prefixes, stands}
 use Rattle.facet_names.proofs.LabelLists.{label_at}
 use Rattle.seg_decoding.proofs.Ordinals.{one_ordinal_more}
-use Rattle.seg_decoding.proofs.Prefixes.{as_many_prefixes, prefix_at, prefix_stands}
+use Rattle.seg_decoding.proofs.Prefixes.{prefix_stands}
 use Rattle.seg_decoding.proofs.resolving.resolve.Goals as goal
+use Rattle.facet_names.proofs.Fronts.{as_many_prefixes, prefix_at}
 
 pub unwrap-ord-requires : goal.unwrap-ord-requires
 unwrap-ord-requires c =

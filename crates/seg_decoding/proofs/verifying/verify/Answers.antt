@@ -1,25 +1,24 @@
-use Rattle.std.proofs.Common.{◌≡◌, ◌<◌, ℕ, List, [], length, map, slice_get, Some, option_map, sym, ap, subst, ◌∙◌, arith, inl, inr}
+use Rattle.std.proofs.Common.{◌≡◌, ◌<◌, ℕ, List, length, map, slice_get, Some, option_map, sym, ap, subst, ◌∙◌, arith, inl, inr}
 use Rattle.std.specs.Prelude.{All, slice_index_or}
 use Rattle.std.proofs.lemmas.Bool.{cases_lt}
 use Rattle.std.proofs.lemmas.List.{length-map}
-use Rattle.std.proofs.lemmas.Option.{get_or_from_slice_get, slice_get-get_or, slice_get_within}
+use Rattle.std.proofs.lemmas.Option.{get_or_from_slice_get, slice_get-get_or, slice_get_within, same_Some}
 use Rattle.std.proofs.lemmas.Result.{on_ok_weaker}
 use Rattle.facet_model.specs.Documents.{Doc}
-use Rattle.facet_model.specs.Stored.{Stored, Records}
+use Rattle.facet_model.specs.Stored.{Records}
 use Rattle.facet_model.specs.Terms.{doc_terms}
 use Rattle.seg_grammar.specs.Lookups.{record_of}
 use Rattle.seg_file.specs.Search.{term_of}
 use Rattle.seg_decoding.specs.Decoding.{doc_in}
 use Rattle.seg_decoding.specs.Pairs.{IsPassed, IsRight}
-use Rattle.seg_decoding.proofs.Stored.{all_each, map_get}
+use Rattle.seg_decoding.proofs.Stored.{map_get}
 use Rattle.seg_decoding.proofs.Walked.{passed_stays, own_has, theirs_at_end}
 use Rattle.seg_decoding.proofs.verifying.verify.Goals as goal
-
-abbrev none : Stored
-none = record { id = []; text = []; leaves = []; counted = [] }
+use Rattle.std.proofs.lemmas.List.Elements.{recursion_from_All}
+use Rattle.seg_grammar.proofs.Marks.{no_record}
 
 there : (known : List (List (List ℕ))) (s : Records) (p : ℕ) → p < length s.records → slice_get (map (doc_in known) s.records) p ≡ Some (doc_in known (record_of s p))
-there known s p lt = map_get (doc_in known) s.records p ∙ ap (option_map (doc_in known)) (slice_get-get_or s.records p none lt)
+there known s p lt = map_get (doc_in known) s.records p ∙ ap (option_map (doc_in known)) (slice_get-get_or s.records p no_record lt)
 
 pub loop-doc-preserved : goal.loop-doc-preserved
 loop-doc-preserved c =
@@ -47,12 +46,9 @@ pub returns-clause-right : goal.returns-clause-right
 returns-clause-right c =
     let s : Records = c.args.segment.now in
     let right : All (IsRight c.args.config.now c.args.labels.now c.args.needs) s.records = λ k d lt.
-    let same : slice_index_or s.records k d ≡ record_of s k = get_or_from_slice_get s.records k (record_of s k) d (slice_get-get_or s.records k none lt) in
+    let same : slice_index_or s.records k d ≡ record_of s k = get_or_from_slice_get s.records k (record_of s k) d (slice_get-get_or s.records k no_record lt) in
     subst (IsRight c.args.config.now c.args.labels.now c.args.needs) (sym same) (c.loop-doc.invariant.right k (omega (arith, lt, c.loop-doc-test.false, c.docs-doc-end.ensures.number))) in
-    on_ok_weaker c.check_end.result (λ ends. all_each (IsRight c.args.config.now c.args.labels.now c.args.needs) s.records right) c.check_end.ensures
-
-same_some : {X : Type 0} {x y : X} → Some x ≡ Some y → x ≡ y
-same_some h = cc
+    on_ok_weaker c.check_end.result (λ ends. recursion_from_All (IsRight c.args.config.now c.args.labels.now c.args.needs) s.records right) c.check_end.ensures
 
 pub returns-clause-theirs : goal.returns-clause-theirs
 returns-clause-theirs c =
@@ -62,6 +58,6 @@ returns-clause-theirs c =
     let next : List ℕ = c.loop-doc.verifier.walk.next.items in
     let each : (p : ℕ) (doc : Doc) → slice_get docs p ≡ Some doc → All (λ t. IsPassed s.terms next t p) (doc_terms doc) = λ p doc e.
     let lt : p < length c.args.segment.now.records = omega (arith, slice_get_within docs p doc e, length-map s.records (doc_in known)) in
-    let same : doc_in known (record_of s p) ≡ doc = same_some (sym (there known s p lt) ∙ e) in
+    let same : doc_in known (record_of s p) ≡ doc = same_Some _ _ (sym (there known s p lt) ∙ e) in
     subst (λ (d : Doc). All (λ t. IsPassed s.terms next t p) (doc_terms d)) same (c.loop-doc.invariant.each p (omega (arith, lt, c.loop-doc-test.false, c.docs-doc-end.ensures.number))) in
     on_ok_weaker c.check_end.result (λ (ends : (at : ℕ) → at < length s.terms → slice_index_or next at 0 ≡ length (term_of s.terms at).1). theirs_at_end s.terms docs next c.terms.ensures.rise ends c.loop-doc.invariant.only each) c.check_end.ensures

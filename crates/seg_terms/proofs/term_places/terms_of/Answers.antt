@@ -8,9 +8,10 @@ use Rattle.seg_terms.specs.Noting.{Table, AreNoted, found}
 use Rattle.seg_terms.specs.Laws.{term_places}
 use Rattle.seg_terms.specs.Places.{IsShortTerm, term_view}
 use Rattle.seg_terms.proofs.DocPlaces.{one_document_more}
-use Rattle.seg_terms.proofs.Shorts.{IsShortDoc, all_append, terms_short}
+use Rattle.seg_terms.proofs.Shorts.{IsShortDoc, terms_short}
 use Rattle.seg_terms.proofs.TermLists.{both_clauses, table_is}
 use Rattle.seg_terms.proofs.term_places.terms_of.Goals as goal
+use Rattle.facet_model.proofs.Each.{each_append}
 
 pub loop-place-preserved : goal.loop-place-preserved
 loop-place-preserved c =
@@ -27,7 +28,7 @@ loop-place-preserved c =
     let noted : AreNoted (length docs) (doc_terms entry.doc) before after = subst (λ n. AreNoted n (doc_terms entry.doc) before after) size c.in_ok-note_document.ensures.noted in
     record {
       terms = subst (λ ds. (t : List ℕ) → found after t ≡ term_places ds t) (sym longer) (one_document_more docs entry.doc before after c.loop-place.invariant.terms noted);
-      short = subst (AllByRecursion IsShortDoc) (sym longer) (all_append IsShortDoc docs (entry.doc ∷ []) c.loop-place.invariant.short (c.in_ok-note_document.ensures.short, tt));
+      short = subst (AllByRecursion IsShortDoc) (sym longer) (each_append IsShortDoc docs (entry.doc ∷ []) c.loop-place.invariant.short (c.in_ok-note_document.ensures.short, tt));
     }
 
 pub returns-clause-terms : goal.returns-clause-terms

@@ -1,11 +1,12 @@
 use Rattle.std.proofs.Common.{rules, ◌≡◌, ℕ, ◌<◌, ◌+◌, ◌++◌, List, [], ◌∷◌, length, map, take, subst, sym, ap, ◌∙◌}
 use Rattle.std.proofs.lemmas.List.{take_more, map-append}
-use Rattle.facet_model.proofs.Cut.{unmapped, fits_at}
+use Rattle.facet_model.proofs.Cut.{unmapped}
 use Rattle.seg_terms.specs.Places.{IsShortTerm, term_view}
 use Rattle.seg_terms.specs.declared.term_places.TermPlaces.{TermPlaces}
 use Rattle.seg_writing.specs.Written.{HasFewPlaces}
 use Rattle.seg_writing.proofs.Puts.{terms_more}
 use Rattle.seg_writing.proofs.terms.put_terms.Goals as goal
+use Rattle.std.proofs.lemmas.List.Elements.{All-from_recursion}
 
 pub put_term-requires-clause-short : goal.put_term-requires-clause-short
 put_term-requires-clause-short c =
@@ -14,7 +15,7 @@ put_term-requires-clause-short c =
     let term = c.term-item.result in
     let within : i < length terms = search rules in
     let all = unmapped (λ (t : List ℕ × List ℕ). IsShortTerm t.0) term_view terms c.requires.short in
-    subst (λ (t : TermPlaces). IsShortTerm (term_view t).0) (sym c.term-item.is) (fits_at (λ (t : TermPlaces). IsShortTerm (term_view t).0) terms i term all within)
+    subst (λ (t : TermPlaces). IsShortTerm (term_view t).0) (sym c.term-item.is) (All-from_recursion (λ (t : TermPlaces). IsShortTerm (term_view t).0) terms all i term within)
 
 pub put_term-requires-clause-few : goal.put_term-requires-clause-few
 put_term-requires-clause-few c =
@@ -22,7 +23,7 @@ put_term-requires-clause-few c =
     let i = c.loop-term.term-index in
     let term = c.term-item.result in
     let within : i < length terms = search rules in
-    subst (λ (t : TermPlaces). HasFewPlaces (term_view t)) (sym c.term-item.is) (fits_at (λ (t : TermPlaces). HasFewPlaces (term_view t)) terms i term (unmapped HasFewPlaces term_view terms c.requires.few) within)
+    subst (λ (t : TermPlaces). HasFewPlaces (term_view t)) (sym c.term-item.is) (All-from_recursion (λ (t : TermPlaces). HasFewPlaces (term_view t)) terms (unmapped HasFewPlaces term_view terms c.requires.few) i term within)
 
 pub loop-term-preserved : goal.loop-term-preserved
 loop-term-preserved c =

@@ -5,9 +5,9 @@ use Rattle.std.proofs.lemmas.Iterator.Adapters.{YieldsList-from_vec}
 use Rattle.std.proofs.lemmas.Iterator.Consumers.{YieldsList-turn, YieldsList-end}
 use Rattle.plan_places.specs.Planned.{Planned}
 use Rattle.sideways.specs.Counted.{IsMarkedBy}
-use Rattle.sideways.proofs.Gathered.{zip_push}
 use Rattle.sideways.proofs.Shared.{markable_here, marked_by}
 use Rattle.sideways.proofs.common.marked_each.Goals as goal
+use Rattle.std.proofs.lemmas.Slice.Zip.{all_zipped_more}
 
 pub mark-requires : goal.mark-requires
 mark-requires c =
@@ -17,7 +17,7 @@ mark-requires c =
 pub loop-node-preserved : goal.loop-node-preserved
 loop-node-preserved c =
     subst (AllZip (IsMarkedBy c.args.docs) _) (sym c.in_ok-push.ensures.items)
-    (zip_push (IsMarkedBy c.args.docs) c.loop-node.yielded c.loop-node.sets.items c.in-Some.node c.mark.new.bits c.loop-node.invariant (marked_by c.args.docs c.in-Some.node c.in_ok-marked.marked c.mark.new.bits c.in_ok-marked.ensures c.mark.ensures))
+    (all_zipped_more (IsMarkedBy c.args.docs) c.loop-node.yielded c.loop-node.sets.items c.in-Some.node c.mark.new.bits c.loop-node.invariant (marked_by c.args.docs c.in-Some.node c.in_ok-marked.marked c.mark.new.bits c.in_ok-marked.ensures c.mark.ensures))
 
 pub returns : goal.returns
 returns c =

@@ -5,10 +5,11 @@ use Rattle.facet_model.specs.Documents.{dim_of}
 use Rattle.sideways.specs.Kept.{AreCountsOf}
 use Rattle.sideways.specs.Searches.{question_of}
 use Rattle.sideways.specs.declared.pass.LiftedCounts.{LiftedCounts}
-use Rattle.sideways.proofs.Gathered.{all_push, any_push, covers_more, covers_same}
+use Rattle.sideways.proofs.Gathered.{any_push, covers_more, covers_same}
 use Rattle.sideways.proofs.Narrowed.{dim_at}
 use Rattle.sideways.proofs.laws.each_count.Goals as goal
 use Rattle.sideways.proofs.laws.each_count.Goals.{then-is_first+in_ok-counts+in_ok-push, else-is_first}
+use Rattle.facet_codec.proofs.Lists.{each_push}
 
 pub loop-at-preserved : goal.loop-at-preserved
 loop-at-preserved c =
@@ -20,7 +21,7 @@ loop-at-preserved c =
           let dim : dim_of (get_or drill i []) ≡ w.dim-dim.result.now = dim_at drill i c.index-drill-at.result w.dim-dim.result.now (omega arith) c.index-drill-at.is w.dim-dim.ensures in
           let items = ap (λ v. v.items) w.counted-is ∙ w.in_ok-push.ensures.items in
           record {
-            each = subst (AllByRecursion (λ (k : LiftedCounts). AreCountsOf q (Some k.dim.now) k.counts)) (sym items) (all_push (λ (k : LiftedCounts). AreCountsOf q (Some k.dim.now) k.counts) c.loop-at.counted.items _ c.loop-at.invariant.each w.in_ok-counts.ensures);
+            each = subst (AllByRecursion (λ (k : LiftedCounts). AreCountsOf q (Some k.dim.now) k.counts)) (sym items) (each_push (λ (k : LiftedCounts). AreCountsOf q (Some k.dim.now) k.counts) c.loop-at.counted.items _ c.loop-at.invariant.each w.in_ok-counts.ensures);
             covers = λ d. ap (list_any (λ (k : LiftedCounts). bytes_eq k.dim.now d)) items ∙ any_push (λ (k : LiftedCounts). bytes_eq k.dim.now d) c.loop-at.counted.items _ ∙ ap (λ b. b || bytes_eq w.dim-dim.result.now d) (c.loop-at.invariant.covers d) ∙ covers_more drill i d w.dim-dim.result.now (omega arith) dim;
           }
       | else-is_first w ↦

@@ -15,12 +15,13 @@ use Rattle.query_eval.proofs.Words.{some_left}
 use Rattle.facet_codec.specs.Laws.{IsBelow}
 use Rattle.seg_postings.specs.Rising.{IsRising}
 use Rattle.seg_postings.specs.Sets.{without}
-use Rattle.sideways.specs.Counted.{AreAllOf, fails_alone, is_drilled, passes_all, passes_tests}
+use Rattle.sideways.specs.Counted.{AreAllOf, fails_alone, is_drilled, passes_all}
 use Rattle.sideways.specs.declared.pass.LiftedPass.{LiftedPass}
 use Rattle.sideways.proofs.Misses.{covers_all, hit_test, test_of}
 use Rattle.sideways.proofs.Narrowed.{append_all, same_all, within_docs}
 use Rattle.sideways.proofs.Sets.{each_in, each_within, given_all}
 use Rattle.sideways.proofs.near.add_segment.Goals as goal
+use Rattle.query_eval.specs.Segments.{passes_tests}
 
 pub near_sets-requires : goal.near_sets-requires
 near_sets-requires c =

@@ -8,9 +8,10 @@ use Rattle.query_eval.proofs.Marks.{at}
 use Rattle.query_eval.proofs.Words.{some_left}
 use Rattle.seg_postings.specs.Rising.{IsRising, is_in}
 use Rattle.sideways.specs.Counted.{AreAllOf}
-use Rattle.sideways.proofs.Narrowed.{every_at, have_at, left_without, no_nodes, nodes_rise, whole_rises}
+use Rattle.sideways.proofs.Narrowed.{every_at, have_at, left_without, nodes_rise, whole_rises}
 use Rattle.sideways.proofs.node.without_one.Goals as goal
 use Rattle.sideways.proofs.node.without_one.Goals.{then-is_empty+in_ok-push, else-is_empty}
+use Rattle.std.proofs.lemmas.List.{nil_from_length}
 
 pub returns : goal.returns
 returns c = ok_by_two c.all.result _ _ _ _ (λ r members rises. λ among test other long all own.
@@ -18,7 +19,7 @@ returns c = ok_by_two c.all.result _ _ _ _ (λ r members rises. λ among test ot
     let have : ((n : ℕ) → all_have n now ≡ at test among n) × All (λ p. IsRising p.left) now =
     elim c.if-is_empty.branch [
       | then-is_empty+in_ok-push w ↦
-          let none : c.args.nodes.items ≡ [] = no_nodes c.args.nodes.items (omega (arith, eqb-true c.args.nodes.len 0 (sym c.is_empty.ensures ∙ w.if-is_empty.true), c.args.nodes.ok.0)) in
+          let none : c.args.nodes.items ≡ [] = nil_from_length c.args.nodes.items (omega (arith, eqb-true c.args.nodes.len 0 (sym c.is_empty.ensures ∙ w.if-is_empty.true), c.args.nodes.ok.0)) in
           let items : now ≡ w.below.result ∷ [] = ap (λ v. v.items) w.nodes-is ∙ w.in_ok-push.ensures.items ∙ ap (λ (l : List Planned). l ++ w.below.result ∷ []) none in
           let whole : w.below.result.left ≡ range_with_len 0 (length among) = w.below.ensures ∙ ap (range_with_len 0) long in
           let every : AreAllOf among test [] = subst (AreAllOf among test) none all in

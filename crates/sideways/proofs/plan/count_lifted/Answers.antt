@@ -6,9 +6,10 @@ use Rattle.sideways.specs.Counted.{HasRoomFor, IsReady}
 use Rattle.sideways.specs.Kept.{AreCountsOf, IsLiftedOf}
 use Rattle.sideways.specs.declared.pass.LiftedPass.{LiftedPass}
 use Rattle.sideways.specs.declared.pass.LiftedCounts.{LiftedCounts}
-use Rattle.sideways.proofs.Gathered.{all_front, all_last, all_push, moved_over}
+use Rattle.sideways.proofs.Gathered.{all_front, all_last, moved_over}
 use Rattle.sideways.proofs.Ready.{near_counted}
 use Rattle.sideways.proofs.plan.count_lifted.Goals as goal
+use Rattle.facet_codec.proofs.Lists.{each_push}
 
 pub loop-one-preserved : goal.loop-one-preserved
 loop-one-preserved c =
@@ -21,7 +22,7 @@ loop-one-preserved c =
       left = λ q all. all_front (λ (p : LiftedPass). IsLiftedOf q q.segments p) c.pop.new.self.items c.in-Some.one (subst (AllByRecursion (λ (p : LiftedPass). IsLiftedOf q q.segments p)) split (c.loop-one.invariant.left q all));
       each = λ q hits all.
           subst (AllByRecursion (λ (x : LiftedCounts). AreCountsOf q (Some x.dim.now) x.counts)) (sym c.push_within.ensures.items)
-          (all_push (λ (x : LiftedCounts). AreCountsOf q (Some x.dim.now) x.counts) c.loop-one.counted.items _ (c.loop-one.invariant.each q hits all)
+          (each_push (λ (x : LiftedCounts). AreCountsOf q (Some x.dim.now) x.counts) c.loop-one.counted.items _ (c.loop-one.invariant.each q hits all)
           (near_counted q c.in-Some.one c.args.hits.now c.count-counts.result (all_last (λ (p : LiftedPass). IsLiftedOf q q.segments p) c.pop.new.self.items c.in-Some.one (subst (AllByRecursion (λ (p : LiftedPass). IsLiftedOf q q.segments p)) split (c.loop-one.invariant.left q all))) hits c.count-counts.ensures.counts c.count-counts.ensures.labels c.count-counts.ensures.config));
       covers = λ d.
           ap (λ xs. list_any (λ (p : LiftedPass). bytes_eq p.dim.now d) c.pop.new.self.items || list_any (λ (x : LiftedCounts). bytes_eq x.dim.now d) xs) c.push_within.ensures.items

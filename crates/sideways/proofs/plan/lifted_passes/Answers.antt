@@ -6,10 +6,11 @@ use Rattle.sideways.specs.Counted.{ArePartsOf, is_drilled, is_near}
 use Rattle.sideways.specs.Kept.{AreDistinct, IsLiftedOf, dim_in}
 use Rattle.sideways.specs.Searches.{question_of}
 use Rattle.sideways.specs.declared.pass.LiftedPass.{LiftedPass}
-use Rattle.sideways.proofs.Gathered.{all_push, any_push, covers_more, covers_same, distinct_push, drilled_at, not_again}
+use Rattle.sideways.proofs.Gathered.{any_push, covers_more, covers_same, distinct_push, drilled_at, not_again}
 use Rattle.sideways.proofs.Narrowed.{dim_at}
 use Rattle.sideways.proofs.plan.lifted_passes.Goals as goal
 use Rattle.sideways.proofs.plan.lifted_passes.Goals.{then-is_first+in_ok-pass+in_ok-push, else-is_first}
+use Rattle.facet_codec.proofs.Lists.{each_push}
 
 pub loop-at-preserved : goal.loop-at-preserved
 loop-at-preserved c =
@@ -22,7 +23,7 @@ loop-at-preserved c =
           let items = ap (λ v. v.items) w.lifted-is ∙ w.in_ok-push.ensures.items in
           let first : is_drilled q.drill w.dim-dim.result.now ≡ true = ap (λ (p : List (List (List ℕ))). is_drilled p w.dim-dim.result.now) (sym c.paths-drill.ensures.paths) ∙ drilled_at drill i w.dim-dim.result.now (omega arith) dim in
           record {
-            each = subst (AllByRecursion (λ (p : LiftedPass). IsLiftedOf q [] p)) (sym items) (all_push (λ (p : LiftedPass). IsLiftedOf q [] p) c.loop-at.lifted.items _ c.loop-at.invariant.each (record {
+            each = subst (AllByRecursion (λ (p : LiftedPass). IsLiftedOf q [] p)) (sym items) (each_push (λ (p : LiftedPass). IsLiftedOf q [] p) c.loop-at.lifted.items _ c.loop-at.invariant.each (record {
               drilled = first;
               pass = record {
                 parts = subst (ArePartsOf (is_near q.query q.drill w.dim-dim.result.now) []) (sym w.in_ok-pass.ensures.none) tt;

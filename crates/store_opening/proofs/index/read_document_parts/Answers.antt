@@ -7,9 +7,10 @@ use Rattle.facet_model.specs.Stored.{Records}
 use Rattle.commit_file.specs.declared.index.DocumentPart.{DocumentPart}
 use Rattle.store_opening.specs.Files.{segments_in, segments_of}
 use Rattle.store_opening.specs.Newest.{IsNamedAs}
-use Rattle.store_opening.proofs.Loops.{behind, segments_more, segments_fail, segments_end, zip_push}
+use Rattle.store_opening.proofs.Loops.{behind, segments_more, segments_fail, segments_end}
 use Rattle.store_opening.proofs.Quiet.{goes_on}
 use Rattle.store_opening.proofs.index.read_document_parts.Goals as goal
+use Rattle.std.proofs.lemmas.Slice.Zip.{all_zipped_more}
 
 abbrev blank : DocumentPart
 blank = record { number = 0; documents = 0; digest = [] }
@@ -37,7 +38,7 @@ loop-part-preserved g c =
       read = λ s told listed. ap (λ (front : List Records). behind front (segments_of config labels c.args.needs (segments_in Index s.files) (drop (i + 1) parts))) c.in_ok-keep.ensures
           ∙ segments_more config labels c.args.needs (segments_in Index s.files) parts i blank (map arc_value c.loop-part.segments.items) c.in_ok-segment.segment (segments_of config labels c.args.needs (segments_in Index s.files) parts) lt (c.in_ok-segment.ensures.ok s (kept.quiet.same ∙ told) listed) (kept.read s told listed);
       named = rw (take_more parts i blank lt, c.in_ok-keep.ensures)
-          (zip_push (IsNamedAs config labels) (take i parts) (map arc_value c.loop-part.segments.items) (get_or parts i blank) c.in_ok-segment.segment kept.named c.in_ok-segment.ensures.named);
+          (all_zipped_more (IsNamedAs config labels) (take i parts) (map arc_value c.loop-part.segments.items) (get_or parts i blank) c.in_ok-segment.segment kept.named c.in_ok-segment.ensures.named);
       still = c.in_ok-segment.ensures.read.still.ok ∙ kept.still;
       unfailed = c.in_ok-segment.ensures.read.unfailed.ok ∙ kept.unfailed;
       quiet = goes_on g.D.Disk _ _ _ kept.quiet c.in_ok-segment.ensures.read.quiet;

@@ -5,7 +5,7 @@ use Rattle.chronicle.specs.Shown.{Shown}
 use Rattle.chronicle.proofs.Prefixes.{prefix_self, prefix_trans}
 use Rattle.taxo_cache.specs.Seen.{labels_of, SeesLabels}
 use Rattle.pair_manager.proofs.Publishing.{still_right}
-use Rattle.thread_tests.proofs.Bare.{bare_entry}
+use Rattle.seg_decoding.proofs.Bare.{bare_entry}
 use Rattle.thread_tests.proofs.pairs.append.Goals as goal
 
 pub append-requires-clause-entry : goal.append-requires-clause-entry

@@ -7,12 +7,13 @@ use Rattle.facet_model.specs.Histories.{Operation}
 use Rattle.commit_turns.specs.Ending.{Lasts, FailsWith}
 use Rattle.commit_turns.specs.Points.{count_after, last_of}
 use Rattle.commit_turns.specs.Seen.{docs_of}
-use Rattle.commit_turns.proofs.Prefixed.{labels_on, docs_on}
+use Rattle.commit_turns.proofs.Prefixed.{docs_on}
 use Rattle.pair_manager.specs.declared.point.CommitPoint.{CommitPoint}
 use Rattle.pair_manager.proofs.Publishing.{still_right}
 use Rattle.taxo_cache.specs.Seen.{labels_of}
 use Rattle.facet_engine.proofs.Ended.{ends_later, ends_now, ends_still, ended_named, ended_told, ended_up_to, sessions_are, are_published, lasts_more}
 use Rattle.facet_engine.proofs.system.System.end.Goals as goal
+use Rattle.taxo_writer.proofs.Growing.{seen_goes_on}
 
 pub note_each-notes-requires-clause-right : goal.note_each-notes-requires-clause-right
 note_each-notes-requires-clause-right g c κs within =
@@ -87,7 +88,7 @@ returns-clause-lasts g c config next moment faults failures settled texts number
     let more_labels = subst (λ l. IsPrefix e.new.seen_labels.seen l) (sym n.ensures.labels.1.2) c.end-list.ensures.more.0 in
     let more_operations = subst (λ l. IsPrefix e.new.seen_operations.seen l) (sym n.ensures.operations.1.2) c.end-index.ensures.more.0 in
     subst (λ (l : List (ℕ × CommitPoint)). Lasts g.D.Disk config moment (labels_of labels) (docs_of operations) (entries l) e.result) (sym n.ensures.commits.1.2)
-    (lasts_more config (labels_of e.new.seen_labels.seen) (labels_of labels) (docs_of e.new.seen_operations.seen) (docs_of operations) (labels_on e.new.seen_labels.seen labels more_labels) (docs_on e.new.seen_operations.seen operations more_operations)
+    (lasts_more config (labels_of e.new.seen_labels.seen) (labels_of labels) (docs_of e.new.seen_operations.seen) (docs_of operations) (seen_goes_on e.new.seen_labels.seen labels more_labels) (docs_on e.new.seen_operations.seen operations more_operations)
     g.D.Disk moment points e.result (e.ensures.lasts config next moment faults failures settled texts numbers))
 
 pub returns-clause-exact : goal.returns-clause-exact

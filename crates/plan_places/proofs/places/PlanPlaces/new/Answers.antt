@@ -1,8 +1,7 @@
 use Rattle.std.proofs.Common.{◌≡◌, ap, ◌∙◌, sym, subst, arith}
 use Rattle.seg_postings.specs.Rising.{IsRising, from_place}
-use Rattle.seg_postings.proofs.Order.{rising_from}
+use Rattle.seg_postings.proofs.Order.{rising_from, from_start}
 use Rattle.plan_places.specs.Planned.{Planned}
-use Rattle.plan_places.proofs.Walks.{from_start}
 use Rattle.plan_places.proofs.places.PlanPlaces.new.Goals as goal
 
 pub invariant_of-result : goal.invariant_of-result

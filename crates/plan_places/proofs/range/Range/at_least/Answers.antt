@@ -1,5 +1,6 @@
-use Rattle.plan_places.proofs.Ranges.{rising_range, range_moved}
+use Rattle.plan_places.proofs.Ranges.{range_moved}
 use Rattle.plan_places.proofs.range.Range.at_least.Goals as goal
+use Rattle.place_bits.proofs.Lists.{rising_range}
 
 pub returns-then-self-clause-rising : goal.returns-then-self-clause-rising
 returns-then-self-clause-rising c = rising_range _ _

@@ -1,4 +1,4 @@
-use Rattle.std.proofs.Common.{rules, refl, Bool, true, ◌≡◌, ◌∷◌, [], ◌++◌, ℕ, List, false, subst, sym, ap, ◌∙◌}
+use Rattle.std.proofs.Common.{rules, true, ◌≡◌, ◌∷◌, [], ◌++◌, ℕ, List, false, subst, sym, ap, ◌∙◌}
 use Rattle.std.specs.Prelude.{not, ◌&&◌}
 use Rattle.std.specs.List.{list_any}
 use Rattle.std.specs.Str.{bytes_eq}
@@ -13,10 +13,7 @@ use Rattle.seg_decoding.specs.declared.facts.LabelFacts.{LabelFacts}
 use Rattle.seg_decoding.proofs.Rights.{at_place, dim_is, seen_more}
 use Rattle.seg_decoding.proofs.verifying.Verifier.check_label.Goals.{else-not-facts-via-then-not-facts+else-has_dimension, else-not-facts-via-else-not-facts}
 use Rattle.seg_decoding.proofs.verifying.Verifier.check_label.Goals as goal
-
-and_false : (b : Bool) → (b && false) ≡ false
-and_false true = refl
-and_false false = refl
+use Rattle.std.proofs.Math.Bool.{and-false}
 
 pub returns-clause-seen : goal.returns-clause-seen
 returns-clause-seen c =
@@ -37,7 +34,7 @@ returns-clause-seen c =
       | else-not-facts-via-then-not-facts+else-has_dimension w ↦
           let none : list_any (λ l. bytes_eq (dim_of l) (dim_of (label_of known f.ord))) (labels_of known leaves) ≡ false =
           (λ i. list_any (λ l. bytes_eq (dim_of l) (dim i)) (labels_of known (sym w.deref.ensures.value i))) ∙ sym w.has_dimension.ensures ∙ w.if-has_dimension.false in
-          ap (λ b. not (flags config (dim_of (label_of known f.ord))).multi_valued && b) none ∙ and_false (not (flags config (dim_of (label_of known f.ord))).multi_valued)
+          ap (λ b. not (flags config (dim_of (label_of known f.ord))).multi_valued && b) none ∙ and-false (not (flags config (dim_of (label_of known f.ord))).multi_valued)
       | else-not-facts-via-else-not-facts w ↦
           let many : f.multi_valued ≡ true = search rules in
           ap (λ b. not b && list_any (λ l. bytes_eq (dim_of l) (dim_of (label_of known f.ord))) (labels_of known leaves)) (are.repeats ∙ many)

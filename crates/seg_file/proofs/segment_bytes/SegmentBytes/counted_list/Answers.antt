@@ -3,8 +3,9 @@ use Rattle.facet_model.specs.Stored.{Records}
 use Rattle.seg_grammar.specs.Spelling.{list_bytes, IsRecord}
 use Rattle.seg_grammar.specs.Lookups.{record_of}
 use Rattle.seg_file.specs.Decoded.{IsIndexed}
-use Rattle.seg_file.proofs.Marks.{counted_count, counted_mark, fits_at}
+use Rattle.seg_file.proofs.Marks.{counted_count, counted_mark}
 use Rattle.seg_file.proofs.segment_bytes.SegmentBytes.counted_list.Goals as goal
+use Rattle.std.proofs.lemmas.List.Elements.{All-from_recursion}
 
 pub index-requires : goal.index-requires
 index-requires c =
@@ -23,5 +24,5 @@ returns c =
     let h = subst (λ (r : Records). IsIndexed r bytes c.self.inside.index) c.self.view_is c.self.invariant in
     let m = counted_mark c.args.self.now bytes c.self.inside.index c.args.doc c.index.result.now h c.requires in
     let is : c.cursor_at.result.rest ≡ list_bytes (record_of c.args.self.now c.args.doc).counted ++ m.rest = c.cursor_at.ensures ∙ ap (λ (bs : List ℕ). drop c.index.result.now bs) c.as_slice.ensures.value ∙ ap (λ (n : ℕ). drop n bytes) c.index.ensures ∙ m.is in
-    let fits : IsRecord (record_of c.args.self.now c.args.doc) = fits_at IsRecord c.args.self.now.records c.args.doc _ h.segment.records c.requires in
+    let fits : IsRecord (record_of c.args.self.now c.args.doc) = All-from_recursion IsRecord c.args.self.now.records h.segment.records c.args.doc _ c.requires in
     record { tail = m.rest; begins = record { is = is; few = omega (arith, fits.counted.few); fit = fits.counted.fit } }

@@ -3,8 +3,9 @@ use Rattle.facet_model.specs.Stored.{Records}
 use Rattle.seg_grammar.specs.Spelling.{term_bytes, IsTerm}
 use Rattle.seg_file.specs.Search.{term_of}
 use Rattle.seg_file.specs.Decoded.{IsIndexed}
-use Rattle.seg_file.proofs.Marks.{terms_count, term_mark, fits_at}
+use Rattle.seg_file.proofs.Marks.{terms_count, term_mark}
 use Rattle.seg_file.proofs.segment_bytes.SegmentBytes.term.Goals as goal
+use Rattle.std.proofs.lemmas.List.Elements.{All-from_recursion}
 
 pub index-requires : goal.index-requires
 index-requires c =
@@ -23,4 +24,4 @@ returns c =
     let h = subst (λ (r : Records). IsIndexed r bytes c.self.inside.index) c.self.view_is c.self.invariant in
     let m = term_mark c.args.self.now bytes c.self.inside.index c.args.at c.index.result.now h c.requires in
     let is : c.cursor_at.result.rest ≡ term_bytes (term_of c.args.self.now.terms c.args.at) ++ m.rest = c.cursor_at.ensures ∙ ap (λ (bs : List ℕ). drop c.index.result.now bs) c.as_slice.ensures.value ∙ ap (λ (n : ℕ). drop n bytes) c.index.ensures ∙ m.is in
-    record { tail = m.rest; is = is; fits = fits_at (IsTerm (length c.args.self.now.records)) c.args.self.now.terms c.args.at _ h.segment.terms c.requires; few = omega (arith, h.segment.few) }
+    record { tail = m.rest; is = is; fits = All-from_recursion (IsTerm (length c.args.self.now.records)) c.args.self.now.terms h.segment.terms c.args.at _ c.requires; few = omega (arith, h.segment.few) }

@@ -1,9 +1,10 @@
 use Rattle.std.proofs.Common.{arith, ◌≡◌, ◌<◌, ◌+◌, Some, take, length}
 use Rattle.facet_names.specs.Labels.{prefixes, place}
 use Rattle.taxo_cache.specs.Seen.{labels_of}
-use Rattle.taxo_writer.proofs.Ordinals.{as_many_prefixes, known_taken, one_ordinal_more, ordinals_seen, prefix_at}
+use Rattle.taxo_writer.proofs.Ordinals.{known_taken, one_ordinal_more, ordinals_seen}
 use Rattle.taxo_writer.proofs.Entering.{sees_further}
 use Rattle.taxo_writer.proofs.writer.TaxoWriter.find_shared.Goals as goal
+use Rattle.facet_names.proofs.Fronts.{as_many_prefixes, prefix_at}
 
 pub returns-in_err-push-in-Hit-clause-token : goal.returns-in_err-push-in-Hit-clause-token
 returns-in_err-push-in-Hit-clause-token g c = sees_further c.args.token.now c.loop-n.token c.look_at.new.token c.loop-n.invariant.token c.look_at.ensures.token
