@@ -146,10 +146,6 @@ first_found start p n q fits e =
     let k = u32_told p a.0.0 a.0.1 fits a.1 in
     subst (λ (x : ℕ × Place). Takes p (be32 x.0) x.1 × ((x.0 ≡ start) × (x.0 < 2 ^ 32))) g.1 (k.0, (eqb-true a.0.0 start g.0, k.1))
 
-last_fits : (a b : Bool) → (a && not b) ≡ false → a ≡ true → b ≡ true
-last_fits true b e h = not-false b e
-last_fits false b e h = absurd cc
-
 count_found : (labels left start : ℕ) → IsSpelled (count_at labels left start) be32 (λ n. (left ≡ 0 → start + n ≡ labels) × (n < 2 ^ 32))
 unfolding count_at
 count_found labels left start p n q fits e =
@@ -157,7 +153,7 @@ count_found labels left start p n q fits e =
     let g = guard_ok (eqb left 0 && not (eqb (start + a.0.0) labels)) (Malformed p.at) (done a.0) (n, q) a.2 in
     let k = u32_told p a.0.0 a.0.1 fits a.1 in
     subst (λ (x : ℕ × Place). Takes p (be32 x.0) x.1 × ((left ≡ 0 → start + x.0 ≡ labels) × (x.0 < 2 ^ 32))) (done_is FileFault a.0 (n, q) g.1)
-    (k.0, (λ none. eqb-true (start + a.0.0) labels (last_fits (eqb left 0) (eqb (start + a.0.0) labels) g.0 (eq-eqb left 0 none)), k.1))
+    (k.0, (λ none. eqb-true (start + a.0.0) labels (not-false (eqb (start + a.0.0) labels) (subst (λ (t : Bool). (t && not (eqb (start + a.0.0) labels)) ≡ false) (eq-eqb left 0 none) g.0)), k.1))
 
 label_found : (labels left start : ℕ) (p : Place) (part : LabelPart) (q : Place) → IsBytes p.rest → label_part_at labels left start p ≡ Ok (part, q) → Takes p (label_bytes part) q × FitsBehind labels left start part
 unfolding label_part_at label_bytes

@@ -6,7 +6,6 @@ use Rattle.std.proofs.lemmas.Bool.{eqb-true}
 use Rattle.std.proofs.lemmas.List.Elements.{All-head, All-tail}
 use Rattle.std.proofs.lemmas.List.Sums.{sum_by-cons}
 use Rattle.seg_postings.specs.Rising.{is_in}
-use Rattle.std.proofs.Math.Bool.{or-true}
 use Rattle.seg_postings.proofs.Members.{here_in, later_in}
 
 pub any_is_in : (q : ℕ) (xs : List ℕ) → list_any (nat_eq q) xs ≡ is_in q xs

@@ -4,22 +4,10 @@ use Rattle.std.specs.List.{list_all, list_any, enumerate_from}
 use Rattle.std.specs.Option.{option_map_or}
 use Rattle.facet_names.specs.Labels.{is_in_place, stands}
 use Rattle.facet_model.specs.Histories.{are_publications}
-use Rattle.facet_model.specs.Documents.{Doc}
 use Rattle.facet_model.specs.Core.{State, empty_core, CoreEvent, label, append, take_index, take_labels, publish, drop_refresh, begin_commit, drop_commit, device, crash, step}
 use Rattle.facet_model.specs.CoreStates.{Valid, is_good_refresh, is_good_commit, has_renamed, is_good_index, is_kept, is_same_pair}
+use Rattle.facet_model.proofs.Samples.{author, bob, lisa}
 use Rattle.facet_core.specs.Laws.{ran}
-
-abbrev author : List ℕ → List (List ℕ)
-author name = codes "Author" ∷ name ∷ []
-
-abbrev doc : List ℕ → List ℕ → List (List (List ℕ)) → Doc
-doc id text labels = record { id = id; text = text; labels = labels }
-
-abbrev bob : Doc
-bob = doc (codes "b1") [] (author (codes "Bob") ∷ [])
-
-abbrev lisa : Doc
-lisa = doc (codes "b2") [] (author (codes "Lisa") ∷ [])
 
 -- the first document with its labels, and then the second
 abbrev first_added : List CoreEvent

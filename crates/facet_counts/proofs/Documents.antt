@@ -6,7 +6,7 @@ use Rattle.std.specs.List.{list_any, list_all, AllZip, AllPairs, enumerate_from,
 use Rattle.std.specs.Str.{bytes_eq}
 use Rattle.std.specs.Cmp.{both_ways}
 use Rattle.std.specs.Cmp.Lexicographic.{bytes_decides}
-use Rattle.std.proofs.lemmas.Bool.{cases_order, cases_lt, eq-eqb, eqb-true, leb-false, lt-ltb, ltb-true, false_from_ne_true, true_from_ne_false, true≢false, and_from, and_parts, or_cases, or_left, or_right}
+use Rattle.std.proofs.lemmas.Bool.{cases_order, cases_lt, eq-eqb, eqb-true, leb-false, lt-ltb, ltb-true, false_from_ne_true, true_from_ne_false, true≢false, and_from, and_parts, not-false, or_cases, or_left, or_right}
 use Rattle.std.proofs.lemmas.List.{get_or-take, take-take, take_all, length-take-le}
 use Rattle.std.proofs.lemmas.List.Folds.{list_any_at}
 use Rattle.std.proofs.lemmas.List.FromFn.{length-enumerate_from, get_or-enumerate_from, length-map-range_with_len, get_or-map-range_with_len}
@@ -136,17 +136,12 @@ all_counted : (config : Config) (l p : List (List ℕ)) → 0 < length p → is_
     → ((flags config (dim_of l)).hierarchical ≡ false → length l ≡ 2) → is_counted_for (flags config (dim_of l)) l p ≡ true
 all_counted config l p some under kept plain shape = ap (λ d. is_counted_for (flags config d) l p) (sym (dim_under l p some under)) ∙ by (cases_lt 1 (length p))
   where
-    multi : (h m : Bool) → (h && not m) ≡ false → h ≡ true → m ≡ true
-    multi h true none e = refl
-    multi true false none e = absurd (true≢false none)
-    multi false false none e = absurd (true≢false (sym e))
-
     full : (flags config (dim_of p)).multi_valued ≡ true → ((flags config (dim_of p)).hierarchical || (flags config (dim_of p)).require_dim_count) ≡ true → (nat_lt 1 (length p) || (flags config (dim_of p)).require_dim_count) ≡ true → is_counted_for (flags config (dim_of p)) l p ≡ true
     full m c d = or_right (path_eq l p) _ (and_from _ _ (and_from _ _ (and_from _ _ (and_from (is_under l p) (nat_lt 0 (length p)) under (lt-ltb 0 (length p) some)) m) c) d)
 
     deep : (h : Bool) → (flags config (dim_of p)).hierarchical ≡ h → 1 < length p → is_counted_for (flags config (dim_of p)) l p ≡ true
     deep true is long =
-        let several : (flags config (dim_of p)).multi_valued ≡ true = multi (flags config (dim_of p)).hierarchical (flags config (dim_of p)).multi_valued plain is in
+        let several : (flags config (dim_of p)).multi_valued ≡ true = not-false (flags config (dim_of p)).multi_valued (subst (λ (t : Bool). (t && not (flags config (dim_of p)).multi_valued) ≡ false) is plain) in
         full several (or_left (flags config (dim_of p)).hierarchical (flags config (dim_of p)).require_dim_count is) (or_left (nat_lt 1 (length p)) (flags config (dim_of p)).require_dim_count (lt-ltb 1 (length p) long))
     deep false is long =
         let front = under_front l p under in

@@ -1,5 +1,5 @@
 -- The walk over the dimensions.
-use Rattle.std.proofs.Common.{◌≡◌, ℕ, suc, ◌<◌, ◌≤◌, ◌⊎◌, Bool, true, false, ◌||◌, List, [], ◌∷◌, length, get_or, slice_get, Option, Some, None, refl, sym, ap, subst, ◌∙◌, arith, inl, inr, ⊎_elim}
+use Rattle.std.proofs.Common.{◌≡◌, ℕ, suc, ◌<◌, ◌≤◌, ◌⊎◌, Bool, true, false, ◌||◌, List, [], ◌∷◌, length, get_or, Option, Some, None, refl, sym, ap, subst, ◌∙◌, arith, inl, inr, ⊎_elim}
 use Rattle.std.specs.Prelude.{IfSome, nat_le, filter, option_to_list}
 use Rattle.std.specs.Option.{option_map_or}
 use Rattle.std.specs.Str.{bytes_eq}
@@ -14,7 +14,7 @@ use Rattle.facet_model.specs.Documents.{Doc}
 use Rattle.facet_model.specs.Flags.{Config}
 use Rattle.facet_model.specs.Results.{Listed, IsTop}
 use Rattle.facet_counts.specs.Dims.{AreDims}
-use Rattle.taxo_list.proofs.Labels.{some_label, root_first, place_at}
+use Rattle.taxo_list.proofs.Labels.{root_is, place_at}
 use Rattle.facet_counts.proofs.Walk.{sibling_is}
 use Rattle.facet_counts.proofs.Listed.{child_label, label_child}
 
@@ -35,15 +35,12 @@ abbrev pub walked : List (List (List ℕ)) → Option ℕ → List ℕ → Bool
 walked labels next dim = option_map_or (nat_le (option_map_or suc next 0)) (place labels (dim ∷ [])) false
 
 module _ (labels : List (List (List ℕ))) (is : IsLabelList labels) where
-  root_is : slice_get labels 0 ≡ Some []
-  root_is = slice_get-get_or labels 0 [] (some_label labels is) ∙ ap Some (root_first labels is [])
-
   -- a child of the root is a dimension
   pub dim_label : (c : ℕ) → c < length labels → is_child labels 0 c ≡ true → (0 < c) × (get_or labels c [] ≡ last_part (get_or labels c []) ∷ [])
-  dim_label c lt child = child_label labels is [] 0 [] root_is c lt child
+  dim_label c lt child = child_label labels is [] 0 [] (root_is labels is) c lt child
 
   dim_child : (dim : List ℕ) (q : ℕ) → place labels (dim ∷ []) ≡ Some q → (q < length labels) × (is_child labels 0 q ≡ true) × (get_or labels q [] ≡ dim ∷ [])
-  dim_child dim q at = label_child labels is [] 0 [] root_is q dim at
+  dim_child dim q at = label_child labels is [] 0 [] (root_is labels is) q dim at
 
   -- none is walked at first
   none_walked : (dim : List ℕ) → walked labels (child_at labels 0) dim ≡ false

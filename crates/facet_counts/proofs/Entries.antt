@@ -1,18 +1,14 @@
 -- The entries of a view's arrays as ordinals.
 use Rattle.std.proofs.Common.{◌≡◌, ℕ, zero, suc, ◌<◌, negsuc, List, [], length, get_or, slice_get, Some, ap, ◌∙◌, arith}
-use Rattle.std.proofs.lemmas.List.FromFn.{length-map-range_with_len}
 use Rattle.std.proofs.lemmas.Option.{slice_get-get_or}
 use Rattle.facet_names.specs.Labels.{IsLabelList, above}
-use Rattle.facet_names.specs.Arrays.{or_none, parent_at, child_at, sibling_at}
+use Rattle.facet_names.specs.Arrays.{parent_at, child_at, sibling_at}
 use Rattle.taxo_list.specs.ArrayLists.{ArrayLists, arrays_of}
 use Rattle.taxo_list.specs.Links.{ordinal}
 use Rattle.taxo_list.proofs.Labels.{parent_before}
 use Rattle.taxo_list.proofs.Linked.{entry, ordinal_or_none}
 
 module _ (labels : List (List (List ℕ))) (arrays : ArrayLists) (are : arrays ≡ arrays_of labels) (i : ℕ) where
-  pub as_many : length arrays.parents ≡ length labels
-  as_many = ap (λ (a : ArrayLists). length a.parents) are ∙ length-map-range_with_len (λ k. or_none (parent_at labels k)) 0 (length labels)
-
   pub parent_entry : i < length labels → ordinal (get_or arrays.parents i (negsuc 0)) ≡ parent_at labels i
   parent_entry lt = ap (λ (a : ArrayLists). ordinal (get_or a.parents i (negsuc 0))) are ∙ ap ordinal (entry (parent_at labels) (length labels) i (negsuc 0) lt) ∙ ordinal_or_none (parent_at labels i)
 

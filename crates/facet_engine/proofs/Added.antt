@@ -34,13 +34,14 @@ use Rattle.taxo_cache.specs.Seen.{labels_of}
 use Rattle.taxo_list.specs.declared.fault.TaxoFault.{TaxoFault}
 use Rattle.taxo_list.specs.declared.fault.TaxoFault.TheVariants.{LabelsFull as ListFull, NoMemory as ListNoMemory}
 use Rattle.taxo_writer.specs.Several.{AddsInTurn, IsFullForOne}
-use Rattle.facet_engine.specs.Adding.{IsPlaced, HasNoRoom, HasTried}
+use Rattle.pair_manager.specs.Appended.{HasNoRoom, IsPlaced}
+use Rattle.facet_engine.specs.Adding.{HasTried}
 use Rattle.facet_engine.specs.Replies.{add_reply}
 use Rattle.facet_engine.specs.Sessions.{HaveOneNumber, NamesSession}
 use Rattle.facet_engine.specs.Steps.{seen_of, added}
 use Rattle.facet_engine.specs.declared.adding.AddFault.{AddFault}
 use Rattle.facet_engine.specs.declared.adding.AddFault.TheVariants as adds
-use Rattle.facet_engine.proofs.Appended.{only_one}
+use Rattle.pair_manager.proofs.Appended.{only_one}
 use Rattle.facet_engine.proofs.Committed.{one_own}
 use Rattle.facet_engine.proofs.Refreshed.{many_operations, many_in_history}
 use Rattle.facet_engine.proofs.SeenPairs.{still_named}
@@ -68,13 +69,13 @@ full_for size limit labels paths fault is full = subst (λ (f : TaxoFault). IsFu
 
 -- ---- from the resolved labels on
 
-module _ (limit session : ℕ) (doc : Doc) (old mid new : Pass) (operation : Operation) (is : operation ≡ record { session = session; doc = doc }) (operations : mid.operations ≡ old.operations) (labels : new.labels ≡ mid.labels)
+module _ (limit session : ℕ) (doc : Doc) (old mid new : Pass) (entered : Doc) (is : entered ≡ doc) (operations : mid.operations ≡ old.operations) (labels : new.labels ≡ mid.labels)
     (known : knows (labels_of mid.labels.seen) doc ≡ true) where
   still_known : knows (labels_of new.labels.seen) doc ≡ true
   still_known = subst (λ (t : Shown (List (List ℕ))). knows (labels_of t.seen) doc ≡ true) (sym labels) known
 
-  pub tried_placed : (at : ℕ) → IsPlaced at operation mid.operations new.operations → HasTried limit (record { session = session; doc = doc }) old new (Ok at)
-  tried_placed at there = (still_known, subst (λ (T : Type 0). T) (λ i. IsPlaced at (is i) (operations i) new.operations) there)
+  pub tried_placed : (at : ℕ) → IsPlaced at (record { session = session; doc = entered }) mid.operations new.operations → HasTried limit (record { session = session; doc = doc }) old new (Ok at)
+  tried_placed at there = (still_known, subst (λ (T : Type 0). T) (λ i. IsPlaced at (record { session = session; doc = is i }) (operations i) new.operations) there)
 
   pub tried_full : (count : ℕ) → SeesOn mid.operations new.operations → HasNoRoom count new.operations → HasTried limit (record { session = session; doc = doc }) old new (Err (adds.DocsFull count))
   tried_full count on full = (subst (λ (t : Shown Operation). SeesOn t new.operations) operations on, still_known, full)

@@ -13,7 +13,6 @@ pub mod Found
 pub mod Searched
 pub mod Stored
 pub mod Entered
-pub mod Appended
 pub mod Added
 pub mod Spent
 pub mod Carried

@@ -14,7 +14,7 @@ use Rattle.facet_engine.specs.contracts.notes.Notes as notes
 use Rattle.facet_engine.specs.contracts.session.Session as session
 use Rattle.facet_engine.specs.contracts.system.System as system
 
-held_send : IsSend held.the_row
+pub held_send : IsSend held.the_row
 held_send = search (sendable, owned, lease_send) depth 20
 
 pub session_send : IsSend session.the_row

@@ -1,12 +1,13 @@
 -- What an add of a document does to the tokens of a session.
-use Rattle.std.specs.Prelude.{◌≡◌, ◌≤◌, ◌<◌, ◌-◌, ℕ, List, All, IsTrue, length, slice_index_or, Result, Ok, Err}
-use Rattle.chronicle.specs.Shown.{Shown, SeesOn, EntersBehind}
+use Rattle.std.specs.Prelude.{◌-◌, ℕ, List, IsTrue, length, slice_index_or, Result, Ok, Err}
+use Rattle.chronicle.specs.Shown.{SeesOn}
 use Rattle.facet_model.specs.CountedPaths.{AreResolved}
 use Rattle.facet_model.specs.Documents.{Doc}
 use Rattle.facet_model.specs.Flags.{Config}
 use Rattle.facet_model.specs.Histories.{Operation, knows}
 use Rattle.facet_names.specs.Labels.{IsLabelList}
 use Rattle.pair_manager.specs.declared.pass.Pass.{Pass}
+use Rattle.pair_manager.specs.Appended.{HasNoRoom, IsPlaced}
 use Rattle.seg_decoding.specs.Entries.{IsEntry}
 use Rattle.seg_terms.specs.declared.entry.Entry.{Entry}
 use Rattle.taxo_cache.specs.Seen.{labels_of}
@@ -22,17 +23,6 @@ leaf_of ords = slice_index_or ords (length ords - 1) 0
 -- Under any labels in which the prefixes of its document's labels have these ordinals, the entry is one of its document.
 abbrev pub IsEntryWhere : Config → List (List ℕ) → Entry → Type 0
 IsEntryWhere config resolved e = (labels : List (List (List ℕ))) → IsLabelList labels → AreResolved labels e.doc.labels resolved → IsEntry config labels e
-
--- The operation was entered at this place, below each number in the frame, which has how many there may be.
-pub record IsPlaced (at : ℕ) (operation : Operation) (old new : Shown Operation) : Type 0 where
-  pub enters : EntersBehind operation old new
-  pub place : at ≡ length enters.between
-  pub room : All (λ most. at < most) old.frame.numbers
-
--- There are so many operations, no fewer than there may be.
-pub record HasNoRoom (count : ℕ) (token : Shown Operation) : Type 0 where
-  pub size : count ≡ length token.seen
-  pub full : All (λ most. most ≤ count) token.frame.numbers
 
 -- every prefix of every label of the document is among the labels that were seen
 abbrev pub SeesLabelsOf : Pass → Doc → Type 0

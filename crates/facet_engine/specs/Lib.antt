@@ -9,7 +9,6 @@ pub mod Telling
 pub mod Ending
 pub mod Opening
 pub mod Calls
-pub mod Names
 pub mod Searches
 pub mod Showing
 pub mod Replies

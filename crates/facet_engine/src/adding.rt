@@ -1,19 +1,14 @@
-ghost use Rattle.std.specs.Prelude.{◌≡◌, ◌≢◌, List, ℕ, All, IfOk, IfErr, OnOk, OnErr, flat_map, length, map};
+ghost use Rattle.std.specs.Prelude.{◌≡◌, List, ℕ, All, IfOk, OnOk, flat_map, length, map};
 ghost use mathlib.Core.List.{IsPrefix};
-ghost use Rattle.chronicle.specs.Shown.{SeesOn};
 ghost use Rattle.facet_config.specs.Expanding.{AreAsLong};
 ghost use Rattle.facet_model.specs.Accepts.{Accepts};
 ghost use Rattle.facet_model.specs.ConfigTexts.{config_texts};
 ghost use Rattle.facet_model.specs.CountedPaths.{AreResolved};
-ghost use Rattle.facet_model.specs.Flags.{Config};
 ghost use Rattle.facet_names.specs.Labels.{IsLabelList, prefixes};
-ghost use Rattle.seg_decoding.specs.Entries.{IsEntry, IsShort};
-ghost use Rattle.taxo_cache.specs.Seen.{labels_of};
-ghost use Rattle.taxo_list.specs.declared.fault.TaxoFault.TheVariants.{NoMemory as ListNoMemory};
-ghost use Rattle.taxo_writer.specs.Several.{AddsInTurn, IsFullForOne};
-ghost use Rattle.index_state.specs.declared.fault.AppendFault.TheVariants.{DocsFull as IndexFull};
+ghost use Rattle.seg_decoding.specs.Entries.{IsShort};
+ghost use Rattle.taxo_writer.specs.Several.{AddsInTurn};
 ghost use Rattle.pair_manager.specs.Passes.{IsOf, SamePass};
-ghost use Rattle.facet_engine.specs.Adding.{HasNoRoom, HasTried, IsEntryWhere, IsPlaced, leaf_of};
+ghost use Rattle.facet_engine.specs.Adding.{HasTried, IsEntryWhere, leaf_of};
 ghost use Rattle.facet_engine.specs.Calls.{IsCall, SameSession};
 ghost use Rattle.facet_engine.specs.Steps.{added};
 ghost use Rattle.facet_engine.specs.Systems.{BelongsTo};
@@ -25,7 +20,7 @@ use facet_config::{DocFault, FacetsConfig};
 use facet_disk::Disk;
 use facet_model::{Document, Resolved};
 use facet_names::{NoMemory, Path};
-use index_state::{AppendFault, Operation};
+use index_state::AppendFault;
 use pair_manager::{Manager, Pass};
 use seg_file::Entry;
 use std::alloc::Global;
@@ -88,58 +83,6 @@ fn entry_of(
     })
 }
 
-// The ordinals of the prefixes of each label. The labels have one turn together where any is missing, and it is not held afterwards.
-fn resolve_labels<N: Name, R: Wait>(
-    rt: &R,
-    manager: &Manager<N>,
-    pass: &mut Pass,
-    doc: &Document,
-) -> Result<Vec<Resolved>, TaxoFault>
-    requires own { IsOf manager.now pass.old }
-    ensures same { SamePass pass.old pass.new }
-    ensures rest { (pass.new.operations ≡ pass.old.operations) × (pass.new.pairs ≡ pass.old.pairs) × (pass.new.commits ≡ pass.old.commits) }
-    ensures more { IsPrefix pass.old.labels.seen pass.new.labels.seen }
-    ensures adds { AddsInTurn (flat_map prefixes doc.now.labels) manager.now.writer.limit pass.old.labels pass.new.labels }
-    ensures resolved { IfOk result (λ v. AreResolved (labels_of pass.new.labels.seen) doc.now.labels v.items) }
-    ensures full { IfErr result (λ e. e ≢ ListNoMemory → IsFullForOne e manager.now.writer.limit (labels_of pass.new.labels.seen) doc.now.labels) }
-{
-    manager
-        .writer()
-        .resolve_each(rt, &mut pass.labels, doc.facets())
-}
-
-// Puts the document of an entry behind all others, in the operations' turn.
-fn append_entry<N: Name, R: Wait>(
-    rt: &R,
-    manager: &Manager<N>,
-    pass: &mut Pass,
-    session: u32,
-    entry: Entry,
-    operation: Operation,
-) -> Result<u64, AppendFault>
-    requires own { IsOf manager.now pass.old }
-    requires entry { (config : Config) → config_texts config ≡ pass.old.operations.frame.texts → IsEntry config (labels_of pass.old.labels.seen) entry }
-    requires operation { operation ≡ record { session = session; doc = entry.doc } }
-    ensures same { SamePass pass.old pass.new }
-    ensures rest { (pass.new.labels ≡ pass.old.labels) × (pass.new.pairs ≡ pass.old.pairs) × (pass.new.commits ≡ pass.old.commits) }
-    ensures placed { IfOk result (λ at. IsPlaced at operation pass.old.operations pass.new.operations) }
-    ensures none { OnErr result (SeesOn pass.old.operations pass.new.operations) }
-    ensures full { IfErr result (λ e. (count : ℕ) → e ≡ IndexFull count → HasNoRoom count pass.new.operations) }
-{
-    let mut index = manager.operations().take(rt, &mut pass.operations);
-    match index.append(manager.writer().labels(), &mut pass.labels, session, entry) {
-        Ok(at) => {
-            manager.operations().enter(&mut pass.operations, operation);
-            manager.operations().give(&mut pass.operations, index);
-            Ok(at)
-        }
-        Err(fault) => {
-            manager.operations().give(&mut pass.operations, index);
-            Err(fault)
-        }
-    }
-}
-
 // Adds a document that the config accepts. Its entry is made before the operations' turn is waited for; the index may still have to grow then.
 fn add_to<N: Name, R: Wait>(
     rt: &R,
@@ -159,16 +102,15 @@ fn add_to<N: Name, R: Wait>(
     ensures adds { AddsInTurn (flat_map prefixes doc.labels) manager.now.writer.limit pass.old.labels pass.new.labels }
     ensures tried { HasTried manager.now.writer.limit (record { session = session; doc = doc }) pass.old pass.new result }
 {
-    let resolved = match resolve_labels(rt, manager, pass, &doc) {
+    let resolved = match manager.resolve_each(rt, pass, doc.facets()) {
         Ok(resolved) => resolved,
         Err(TaxoFault::LabelsFull { size }) => return Err(AddFault::LabelsFull { size }),
         Err(TaxoFault::NoMemory) => return Err(AddFault::NoMemory),
     };
-    let operation = Operation::new(session, &doc);
     let Ok(entry) = entry_of(alloc, config, doc, &resolved) else {
         return Err(AddFault::NoMemory);
     };
-    match append_entry(rt, manager, pass, session, entry, operation) {
+    match manager.append(rt, pass, session, entry) {
         Ok(at) => Ok(at),
         Err(AppendFault::DocsFull { count }) => Err(AddFault::DocsFull { count }),
         Err(AppendFault::NoMemory) => Err(AddFault::NoMemory),

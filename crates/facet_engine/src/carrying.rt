@@ -5,7 +5,7 @@ ghost use Rattle.facet_replies.specs.ReplyViews.{refusal_view, reply_view};
 ghost use Rattle.facet_words.specs.CommandViews.{search_view as line_view};
 ghost use Rattle.facet_words.specs.Sessions.CommandViews.{command_view};
 ghost use Rattle.facet_engine.specs.Calls.{IsCarriedOut};
-ghost use Rattle.facet_engine.specs.Names.{name_in};
+ghost use Rattle.facet_names.specs.Texts.{text_in};
 ghost use Rattle.facet_engine.specs.Replies.{add_reply, commit_reply, document_reply, hold_reply, refresh_reply, release_reply, search_reply, stats_reply};
 ghost use Rattle.facet_engine.specs.Searches.{search_view};
 ghost use Rattle.facet_engine.specs.Systems.{BelongsTo};
@@ -145,7 +145,7 @@ fn committed(of: Result<u64, CommitFault>) -> Reply
 }
 
 fn text_of(name: &Option<Word>) -> Option<&str>
-    ensures { name_in result ≡ name.now }
+    ensures { text_in result ≡ name.now }
 {
     match name {
         Some(name) => Some(name.text()),

@@ -13,7 +13,7 @@ ghost use Rattle.facet_output.specs.Replies.{found as found_reply, refused as re
 ghost use Rattle.facet_output.specs.Replying.{IsFound};
 ghost use Rattle.facet_engine.specs.Systems.{BelongsTo};
 ghost use Rattle.facet_engine.specs.Calls.{IsCall, SameSession};
-ghost use Rattle.facet_engine.specs.Names.{name_in};
+ghost use Rattle.facet_names.specs.Texts.{text_in};
 ghost use Rattle.facet_engine.specs.Replies.{found_view, search_reply};
 ghost use Rattle.facet_engine.specs.Searches.{IsFoundIn, refusal_as, search_view};
 ghost use Rattle.facet_engine.specs.Steps.{searched};
@@ -178,7 +178,7 @@ impl<D: Disk, N: Name + Start> System<D, N> {
         requires own { BelongsTo self.now session.old.pass }
         ensures same { SameSession session.old session.new }
         ensures held { session.new.held ≡ session.old.held }
-        ensures step { IsCall self.now session.old (searched (name_in on.entry) (search_view ask.now) session.old.pass session.new.pass result) }
+        ensures step { IsCall self.now session.old (searched (text_in on.entry) (search_view ask.now) session.old.pass session.new.pass result) }
     {
         match on {
             Some(name) => match session.held.find(name) {

@@ -4,7 +4,7 @@ ghost use Rattle.seg_decoding.specs.Decoding.{doc_in, records_in};
 ghost use Rattle.seg_grammar.specs.Lookups.{record_of};
 ghost use Rattle.facet_engine.specs.Systems.{BelongsTo};
 ghost use Rattle.facet_engine.specs.Calls.{IsCall, SameSession};
-ghost use Rattle.facet_engine.specs.Names.{name_in};
+ghost use Rattle.facet_names.specs.Texts.{text_in};
 ghost use Rattle.facet_engine.specs.Replies.{document_reply};
 ghost use Rattle.facet_engine.specs.Showing.{IsShownIn};
 ghost use Rattle.facet_engine.specs.Steps.{documented};
@@ -117,7 +117,7 @@ impl<D: Disk, N: Name + Start> System<D, N> {
         requires own { BelongsTo self.now session.old.pass }
         ensures same { SameSession session.old session.new }
         ensures held { session.new.held ≡ session.old.held }
-        ensures step { IsCall self.now session.old (documented (name_in on.entry) at session.old.pass session.new.pass result) }
+        ensures step { IsCall self.now session.old (documented (text_in on.entry) at session.old.pass session.new.pass result) }
     {
         match on {
             Some(name) => match session.held.find(name) {

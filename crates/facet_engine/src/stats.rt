@@ -2,7 +2,7 @@ ghost use Rattle.std.specs.Prelude.{◌≡◌};
 ghost use Rattle.facet_engine.specs.Systems.{BelongsTo};
 ghost use Rattle.facet_engine.specs.Calls.{IsCall, SameSession};
 ghost use Rattle.facet_engine.specs.Steps.{counted};
-ghost use Rattle.facet_engine.specs.Names.{name_in};
+ghost use Rattle.facet_names.specs.Texts.{text_in};
 
 use crate::holding::NotHeld;
 use crate::session::Session;
@@ -28,7 +28,7 @@ impl<D: Disk, N: Name + Start> System<D, N> {
         requires own { BelongsTo self.now session.old.pass }
         ensures same { SameSession session.old session.new }
         ensures held { session.new.held ≡ session.old.held }
-        ensures step { IsCall self.now session.old (counted (name_in on.entry) session.old.pass session.new.pass result) }
+        ensures step { IsCall self.now session.old (counted (text_in on.entry) session.old.pass session.new.pass result) }
     {
         match on {
             Some(name) => match session.held.find(name) {

@@ -7,3 +7,4 @@ pub mod Drills
 pub mod Each
 pub mod Histories
 pub mod WordOrder
+pub mod Samples

@@ -1,7 +1,7 @@
 ghost use Rattle.std.specs.Prelude.{◌≡◌, ◌<◌, ◌≤◌, List, ℕ, Some, IfOk, length, map, slice_get, string_bytes};
 ghost use Rattle.facet_model.specs.Terms.{path_term};
 
-use crate::document::copied;
+use crate::document::dup_paths;
 use facet_names::{NoMemory, Path};
 use std::alloc::Global;
 use std::marker::Model;
@@ -77,7 +77,7 @@ impl Drill {
     pub fn dup(&self, alloc: Global) -> Result<Drill, NoMemory>
         ensures { IfOk result (λ d. d ≡ self.now) }
     {
-        let paths = copied(alloc, &self.paths)?;
+        let paths = dup_paths(alloc, &self.paths)?;
         Drill::new(alloc, paths)
     }
 }

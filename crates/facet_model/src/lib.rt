@@ -14,7 +14,7 @@ mod word_list;
 
 pub use ask::Ask;
 pub use counted::{Counted, Resolved};
-pub use document::{DocShape, Document};
+pub use document::{DocShape, Document, dup_paths};
 pub use drill::{Drill, path_term};
 pub use flags::DimFlags;
 pub use laws::{one_config, one_listing, one_top};

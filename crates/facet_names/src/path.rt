@@ -2,6 +2,7 @@ ghost use Rattle.std.specs.Prelude.{◌≡◌, ◌≢◌, ◌<◌, ◌≤◌, �
 ghost use Rattle.facet_names.specs.Paths.{texts, is_under, parent_of};
 ghost use Rattle.facet_names.specs.Faults.{IsPath, path_fault, part_fault};
 ghost use Rattle.facet_names.specs.Terms.{term_text, IsTermText};
+ghost use Rattle.facet_names.specs.Texts.{texts_in};
 ghost use Rattle.facet_names.specs.declared.fault.PathFault.TheVariants.{NoMemory as Memory};
 
 use crate::block::{block_of, block_with, compared, cut, is_front, size, skip};
@@ -89,6 +90,20 @@ impl Path {
         check(parts)?;
         let text = block_of(alloc, parts)?;
         Ok(Path { text })
+    }
+
+    /// The path of these components, as [`new`](Path::new), for texts that are lent: as Lucene's `FacetLabel(String...)`. They are copied first, so where memory
+    /// is short that is the answer, whatever they are.
+    pub fn of(alloc: Global, parts: &[&str]) -> Result<Path, PathFault>
+        ensures ok { IfOk result (λ p. p ≡ texts_in parts.now) }
+        ensures fits { IsOk result → path_fault (texts_in parts.now) ≡ None }
+        ensures err { IfErr result (λ e. e ≢ Memory → path_fault (texts_in parts.now) ≡ Some e) }
+    {
+        let mut texts = Vec::new(alloc);
+        for part in parts {
+            texts.push(String::from_str(alloc, *part)?)?;
+        }
+        Path::new(alloc, &texts)
     }
 
     #[tactic(auto, using(crate::proofs::Blocks::path_block))]

@@ -17,7 +17,8 @@ use Rattle.facet_output.specs.Answered.{Answered, of_session}
 use Rattle.facet_output.specs.Replying.{RightReplies}
 use Rattle.facet_output.specs.Output.{IsOutput}
 use Rattle.facet_output.specs.OutputLines.{last_line, output_bytes}
-use Rattle.facet_output.proofs.Samples.{author, doc, empty_store, order, answer, answer_at, by_one, each_session, bobs_labels}
+use Rattle.facet_model.proofs.Samples.{author, doc}
+use Rattle.facet_output.proofs.Samples.{empty_store, order, answer, answer_at, by_one, each_session, bobs_labels}
 use Rattle.facet_output.proofs.Tested.{children_so}
 
 abbrev settings : Settings

@@ -131,6 +131,10 @@ pub of_number : (n : ℕ) (o : Option ℕ) → is_number n o ≡ true → o ≡ 
 of_number n None h = absurd cc
 of_number n (Some k) h = ap Some (eqb-true k n h)
 
+-- the phase and the order of an answer
+abbrev pub key_of : Answered → ℕ × Order
+key_of a = (a.phase, a.order)
+
 module _ (settings : Settings) (phases : List (List Order)) (opened : Opened) (labels : List (List (List ℕ))) (history : List Operation) (published : List (ℕ × (ℕ × ℕ))) (answered : List Answered) (session : ℕ)
     (o : IsOutput settings phases opened labels history published answered) (rise : list_all lines_rise phases ≡ true) (one : list_all (is_of session) answered ≡ true) where
   own : (a : Answered) → In a answered → a.order.session ≡ session
@@ -139,17 +143,14 @@ module _ (settings : Settings) (phases : List (List Order)) (opened : Opened) (l
   abbrev IsLater : Answered → Answered → Type 0
   IsLater a b = comes_after b a ≡ true
 
-  abbrev key : Answered → ℕ × Order
-  key a = (a.phase, a.order)
-
   in_order : Later IsLater answered
-  in_order = later_weaker (λ a b. IsAfter (key a) (key b)) IsLater answered (λ a b there there' after.
+  in_order = later_weaker (λ a b. IsAfter (key_of a) (key_of b)) IsLater answered (λ a b there there' after.
       let same : a.order.session ≡ b.order.session = own a there ∙ sym (own b there') in
       ⊎_elim
       (λ lt. or_left (nat_lt a.phase b.phase) _ (lt-ltb a.phase b.phase lt))
       (λ p. or_right (nat_lt a.phase b.phase) _ (and_from _ _ (and_from _ _ (eq-eqb a.phase b.phase p.0) (eq-eqb a.order.session b.order.session same)) (lt-ltb a.order.line b.order.line p.1)))
       (after same))
-      (of_later_map key IsAfter answered (subst (Later IsAfter) (sym o.asked) (phases_rising 0 phases rise)))
+      (of_later_map key_of IsAfter answered (subst (Later IsAfter) (sym o.asked) (phases_rising 0 phases rise)))
 
   abbrev first : ℕ
   first = length opened.docs

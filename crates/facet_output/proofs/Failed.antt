@@ -8,7 +8,8 @@ use Rattle.facet_replies.specs.Replies.{placed, numbered, stats as numbers, refu
 use Rattle.facet_output.specs.Answered.{Answered, of_session}
 use Rattle.facet_output.specs.Replying.{RightReplies}
 use Rattle.facet_output.specs.Output.{IsOutput}
-use Rattle.facet_output.proofs.Samples.{author, doc, bob, lisa, empty_store, plain_settings, order, answer, answer_at, by_one, each_session, bobs_labels}
+use Rattle.facet_model.proofs.Samples.{author, doc, bob, lisa}
+use Rattle.facet_output.proofs.Samples.{empty_store, plain_settings, order, answer, answer_at, by_one, each_session, bobs_labels}
 use Rattle.facet_output.proofs.Holding.{labels, history}
 use Rattle.facet_output.proofs.Refuted.{three_labels}
 

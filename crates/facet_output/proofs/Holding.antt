@@ -9,7 +9,8 @@ use Rattle.facet_replies.specs.Replies.{Reply, placed, numbered, found, refused,
 use Rattle.facet_output.specs.Answered.{Answered, of_session}
 use Rattle.facet_output.specs.Replying.{RightReplies}
 use Rattle.facet_output.specs.Output.{IsOutput}
-use Rattle.facet_output.proofs.Samples.{author, bob, lisa, empty_store, plain_settings, order, answer, answer_at, by_one, each_session, one_hit}
+use Rattle.facet_model.proofs.Samples.{author, bob, lisa}
+use Rattle.facet_output.proofs.Samples.{empty_store, plain_settings, order, answer, answer_at, by_one, each_session, one_hit}
 
 abbrev pub everything : Search
 everything = record { query = all; drill = []; sideways = false; asks = []; hits = 10 }

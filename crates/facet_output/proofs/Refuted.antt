@@ -11,7 +11,8 @@ use Rattle.facet_words.specs.Sessions.Commands.{Order, add, refresh, search, com
 use Rattle.facet_replies.specs.Replies.{Reply, placed, numbered, refused, labels_full, closed, disk_failed, stats as numbers, docs_full}
 use Rattle.facet_output.specs.Answered.{Answered}
 use Rattle.facet_output.specs.Output.{IsOutput, is_right_pair, has_source, is_newest}
-use Rattle.facet_output.proofs.Samples.{answer_at, author, doc, bob, lisa, empty_store, plain_settings, order, answer, by_one, one_hit, bobs_labels}
+use Rattle.facet_model.proofs.Samples.{author, doc, bob, lisa}
+use Rattle.facet_output.proofs.Samples.{answer_at, empty_store, plain_settings, order, answer, by_one, one_hit, bobs_labels}
 use Rattle.facet_output.proofs.Holding.{everything, labels, history}
 
 -- two adds

@@ -1,26 +1,15 @@
--- What the worked examples share: authors, documents, orders, and a claim for every session where all orders are of session 1.
+-- What the worked examples share: orders, and a claim for every session where all orders are of session 1.
 use Rattle.std.proofs.Common.{◌≡◌, ℕ, List, [], ◌∷◌, Bool, true, false, refl, subst, eqb}
 use Rattle.std.proofs.lemmas.Bool.{eqb-true}
 use Rattle.std.specs.Prelude.{codes, Option, Some, None}
 use Rattle.facet_model.specs.Documents.{Doc}
 use Rattle.facet_model.specs.Histories.{Operation}
+use Rattle.facet_model.proofs.Samples.{author}
 use Rattle.facet_words.specs.Commands.{Settings}
 use Rattle.facet_words.specs.Sessions.Commands.{Order, Command}
 use Rattle.facet_replies.specs.Replies.{Reply, found}
 use Rattle.facet_output.specs.Answered.{Answered}
 use Rattle.facet_output.specs.Output.{Opened}
-
-abbrev pub author : List ℕ → List (List ℕ)
-author name = codes "Author" ∷ name ∷ []
-
-abbrev pub doc : List ℕ → List (List (List ℕ)) → Doc
-doc id labels = record { id = id; text = []; labels = labels }
-
-abbrev pub bob : Doc
-bob = doc (codes "b1") (author (codes "Bob") ∷ [])
-
-abbrev pub lisa : Doc
-lisa = doc (codes "b2") (author (codes "Lisa") ∷ [])
 
 -- the root alone
 abbrev pub empty_store : Opened

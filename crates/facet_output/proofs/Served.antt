@@ -1,6 +1,6 @@
 -- One session that ran alone was served on the shelf that `facet_words` speaks of.
 use Rattle.std.proofs.Common.{◌≡◌, ◌⊎◌, inl, inr, ⊎_elim, ℕ, ◌+◌, ◌≤◌, ◌<◌, ◌^◌, Bool, true, false, List, [], ◌∷◌, ◌++◌, length, map, Option, Some, None, slice_get, refl, sym, ap, ◌∙◌, subst, arith, length-append}
-use Rattle.std.specs.Prelude.{take, drop, flat_map, filter_map, if◌then◌else◌, nat_lt, nat_le, option_to_list, option_map, unwrap_or, IfSome, IsTrue}
+use Rattle.std.specs.Prelude.{take, drop, flat_map, filter_map, nat_lt, nat_le, option_to_list, option_map, unwrap_or, IfSome, IsTrue}
 use Rattle.std.specs.List.{list_all, enumerate_from, cons_option}
 use Rattle.std.proofs.lemmas.Bool.{both_ways, cases_lt, lt-ltb, le-ltb, le-leb, lt-leb}
 use Rattle.std.proofs.lemmas.List.{length-map, map-append, take-map, take_all}

@@ -11,7 +11,8 @@ use Rattle.facet_output.specs.Seen.{Seen, Sees, IsTold, Entries, EachNew, Enters
 use Rattle.facet_output.specs.Steps.{Step, IsStep, IsEntered}
 use Rattle.facet_output.specs.Sessions.{SessionRan, AllRan, steps_of, own_steps}
 use Rattle.facet_output.proofs.Fronts.{own_front}
-use Rattle.facet_output.proofs.Samples.{author, bob, lisa, empty_store, plain_settings}
+use Rattle.facet_model.proofs.Samples.{author, bob, lisa}
+use Rattle.facet_output.proofs.Samples.{empty_store, plain_settings}
 use Rattle.facet_output.proofs.Holding.{everything}
 use Rattle.facet_output.proofs.TwoSessions.{answer_of, seeing, each_session, phases, two_swapped, none_found}
 use Rattle.facet_output.proofs.Assembled.{sessions_give_output}

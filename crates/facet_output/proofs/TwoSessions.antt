@@ -10,7 +10,8 @@ use Rattle.facet_output.specs.Replying.{RightReplies}
 use Rattle.facet_output.specs.Output.{IsOutput, is_right_pair, is_at}
 use Rattle.std.specs.List.{list_all}
 use Rattle.std.specs.Option.{option_map_or}
-use Rattle.facet_output.proofs.Samples.{author, bob, lisa, empty_store, plain_settings, by_one, bobs_labels}
+use Rattle.facet_model.proofs.Samples.{author, bob, lisa}
+use Rattle.facet_output.proofs.Samples.{empty_store, plain_settings, by_one, bobs_labels}
 use Rattle.facet_output.proofs.Holding.{everything}
 use Rattle.facet_output.proofs.Refuted.{three_labels, dated}
 

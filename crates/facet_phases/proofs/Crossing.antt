@@ -9,14 +9,13 @@ use Rattle.std.specs.contracts.alloc.Global as heap
 use Rattle.std.specs.contracts.impls.GlobalAllocator.TheImpl.{ghosts}
 use Rattle.std.specs.contracts.vec.Vec as many
 use Rattle.chronicle.proofs.Crossing.{crosses as tokens}
-use Rattle.facet_engine.specs.contracts.held.HeldPairs as held
 use Rattle.facet_model.specs.contracts.ask.Ask as ask
-use Rattle.facet_model.specs.contracts.document.Document as document
 use Rattle.facet_model.specs.contracts.drill.Drill as drill
 use Rattle.facet_model.specs.contracts.word.Word as word
 use Rattle.facet_model.specs.contracts.query.Query as query
 use Rattle.facet_model.specs.declared.query.Query.TheBlock.{the_members, member-Query}
-use Rattle.pair_manager.proofs.Crossing.{lease_send}
+use Rattle.facet_engine.proofs.Sharing.{held_send}
+use Rattle.index_state.proofs.Crossing.{document_send}
 use Rattle.taxo_cache.proofs.Crossing.{path_send}
 use Rattle.facet_phases.specs.contracts.lane.Lane as lane
 use Rattle.facet_words.specs.contracts.sessions.command.Command as command
@@ -61,9 +60,6 @@ ask_send = search (sendable, owned, path_send) depth 30
 drill_send : IsSend drill.the_row
 drill_send = search (sendable, owned, path_send) depth 30
 
-document_send : IsSend document.the_row
-document_send = search (sendable, owned, path_send) depth 30
-
 -- a command where it is a field
 command_held : IsSend (command.the_field).row
 command_held = search (sendable, owned, word_send, query_held, ask_send, drill_send, document_send) depth 30 fits 20000
@@ -72,9 +68,6 @@ order_send : IsSend order.the_row
 order_send = search (sendable, owned, command_held) depth 30 fits 20000
 
 -- ---- sessions
-
-held_send : IsSend held.the_row
-held_send = search (sendable, owned, lease_send) depth 30
 
 pub lane_send : (C : RattleType) → IsSend C → IsSend (lane.the_row C)
 lane_send C send = search (sendable, owned, tokens, held_send, order_send) depth 30 fits 20000

@@ -5,6 +5,7 @@ use Rattle.std.proofs.lemmas.List.{length-map, take-append-drop}
 use Rattle.std.proofs.lemmas.List.Elements.{All-weaker}
 use Rattle.std.proofs.lemmas.List.Sums.{count_by-le-length}
 use Rattle.std.proofs.lemmas.Nat.{mul-le}
+use Rattle.std.proofs.Math.Nat.{le_trans}
 use mathlib.Core.List.{IsPrefix}
 use Rattle.commit_turns.specs.Recovery.{AreFirst, Holds as HoldsPoint, docs_found}
 use Rattle.facet_disk.specs.Images.{Image, Told}
@@ -29,7 +30,7 @@ use Rattle.store_opening.specs.Files.{greatest_number}
 use Rattle.store_opening.specs.Newest.{next_after}
 use Rattle.facet_shell.proofs.Adds.{right_of, shown_before}
 use Rattle.facet_shell.proofs.Commits.{durable_point, failed_before, failed_point}
-use Rattle.facet_shell.proofs.Counted.{written_few, at_most}
+use Rattle.facet_shell.proofs.Counted.{written_few}
 use Rattle.facet_shell.proofs.Placed.{add_stands}
 use Rattle.facet_shell.specs.Acknowledged.{AcknowledgedStays, CommitsAreAcknowledged, HasAdd, Holds, IsAcknowledged, IsHeld}
 use Rattle.facet_shell.specs.Runs.{CountsFault, Ran, SpendsFrom, points_of}
@@ -70,7 +71,7 @@ module _ {D : Type 0} (ghosts : Ghosts D) (settings : Settings) (phases : List (
 -- a count that rose to one that is at most another rose to that
 rose_on : (before some now : ℕ) → Rose before some → some ≤ now → Rose before now
 rose_on before some now (inl lt) le = inl (omega (arith, lt, le))
-rose_on before some now (inr most) le = inr (at_most (2 ^ 64 - 1) some now most le)
+rose_on before some now (inr most) le = inr (le_trans most le)
 
 -- numbers that are spent are 2^63 or more
 none_spent : (number next taken : ℕ) → 2 ^ 63 ≤ number → number < next + taken → next ≤ 2 ^ 62 → taken ≤ 1000003 * 4294967297 → ⊥

@@ -18,6 +18,7 @@ use Rattle.facet_model.specs.Results.{Answer, IsAnswer, dims_answer, top_answer}
 use Rattle.facet_names.proofs.LabelLists.{front_labels, label_at, place_at, stands_by_place}
 use Rattle.facet_names.specs.Labels.{IsLabelList, place, prefixes, stands}
 use Rattle.facet_output.proofs.Among.{In, at_in, of_all}
+use Rattle.facet_output.proofs.Exact.{key_of}
 use Rattle.facet_output.proofs.Fronts.{get_there, map_prefix, prefix_whole, take_prefix}
 use Rattle.facet_output.proofs.HeldPairs.{under_held}
 use Rattle.facet_output.proofs.Lifting.{still_knows}
@@ -343,9 +344,6 @@ facts_of settings labels history s a later g list right =
       list = list;
       own_list = subst IsLabelList front (front_labels labels list (length s.labels) rooted (prefix_length s.labels labels own));
     }
-
-abbrev pub key_of : Answered → ℕ × Order
-key_of a = (a.phase, a.order)
 
 abbrev pub replies_of : List Answered → List Reply
 replies_of answered = map (λ (a : Answered). a.reply) answered

@@ -5,6 +5,7 @@ use Rattle.std.specs.List.{enumerate_from, range_with_len}
 use Rattle.std.proofs.lemmas.List.{length-map}
 use Rattle.std.proofs.lemmas.List.FromFn.{length-map-range_with_len}
 use Rattle.std.proofs.lemmas.Nat.{row_fits}
+use Rattle.std.proofs.Math.Nat.{le_trans}
 use Rattle.facet_output.specs.Answered.{by_session, in_writing_order}
 use Rattle.facet_words.specs.Lines.{lines_of, onto_first}
 use Rattle.facet_words.specs.Scripts.{◌>>=◌, config_at}
@@ -79,12 +80,9 @@ generated_orders documents sessions =
 few_with : (n documents : ℕ) → n ≡ documents + 4 → documents ≤ 1000000 → n ≤ 67108864
 few_with n documents is le = omega (arith, is, le)
 
-pub at_most : (m n k : ℕ) → m ≤ n → n ≤ k → m ≤ k
-at_most m n k one two = omega (arith, one, two)
-
 pub have_few : HaveFewOrders
 have_few = (
-  λ input s is fits. at_most (length (orders_in s.phases)) (length input) 67108864 (orders_few input s is) fits,
+  λ input s is fits. le_trans (orders_few input s is) fits,
   λ documents sessions le. few_with (length (orders_in (generated documents sessions).phases)) documents (generated_orders documents sessions) le,
 )
 

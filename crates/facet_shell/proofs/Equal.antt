@@ -16,7 +16,8 @@ use Rattle.facet_output.specs.Seen.{history_of, labels_of}
 use Rattle.facet_words.specs.Commands.{Settings}
 use Rattle.facet_words.specs.Sessions.Commands.{Order}
 use Rattle.store_opening.specs.Files.{Found}
-use Rattle.facet_shell.proofs.Alike.{alike, key_of, same_lines, whole}
+use Rattle.facet_output.proofs.Exact.{key_of}
+use Rattle.facet_shell.proofs.Alike.{alike, same_lines, whole}
 use Rattle.facet_shell.proofs.Lone.{Goes, goes_first, state_of}
 use Rattle.facet_shell.specs.Alike.{EqualFilesOpenTheSame, EqualStoresReplyAlike, EqualStoresWriteTheSame}
 use Rattle.facet_shell.specs.Runs.{Ran}

@@ -3,7 +3,7 @@ ghost use Rattle.std.specs.List.{range_with_len};
 ghost use Rattle.generator.specs.Generated.{generated_doc, generated_labels, generated_text};
 
 use crate::labels::PERIOD;
-use facet_model::{DocShape, Document};
+use facet_model::{DocShape, Document, dup_paths};
 use facet_names::{NoMemory, Path};
 use std::alloc::Global;
 
@@ -17,23 +17,13 @@ fn text(number: u32) -> &'static str
     }
 }
 
-fn copies(alloc: Global, paths: &[Path]) -> Result<Vec<Path>, NoMemory>
-    ensures { IfOk result (λ v. v.items ≡ paths.now) }
-{
-    let mut copies = Vec::with_capacity(alloc, paths.len())?;
-    for path in paths {
-        copies.push(path.dup(alloc)?)?;
-    }
-    Ok(copies)
-}
-
 // The labels of a document, copied from those of the first ones.
 fn labels(alloc: Global, first: &[Vec<Path>], number: u32) -> Result<Vec<Path>, NoMemory>
     requires { map (λ l. l.items) first.now ≡ map generated_labels (range_with_len 0 60) }
     ensures { IfOk result (λ v. v.items ≡ generated_labels number) }
 {
     let at = number % PERIOD;
-    copies(alloc, &first[at as usize])
+    dup_paths(alloc, &first[at as usize])
 }
 
 /// The document of this number. The labels of the first ones are at hand, so that no text but the id is made.

@@ -16,7 +16,7 @@ segment_send = search (sendable, owned) depth 20
 pub segment_sync : IsSync segment.the_row
 segment_sync = search (sendable, owned) depth 20
 
-document_send : IsSend document.the_row
+pub document_send : IsSend document.the_row
 document_send = search (sendable, owned, path_send) depth 20
 
 entry_send : IsSend entry.the_row

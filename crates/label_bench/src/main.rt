@@ -5,7 +5,6 @@
 //! It prints what there was at the end, and, where the last word is there, what each took.
 #![tactic(auto)]
 
-mod begin;
 mod naming;
 mod pairs;
 mod resolving;

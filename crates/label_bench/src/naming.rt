@@ -4,12 +4,9 @@ use std::alloc::Global;
 /// A label of two components: of this owner and number, under one of so many dimensions.
 pub fn path_of(alloc: Global, owner: u32, number: u32, dimensions: u32) -> Option<Path> {
     let dim = number.checked_rem(dimensions)?;
-    let mut parts = Vec::new(alloc);
-    parts.push(format!(in alloc; "dimension-{dim}").ok()?).ok()?;
-    parts
-        .push(format!(in alloc; "label-{owner}-{number}").ok()?)
-        .ok()?;
-    Path::new(alloc, &parts).ok()
+    let dimension = format!(in alloc; "dimension-{dim}").ok()?;
+    let label = format!(in alloc; "label-{owner}-{number}").ok()?;
+    Path::of(alloc, &[&dimension, &label]).ok()
 }
 
 /// So many labels of this owner.

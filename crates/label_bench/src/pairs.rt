@@ -1,26 +1,16 @@
-ghost use Rattle.std.specs.Prelude.{◌≡◌, [], ◌∷◌, IfOk, IfSome};
-ghost use Rattle.std.specs.Arc.{arc_value};
-ghost use Rattle.chronicle.specs.Shown.{MayTake};
-ghost use Rattle.taxo_cache.specs.Seen.{SeesLabels};
-ghost use Rattle.index_state.specs.Frames.{index_frame};
-ghost use Rattle.pair_manager.specs.Passes.{IsOf, IsFirst};
-ghost use Rattle.pair_manager.specs.Published.{seen_of, pair_frame};
+ghost use Rattle.std.specs.Prelude.{◌≡◌, [], IfSome};
+ghost use Rattle.pair_manager.specs.Passes.{IsOf};
 
-use crate::begin::{Opened, open_labels};
 use crate::naming::path_of;
-use chronicle::{Chronicle, Standing, Token};
-use facet_config::FacetsConfig;
 use facet_model::{Counted, Document};
-use facet_names::{NoMemory, Path};
-use index_state::Operation;
-use pair_manager::{CommitPoint, Manager, Pass, Publication, release};
+use pair_fixture::{Begun, Opened, begin, open_labels};
+use pair_manager::{Manager, Pass, release};
 use seg_file::Entry;
 use std::alloc::Global;
 use std::marker::Brand;
-use std::sync::{Arc, Wait};
+use std::sync::Wait;
 use std::time::{Clock, Duration, Instant};
 use taxo_cache::Name;
-use taxo_writer::TaxoWriter;
 
 const DIMENSIONS: u32 = 4;
 
@@ -37,90 +27,6 @@ pub struct Refreshing {
     pub same: Duration,
     pub grown: Duration,
     pub acquired: Duration,
-}
-
-// What stands for the commits: nothing is committed.
-#[derive(Drop)]
-struct Commits {
-    operations: Token<Operation>,
-    labels: Token<Path>,
-    config: Arc<FacetsConfig>,
-}
-
-impl Standing for Commits {
-    ghost use Rattle.std.specs.Prelude.{◌≡◌, [], ◌∷◌};
-    ghost use Rattle.std.specs.Arc.{arc_value};
-    ghost use Rattle.facet_model.specs.ConfigTexts.{config_texts};
-
-    type Entry = CommitPoint;
-
-    ghost stands = { λ _ points. points ≡ [] };
-
-    ghost opening = { λ _. [] };
-
-    ghost frame = { λ c. record { numbers = []; texts = config_texts (arc_value c.config); identities = c.operations.identity ∷ c.labels.identity ∷ [] } };
-}
-
-// A manager over no documents, and its first pass.
-#[derive(Drop)]
-struct Begun<N: Name> {
-    manager: Manager<N>,
-    first: Pass,
-    ghost own: { IsOf manager first },
-}
-
-// The pass of these first tokens. Nobody keeps the chronicle of its commits.
-fn pass_of<N: Name>(
-    alloc: Global,
-    manager: &Manager<N>,
-    mut labels: Token<Path>,
-    mut operations: Token<Operation>,
-    pairs: Token<Publication>,
-    config: Arc<FacetsConfig>,
-) -> Result<Pass, NoMemory>
-    requires own { labels.identity ≡ manager.now.writer.labels }
-    requires labels { MayTake labels × SeesLabels labels }
-    requires operations { IsFirst operations manager.now.operations [] }
-    requires pairs { IsFirst pairs manager.now.pairs (seen_of operations labels ∷ []) }
-    requires index_frame { operations.frame ≡ index_frame (arc_value config) 1000000 manager.now.writer.labels }
-    requires pair_frame { pairs.frame ≡ pair_frame (arc_value config) manager.now.operations manager.now.writer.labels }
-    ensures { IfOk result (IsOf manager.now) }
-{
-    let value = Commits {
-        operations: manager.operations().note(&mut operations),
-        labels: manager.writer().note(&mut labels),
-        config,
-    };
-    let Ok((_, commits)) = Chronicle::open(alloc, value) else {
-        return Err(NoMemory);
-    };
-    Ok(Pass {
-        labels,
-        operations,
-        pairs,
-        commits,
-    })
-}
-
-fn begin<N: Name, R: Wait>(rt: &R, alloc: Global, opened: Opened) -> Result<Begun<N>, NoMemory>
-    requires { opened.labels ≡ N.labels }
-{
-    let Opened { labels, mut first } = opened;
-    let config = Arc::new(alloc, FacetsConfig::new(alloc))?;
-    let again = Arc::try_clone(&config)?;
-    let writer = TaxoWriter::<N>::open(alloc, labels, &mut first, 16, 4096, 1_000_000)?;
-    let view = writer.snapshot(rt, &mut first)?;
-    let (manager, operations, pairs) = Manager::open(
-        alloc,
-        writer,
-        &mut first,
-        view,
-        Vec::new(alloc),
-        config,
-        1_000_000,
-    )?;
-    let first = pass_of(alloc, &manager, first, operations, pairs, again)?;
-    Ok(Begun { manager, first })
 }
 
 // A document of two words without a facet.
@@ -142,33 +48,6 @@ fn entry_of(alloc: Global, number: u32) -> Option<Entry>
 }
 
 // Whether the document could be added.
-fn append<N: Name, R: Wait>(
-    rt: &R,
-    manager: &Manager<N>,
-    pass: &mut Pass,
-    entry: Entry,
-    operation: Operation,
-) -> bool
-    requires own { IsOf manager.now pass.old }
-    requires bare { (entry.doc.labels ≡ []) × (entry.leaves.items ≡ []) × (entry.counted ≡ []) }
-    requires operation { operation ≡ record { session = 0; doc = entry.doc } }
-    ensures own { IsOf manager.now pass.new }
-{
-    let labels = manager.writer().labels();
-    let mut index = manager.operations().take(rt, &mut pass.operations);
-    match index.append(labels, &mut pass.labels, 0, entry) {
-        Ok(_) => {
-            manager.operations().enter(&mut pass.operations, operation);
-            manager.operations().give(&mut pass.operations, index);
-            true
-        }
-        Err(_) => {
-            manager.operations().give(&mut pass.operations, index);
-            false
-        }
-    }
-}
-
 fn add_document<N: Name, R: Wait>(
     rt: &R,
     alloc: Global,
@@ -182,10 +61,10 @@ fn add_document<N: Name, R: Wait>(
     let Some(entry) = entry_of(alloc, number) else {
         return false;
     };
-    let operation = Operation::new(0, &entry.doc);
-    append(rt, manager, pass, entry, operation)
+    manager.append(rt, pass, 0, entry).is_ok()
 }
 
+// Whether the label could be added.
 fn add_label<N: Name, R: Wait>(
     rt: &R,
     alloc: Global,
@@ -200,8 +79,7 @@ fn add_label<N: Name, R: Wait>(
     let Some(path) = path_of(alloc, owner, number, DIMENSIONS) else {
         return false;
     };
-    let resolved = manager.writer().resolve(rt, &mut pass.labels, &path);
-    resolved.is_ok()
+    manager.resolve_each(rt, pass, &[path]).is_ok()
 }
 
 // So many labels and documents more.
@@ -280,6 +158,7 @@ fn refresh_opened<N: Name, R: Wait + Clock>(
     let Begun {
         manager,
         first: mut pass,
+        ..
     } = begin::<N, R>(rt, alloc, opened).ok()?;
     if !fill(rt, alloc, &manager, &mut pass, documents) {
         return None;

@@ -2,10 +2,10 @@ ghost use Rattle.std.specs.Prelude.{◌≡◌, ◌<◌, [], false, All, IfSome, 
 ghost use Rattle.chronicle.specs.Shown.{MayTake};
 ghost use Rattle.taxo_cache.specs.Seen.{SeesLabels};
 
-use crate::begin::{Opened, open_labels};
 use crate::naming::paths_of;
 use chronicle::Token;
 use facet_names::Path;
+use pair_fixture::{Opened, open_labels};
 use std::alloc::Global;
 use std::marker::Brand;
 use std::sync::Wait;

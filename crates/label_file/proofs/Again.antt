@@ -8,7 +8,6 @@ use Rattle.std.proofs.lemmas.Option.{slice_get-get_or, get_or_from_slice_get}
 use Rattle.facet_names.specs.Paths.{last_part}
 use Rattle.facet_names.specs.Labels.{IsLabelList, above, place, stands}
 use Rattle.facet_names.proofs.LabelLists.{fresh, parent_before, place_at, path_has_part}
-use Rattle.facet_codec.specs.Places.{Place}
 use Rattle.facet_codec.specs.Faults.{fault_at}
 use Rattle.facet_codec.specs.Spelling.{be32, text}
 use Rattle.facet_codec.specs.Reading.{u32_at, text_at}

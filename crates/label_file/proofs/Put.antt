@@ -1,6 +1,5 @@
 -- Labels that were written, one after the other.
 use Rattle.std.proofs.Common.{◌≡◌, ℕ, zero, suc, ◌<◌, pos, negsuc, List, [], ◌++◌, length, get_or, slice_get, Some, refl, sym, ap, ◌∙◌, arith, append_assoc}
-use Rattle.std.proofs.lemmas.List.FromFn.{length-map-range_with_len}
 use Rattle.std.proofs.lemmas.Option.{slice_get-get_or}
 use Rattle.facet_names.specs.Paths.{last_part}
 use Rattle.facet_names.specs.Labels.{IsLabelList, above, place}
@@ -14,9 +13,6 @@ use Rattle.facet_codec.specs.Spelling.{be32, text}
 -- ---- the parent of a label, as the arrays have it
 
 module _ (labels : List (List (List ℕ))) (arrays : ArrayLists) (are : arrays ≡ arrays_of labels) where
-  pub as_many : length arrays.parents ≡ length labels
-  as_many = ap (λ (a : ArrayLists). length a.parents) are ∙ length-map-range_with_len (λ k. or_none (parent_at labels k)) 0 (length labels)
-
   -- it stands before its child, and is the ordinal that is written
   pub parent_entry : IsLabelList labels → (ord : ℕ) → 0 < ord → ord < length labels → (parent : ℕ) × (parent < ord) × (get_or arrays.parents ord (negsuc 0) ≡ pos parent) × (parent_ordinal labels (get_or labels ord []) ≡ parent)
   parent_entry list zero some lt = absurd (omega arith)

@@ -1,31 +1,22 @@
 use facet_core::{Core, Event, Publication, run, step};
 use facet_model::Document;
-use facet_names::{Path, PathFault};
+use facet_names::Path;
 use std::alloc::Global;
 use std::test::Fail;
-
-fn author(alloc: Global, names: &[&str]) -> Result<Path, PathFault> {
-    let mut texts = Vec::new(alloc);
-    texts.push(String::from_str(alloc, "Author")?)?;
-    for name in names {
-        texts.push(String::from_str(alloc, *name)?)?;
-    }
-    Path::new(alloc, &texts)
-}
 
 /// A document with one label, behind the label and its parent.
 fn added(alloc: Global, id: &str, name: &str) -> Result<Vec<Event>, Fail> {
     let mut facets = Vec::new(alloc);
-    facets.push(author(alloc, &[name])?)?;
+    facets.push(Path::of(alloc, &["Author", name])?)?;
     let doc = Document::new(alloc, id, "", facets)?;
     let mut events = Vec::new(alloc);
     events.push(Event::Label {
         session: 1,
-        path: author(alloc, &[])?,
+        path: Path::of_dim(alloc, "Author")?,
     })?;
     events.push(Event::Label {
         session: 1,
-        path: author(alloc, &[name])?,
+        path: Path::of(alloc, &["Author", name])?,
     })?;
     events.push(Event::Append { session: 1, doc })?;
     Ok(events)
@@ -138,10 +129,10 @@ fn refreshing(alloc: Global, first: &Event) -> Result<Core, Fail> {
 // A label whose parent does not stand, a document whose label does not, and the end of a commit that did not begin.
 fn none_is_possible(alloc: Global) -> Result<bool, Fail> {
     let mut core = Core::new(alloc)?;
-    let path = author(alloc, &["Bob"])?;
+    let path = Path::of(alloc, &["Author", "Bob"])?;
     step(alloc, &mut core, &Event::Label { session: 1, path })?;
     let mut facets = Vec::new(alloc);
-    facets.push(author(alloc, &[])?)?;
+    facets.push(Path::of_dim(alloc, "Author")?)?;
     let doc = Document::new(alloc, "b1", "", facets)?;
     step(alloc, &mut core, &Event::Append { session: 1, doc })?;
     step(alloc, &mut core, &Event::DropCommit)?;

@@ -3,27 +3,19 @@ ghost use Rattle.std.specs.Prelude.{◌≡◌, ◌<◌, IfOk};
 ghost use Rattle.facet_names.specs.Labels.{GoesOn, above, stands};
 
 use facet_model::Document;
-use facet_names::{NoMemory, Path, PathFault};
+use facet_names::{NoMemory, Path};
 use std::alloc::Global;
 use std::process::Abort;
 use std::test::Fail;
 use taxo_list::{Labelled, TaxoFault, Taxonomy};
 
-pub fn path_of(alloc: Global, parts: &[&str]) -> Result<Path, PathFault> {
-    let mut texts = Vec::new(alloc);
-    for part in parts {
-        texts.push(String::from_str(alloc, *part)?)?;
-    }
-    Path::new(alloc, &texts)
-}
-
 /// The path whose components stand between slashes.
 pub fn path(alloc: Global, text: &str) -> Result<Path, Fail> {
     let mut parts = Vec::new(alloc);
     for part in text.split("/") {
-        parts.push(String::from_str(alloc, part)?)?;
+        parts.push(part)?;
     }
-    Ok(Path::new(alloc, &parts)?)
+    Ok(Path::of(alloc, &parts)?)
 }
 
 pub fn document(alloc: Global, id: &str, labels: &[&str]) -> Result<Document, Fail> {

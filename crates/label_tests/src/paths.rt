@@ -1,11 +1,10 @@
-use crate::making::path_of;
 use facet_names::{Path, PathFault};
 use std::alloc::Global;
 use std::collections::HashMap;
 use std::test::Fail;
 
 fn fault(alloc: Global, parts: &[&str]) -> Option<PathFault> {
-    match path_of(alloc, parts) {
+    match Path::of(alloc, parts) {
         Ok(_) => None,
         Err(fault) => Some(fault),
     }
@@ -32,9 +31,9 @@ const REFUSED: &[(&[&str], Option<PathFault>)] = &[
 
 // Whether the parts and the parent of a date are what they should be.
 fn is_taken_apart(alloc: Global) -> Result<bool, Fail> {
-    let date = path_of(alloc, &["Date", "2010", "10"])?;
-    let year = path_of(alloc, &["Date", "2010"])?;
-    let dim = path_of(alloc, &["Date"])?;
+    let date = Path::of(alloc, &["Date", "2010", "10"])?;
+    let year = Path::of(alloc, &["Date", "2010"])?;
+    let dim = Path::of(alloc, &["Date"])?;
     let parts = date.dim() == "Date" && year.len() == 2 && year.part(1) == "2010";
     let parents = date.parent(alloc)? == Some(year.dup(alloc)?) && dim.parent(alloc)? == None;
     let made = year.child(alloc, "10")? == date && Path::of_dim(alloc, "Date")? == dim;
@@ -43,8 +42,8 @@ fn is_taken_apart(alloc: Global) -> Result<bool, Fail> {
 }
 
 fn is_under(alloc: Global, parts: &[&str], above: &[&str]) -> Result<bool, Fail> {
-    let path = path_of(alloc, parts)?;
-    let above = path_of(alloc, above)?;
+    let path = Path::of(alloc, parts)?;
+    let above = Path::of(alloc, above)?;
     Ok(path.is_under(&above))
 }
 
@@ -71,13 +70,13 @@ fn are_in_order(alloc: Global) -> Result<bool, Fail> {
     let mut paths = Vec::new(alloc);
     let mut places = HashMap::new(alloc);
     for (place, parts) in RISING.iter().enumerate() {
-        paths.push(path_of(alloc, *parts)?)?;
-        places.insert(path_of(alloc, *parts)?, place)?;
+        paths.push(Path::of(alloc, *parts)?)?;
+        places.insert(Path::of(alloc, *parts)?, place)?;
     }
     paths.reverse();
     paths.sort()?;
     for (place, parts) in RISING.iter().enumerate() {
-        let path = path_of(alloc, *parts)?;
+        let path = Path::of(alloc, *parts)?;
         if paths.get(place) != Some(&path) || places.get(&path).copied() != Some(place) {
             return Ok(false);
         }
@@ -87,7 +86,7 @@ fn are_in_order(alloc: Global) -> Result<bool, Fail> {
 
 // Whether the path is spelled so, and read from it.
 fn is_spelled(alloc: Global, parts: &[&str], text: &str) -> Result<bool, Fail> {
-    let path = path_of(alloc, parts)?;
+    let path = Path::of(alloc, parts)?;
     let spelled = path.term_text(alloc)?;
     let read = Path::from_term_text(alloc, text)?;
     Ok(spelled.as_str() == text && read == Some(path))

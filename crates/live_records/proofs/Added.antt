@@ -10,7 +10,7 @@ use Rattle.seg_postings.proofs.Members.{is_in-either, here_in, later_in}
 use Rattle.facet_model.specs.Stored.{is_dead}
 use Rattle.live_records.specs.Live.{Live}
 use Rattle.live_records.proofs.Alive.{is_in-is_dead}
-use Rattle.std.proofs.Math.Bool.{or-true, or_assoc}
+use Rattle.std.proofs.Math.Bool.{or_assoc}
 
 or_moved : (a b c : Bool) → (c || false) || (a || b) ≡ a || (b || (c || false))
 or_moved true true true = refl

@@ -1,18 +1,25 @@
-ghost use Rattle.std.specs.Prelude.{◌≡◌, ◌≤◌, ◌++◌, ◌∷◌, [], false, true, List, IfOk, IfErr, OnOk, OnErr, length, map, take};
+ghost use Rattle.std.specs.Prelude.{◌≡◌, ◌≢◌, ◌≤◌, ◌++◌, ◌∷◌, [], false, true, ℕ, List, IfOk, IfErr, OnOk, OnErr, flat_map, length, map, take};
 ghost use Rattle.std.specs.Arc.{arc_value};
 ghost use mathlib.Core.List.{IsPrefix};
+ghost use Rattle.facet_names.specs.Labels.{prefixes};
 ghost use Rattle.facet_model.specs.ConfigTexts.{config_texts};
+ghost use Rattle.facet_model.specs.CountedPaths.{AreResolved};
 ghost use Rattle.facet_model.specs.Flags.{Config};
 ghost use Rattle.facet_model.specs.Histories.{docs};
 ghost use Rattle.facet_model.specs.Stored.{Decodes};
 ghost use Rattle.chronicle.specs.History.{entries};
 ghost use Rattle.chronicle.specs.Shown.{mine, IsNoteOf, MayTake, SameToken, SeesOn, EntersBehind};
+ghost use Rattle.seg_decoding.specs.Entries.{IsEntry};
 ghost use Rattle.taxo_cache.specs.Seen.{labels_of, SeesLabels};
+ghost use Rattle.taxo_list.specs.declared.fault.TaxoFault.TheVariants.{NoMemory as ListNoMemory};
+ghost use Rattle.taxo_writer.specs.Several.{AddsInTurn, IsFullForOne};
 ghost use Rattle.index_state.specs.Index.{opened, docs_under, DecodeUnder, AreOwn};
 ghost use Rattle.index_state.specs.Frames.{index_frame};
+ghost use Rattle.index_state.specs.declared.fault.AppendFault.TheVariants.{DocsFull};
 ghost use Rattle.pair_manager.specs.Published.{ArePublications, publication_of, frame_of, pair_frame, StandsFor, IsLast, IsNewest, seen_of};
 ghost use Rattle.pair_manager.specs.Kept.{IsPair};
 ghost use Rattle.pair_manager.specs.Passes.{IsOf, IsFirst, SamePass, all_seen};
+ghost use Rattle.pair_manager.specs.Appended.{HasNoRoom, IsPlaced};
 
 use crate::lease::Lease;
 use crate::opening::open_index;
@@ -22,14 +29,15 @@ use crate::publication::Publication;
 use crate::state::PairState;
 use chronicle::{Chronicle, Token};
 use facet_config::FacetsConfig;
+use facet_model::Resolved;
 use facet_names::{NoMemory, Path};
-use index_state::{IndexState, IndexView, Operation};
-use seg_file::Segment;
+use index_state::{AppendFault, IndexState, IndexView, Operation};
+use seg_file::{Entry, Segment};
 use std::alloc::Global;
 use std::marker::Model;
 use std::sync::{Arc, Wait};
 use taxo_cache::Name;
-use taxo_list::TaxoView;
+use taxo_list::{TaxoFault, TaxoView};
 use taxo_writer::{LabelList, TaxoWriter};
 
 /// How many operations, labels with the root, and documents the last published pair has.
@@ -169,6 +177,59 @@ impl<N: Name> Manager<N> {
         let view = index.snapshot(self.writer.labels());
         self.operations.give(token, index);
         view
+    }
+
+    /// The ordinals of the prefixes of each path, as [`TaxoWriter::resolve_each`]. The labels have one turn together where any is missing, and it is not held
+    /// afterwards.
+    pub fn resolve_each<R: Wait>(
+        &self,
+        rt: &R,
+        pass: &mut Pass,
+        paths: &[Path],
+    ) -> Result<Vec<Resolved>, TaxoFault>
+        requires own { IsOf self.now pass.old }
+        ensures same { SamePass pass.old pass.new }
+        ensures rest { (pass.new.operations ≡ pass.old.operations) × (pass.new.pairs ≡ pass.old.pairs) × (pass.new.commits ≡ pass.old.commits) }
+        ensures more { IsPrefix pass.old.labels.seen pass.new.labels.seen }
+        ensures adds { AddsInTurn (flat_map prefixes paths.now) self.now.writer.limit pass.old.labels pass.new.labels }
+        ensures resolved { IfOk result (λ v. AreResolved (labels_of pass.new.labels.seen) paths.now v.items) }
+        ensures full { IfErr result (λ e. e ≢ ListNoMemory → IsFullForOne e self.now.writer.limit (labels_of pass.new.labels.seen) paths.now) }
+    {
+        self.writer.resolve_each(rt, &mut pass.labels, paths)
+    }
+
+    /// Puts the document of an entry behind all others, as an operation of this session, and answers its place. The entry is one under the labels that the
+    /// pass has seen.
+    ///
+    /// It waits for the operations' turn, in which it only puts the document into memory, as [`IndexState::append`].
+    pub fn append<R: Wait>(
+        &self,
+        rt: &R,
+        pass: &mut Pass,
+        session: u32,
+        entry: Entry,
+    ) -> Result<u64, AppendFault>
+        requires own { IsOf self.now pass.old }
+        requires entry { (config : Config) → config_texts config ≡ pass.old.operations.frame.texts → IsEntry config (labels_of pass.old.labels.seen) entry }
+        ensures same { SamePass pass.old pass.new }
+        ensures rest { (pass.new.labels ≡ pass.old.labels) × (pass.new.pairs ≡ pass.old.pairs) × (pass.new.commits ≡ pass.old.commits) }
+        ensures placed { IfOk result (λ at. IsPlaced at (record { session = session; doc = entry.doc }) pass.old.operations pass.new.operations) }
+        ensures none { OnErr result (SeesOn pass.old.operations pass.new.operations) }
+        ensures full { IfErr result (λ e. (count : ℕ) → e ≡ DocsFull count → HasNoRoom count pass.new.operations) }
+    {
+        let operation = Operation::new(session, &entry.doc);
+        let mut index = self.operations.take(rt, &mut pass.operations);
+        match index.append(self.writer.labels(), &mut pass.labels, session, entry) {
+            Ok(at) => {
+                self.operations.enter(&mut pass.operations, operation);
+                self.operations.give(&mut pass.operations, index);
+                Ok(at)
+            }
+            Err(fault) => {
+                self.operations.give(&mut pass.operations, index);
+                Err(fault)
+            }
+        }
     }
 
     // The next pair, with all operations and labels as they then stand. It takes the view of the last one, where no label is new, and its config.

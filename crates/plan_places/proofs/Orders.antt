@@ -8,7 +8,7 @@ use Rattle.seg_postings.specs.Rising.{IsRising, is_in}
 use Rattle.seg_postings.specs.Sets.{picked, without}
 use Rattle.plan_places.specs.Planned.{Planned, any_of, all_have, is_chosen, chosen_of}
 use Rattle.plan_places.proofs.Choices.{rising_chosen}
-use Rattle.std.proofs.Math.Bool.{and_assoc, and-false}
+use Rattle.std.proofs.Math.Bool.{and_assoc}
 use Rattle.seg_postings.proofs.Members.{is_in_filter}
 
 both_as_one : (a b c : Bool) → b ≡ not c → (a && b) ≡ not (not a || c)

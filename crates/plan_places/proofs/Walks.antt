@@ -3,7 +3,7 @@ use Rattle.std.proofs.Common.{◌≡◌, ℕ, ◌+◌, ◌-◌, ◌<◌, ◌≤�
 use Rattle.std.specs.Option.{option_eq}
 use Rattle.std.proofs.lemmas.Bool.{le-leb, lt-leb, ne_eqb, eq-eqb, cases_lt}
 use Rattle.seg_postings.specs.Rising.{IsRising, IsNext, is_in, from_place, first_of}
-use Rattle.seg_postings.proofs.Order.{IsFrom, below_weaker, from_below, from_all, from_later, rising_from, from_zero}
+use Rattle.seg_postings.proofs.Order.{IsFrom, below_weaker, from_below, from_all, from_later, rising_from}
 use Rattle.seg_postings.proofs.Sets.{is_in_below, is_in_from}
 use Rattle.seg_postings.proofs.Either.{after_head, from_none}
 

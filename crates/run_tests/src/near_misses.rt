@@ -138,14 +138,6 @@ fn query(alloc: Global, draws: &mut Draws) -> Result<Query, Fail> {
     }
 }
 
-fn path(alloc: Global, parts: &[&str]) -> Result<Path, Fail> {
-    let mut texts = Vec::new(alloc);
-    for part in parts {
-        texts.push(String::from_str(alloc, *part)?)?;
-    }
-    Ok(Path::new(alloc, &texts)?)
-}
-
 const VALUES: [&str; 4] = ["0", "1", "2", "3"];
 
 // Up to two paths in each of the dimensions.
@@ -154,7 +146,7 @@ fn drill(alloc: Global, draws: &mut Draws) -> Result<Drill, Fail> {
     for dim in ["a", "b", "c"] {
         for _ in 0..draws.digit() % 3 {
             let value = VALUES[draws.digit() as usize % 4];
-            paths.push(path(alloc, &[dim, value])?)?;
+            paths.push(Path::of(alloc, &[dim, value])?)?;
         }
     }
     if paths.len() > 256 {

@@ -19,11 +19,7 @@ use taxo_list::{Labelled, TaxoView};
 
 // A search for all documents, drilled down to one author.
 fn drilled(alloc: Global, sideways: bool) -> Result<SearchAsk, Fail> {
-    let mut parts = Vec::new(alloc);
-    for part in ["Author", "Bob"] {
-        parts.push(String::from_str(alloc, part)?)?;
-    }
-    let paths = vec![in alloc; Path::new(alloc, &parts)?]?;
+    let paths = vec![in alloc; Path::of(alloc, &["Author", "Bob"])?]?;
     if paths.len() > 256 {
         return Err("one path".into());
     }

@@ -4,9 +4,8 @@ use Rattle.std.specs.declared.cmp.Ordering.{Ordering}
 use Rattle.std.specs.declared.cmp.Ordering.TheVariants.{Less, Equal, Greater}
 use Rattle.std.specs.List.{find}
 use Rattle.std.specs.Option.{option_map}
-use Rattle.std.specs.Ordering.{is_lt, is_eq, is_ne, nat_cmp, ordering_reverse, ordering_then}
+use Rattle.std.specs.Ordering.{is_lt, is_eq, is_ne, ordering_reverse, ordering_then}
 use Rattle.std.specs.Prelude.{◌≢◌, ◌==◌, Bool, cond, nat_lt}
-use Rattle.std.specs.Cmp.Lexicographic.{slice_cmp}
 use Rattle.std.specs.Str.{bytes_eq}
 use Rattle.std.proofs.lemmas.Bool.{cases_lt, eqb-true}
 use Rattle.std.proofs.lemmas.Cmp.{nat_list_cmp_total}
@@ -14,10 +13,9 @@ use Rattle.std.proofs.lemmas.Map.Text.{is_eq-slice_cmp}
 use Rattle.seg_grammar.specs.Spelling.{TermsRise}
 use Rattle.seg_grammar.specs.Lookups.{places_of_term}
 use Rattle.seg_file.specs.Search.{term_of, IsFirstFrom}
+use Rattle.facet_model.specs.Words.{word_cmp as order}
 use Rattle.facet_names.proofs.Ordered.{is_less}
-
-abbrev order : List ℕ → List ℕ → Ordering
-order a b = slice_cmp nat_cmp a b
+use Rattle.seg_terms.proofs.TermLists.{turned}
 
 -- ---- what comes before what
 
@@ -25,9 +23,6 @@ greater_is : (o : Ordering) → is_lt o ≡ false → is_eq o ≡ false → o �
 greater_is Less e f = absurd cc
 greater_is Equal e f = absurd cc
 greater_is Greater e f = refl
-
-turned : (a b : List ℕ) → order a b ≡ Greater → order b a ≡ Less
-turned a b e = nat_list_cmp_total.antisymm b a ∙ ap ordering_reverse e
 
 before : (a b c : List ℕ) → order a b ≡ Less → order b c ≡ Less → order a c ≡ Less
 before a b c e f = nat_list_cmp_total.trans a b c e f

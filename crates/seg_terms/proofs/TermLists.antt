@@ -30,8 +30,8 @@ Terms = List (List ℕ)
 
 -- ---- a term that is put among others
 
-above : (t u : List ℕ) → word_cmp t u ≡ Greater → word_cmp u t ≡ Less
-above t u e = nat_list_cmp_total.antisymm u t ∙ ap ordering_reverse e
+pub turned : (t u : List ℕ) → word_cmp t u ≡ Greater → word_cmp u t ≡ Less
+turned t u e = nat_list_cmp_total.antisymm u t ∙ ap ordering_reverse e
 
 all_above : (t u : List ℕ) (us : Terms) → word_cmp t u ≡ Less → AllByRecursion (λ y. word_cmp u y ≡ Less) us → AllByRecursion (λ y. word_cmp t y ≡ Less) us
 all_above t u [] less all = tt
@@ -54,7 +54,7 @@ put_rises (u ∷ us) t up = by (word_cmp t u) refl (put_rises us t up.1)
     by : (o : Ordering) → word_cmp t u ≡ o → IsStrictlySortedBy word_cmp (put_term us t) → IsStrictlySortedBy word_cmp (match_ordering o (t ∷ u ∷ us) (u ∷ us) (u ∷ put_term us t))
     by Less e rest = ((e, all_above t u us e up.0), up)
     by Equal e rest = up
-    by Greater e rest = (still_above u us t up.0 (above t u e), rest)
+    by Greater e rest = (still_above u us t up.0 (turned t u e), rest)
 
 put_all_rises : (us ts : Terms) → IsStrictlySortedBy word_cmp us → IsStrictlySortedBy word_cmp (fold put_term us ts)
 put_all_rises us [] up = up
@@ -159,7 +159,7 @@ same_tables (e ∷ es) (f ∷ fs) up up' same = by (word_cmp e.0 f.0) refl (same
 
     by : (o : Ordering) → word_cmp e.0 f.0 ≡ o → (((q : List ℕ) → found es q ≡ found fs q) → es ≡ fs) → e ∷ es ≡ f ∷ fs
     by Less less rest = absurd (none-some _ (sym (none_below e.0 f fs up' less) ∙ sym (same e.0) ∙ at_head e es))
-    by Greater greater rest = absurd (none-some _ (sym (none_below f.0 e es up (above e.0 f.0 greater)) ∙ same f.0 ∙ at_head f fs))
+    by Greater greater rest = absurd (none-some _ (sym (none_below f.0 e es up (turned e.0 f.0 greater)) ∙ same f.0 ∙ at_head f fs))
     by Equal equal rest =
         let head : e.0 ≡ f.0 = exact_bytes e.0 f.0 equal in
         let value : e.1 ≡ f.1 = same_Some _ _ (sym (at_head e es) ∙ same e.0 ∙ ap (found (f ∷ fs)) head ∙ at_head f fs) in

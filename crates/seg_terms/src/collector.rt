@@ -32,7 +32,7 @@ pub fn word_end(text: &[u8]) -> Option<usize>
     text.iter().position(|byte| is_blank(*byte))
 }
 
-/// Makes `term` the term of a word, which is a text: a `w` and the word.
+/// Makes `term` the term of a word, which is a text: a `w` and the word. Where memory is short it may hold the first bytes of the term.
 pub fn write_word_term(term: &mut String, word: &[u8]) -> Result<(), NoMemory>
     requires { IsUtf8 word.now }
     ensures { OnOk result (string_bytes term.new ≡ codes "w" ++ word.now) }

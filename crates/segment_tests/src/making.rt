@@ -10,26 +10,17 @@ use seg_postings::Places;
 use std::alloc::{AllocFailed, Global};
 use std::test::Fail;
 
-/// The path whose components stand between slashes.
-pub fn path(alloc: Global, text: &str) -> Result<Path, Fail> {
-    let mut parts = Vec::new(alloc);
-    for part in text.split("/") {
-        parts.push(String::from_str(alloc, part)?)?;
-    }
-    Ok(Path::new(alloc, &parts)?)
-}
-
 /// A document with these labels and leaves, for which the first leaf is counted.
 pub fn entry(
     alloc: Global,
     id: &str,
     text: &str,
-    labels: &[&str],
+    labels: &[&[&str]],
     leaves: &[u32],
 ) -> Result<Entry, Fail> {
     let mut facets = Vec::new(alloc);
     for label in labels {
-        facets.push(path(alloc, *label)?)?;
+        facets.push(Path::of(alloc, *label)?)?;
     }
     let doc = Document::new(alloc, id, text, facets)?;
     let leaves = leaves.to_vec(alloc)?;

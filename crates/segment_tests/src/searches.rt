@@ -1,5 +1,6 @@
-use crate::making::{entry, path};
+use crate::making::entry;
 use facet_model::{Drill, Query};
+use facet_names::Path;
 use plan_places::PlanPlaces;
 use query_eval::{Plan, has_path, paths_node};
 use seg_file::Segment;
@@ -10,9 +11,9 @@ use std::test::Fail;
 // Three books.
 fn books(alloc: Global) -> Result<Segment, Fail> {
     let mut entries = Vec::new(alloc);
-    entries.push(entry(alloc, "b", "Rust book", &["Author/Bob"], &[1])?)?;
-    entries.push(entry(alloc, "b", "Go book", &["Author/Lisa"], &[1])?)?;
-    entries.push(entry(alloc, "b", "rust\tGO", &["Year/2012/1"], &[1])?)?;
+    entries.push(entry(alloc, "b", "Rust book", &[&["Author", "Bob"]], &[1])?)?;
+    entries.push(entry(alloc, "b", "Go book", &[&["Author", "Lisa"]], &[1])?)?;
+    entries.push(entry(alloc, "b", "rust\tGO", &[&["Year", "2012", "1"]], &[1])?)?;
     Ok(Segment::build(alloc, &entries)?)
 }
 
@@ -21,9 +22,9 @@ fn drilled_down(rt: HostRuntime) -> Result<(), Fail> {
     let alloc = rt.alloc();
     let segment = books(alloc)?;
     let paths = vec![in alloc;
-        path(alloc, "Author/Lisa")?,
-        path(alloc, "Year")?,
-        path(alloc, "Author/Zoe")?,
+        Path::of(alloc, &["Author", "Lisa"])?,
+        Path::of(alloc, &["Year"])?,
+        Path::of(alloc, &["Author", "Zoe"])?,
     ]?;
     if paths.len() != 3 {
         return Err("three paths".into());

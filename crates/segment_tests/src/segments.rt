@@ -50,9 +50,9 @@ fn may_be_shared<T: Send + Sync>(_value: &T) -> bool {
 // The segment of the first of these documents, or of both.
 fn built(alloc: Global, both: bool) -> Result<Segment, Fail> {
     let mut entries = Vec::new(alloc);
-    entries.push(entry(alloc, "b1", "Rust", &["Author/Bob"], &[2])?)?;
+    entries.push(entry(alloc, "b1", "Rust", &[&["Author", "Bob"]], &[2])?)?;
     if both {
-        entries.push(entry(alloc, "b2", "", &["Tag/b", "Tag/a"], &[5, 4])?)?;
+        entries.push(entry(alloc, "b2", "", &[&["Tag", "b"], &["Tag", "a"]], &[5, 4])?)?;
     }
     Ok(Segment::build(alloc, &entries)?)
 }

@@ -11,12 +11,18 @@ fn library(alloc: Global) -> Result<Vec<Entry>, Fail> {
         alloc,
         "d",
         "Rust in\tRUST",
-        &["Author/Bob", "Tag/x\u{1f}y"],
+        &[&["Author", "Bob"], &["Tag", "x\u{1f}y"]],
         &[7, 7],
     )?)?;
     entries.push(entry(alloc, "d", "", &[], &[])?)?;
-    entries.push(entry(alloc, "d", " \r\n", &["Author", "Author/Ann/B"], &[7, 7])?)?;
-    entries.push(entry(alloc, "d", "Ä rust", &["Tag/x/y"], &[7])?)?;
+    entries.push(entry(
+        alloc,
+        "d",
+        " \r\n",
+        &[&["Author"], &["Author", "Ann", "B"]],
+        &[7, 7],
+    )?)?;
+    entries.push(entry(alloc, "d", "Ä rust", &[&["Tag", "x", "y"]], &[7])?)?;
     Ok(entries)
 }
 
@@ -66,7 +72,7 @@ fn written(alloc: Global, entries: &[Entry]) -> Result<Written, Fail> {
 
 // Whether the record, the counted ordinals and the terms of the book are written there.
 fn book_is_written(alloc: Global) -> Result<bool, Fail> {
-    let book = vec![in alloc; entry(alloc, "b1", "Rust", &["Author/Bob"], &[2])?]?;
+    let book = vec![in alloc; entry(alloc, "b1", "Rust", &[&["Author", "Bob"]], &[2])?]?;
     let written = written(alloc, &book)?;
     let index = &written.index;
     let records = index.records.as_slice() == [12].as_slice();

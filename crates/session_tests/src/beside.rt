@@ -13,10 +13,10 @@ use commit_turns::Start;
 use facet_disk::{Disk, MemoryDisk};
 use facet_engine::{Session, Store, System, Trace};
 use facet_model::Document;
-use facet_names::Path;
 use facet_replies::Reply;
 use facet_words::Settings;
 use facet_words::sessions::{Command, read_script};
+use pair_fixture::{label_of, name_of};
 use pair_manager::Pass;
 use std::alloc::Global;
 use std::marker::Brand;
@@ -31,23 +31,9 @@ const SESSIONS: u32 = 8;
 
 const DOCUMENTS: u32 = 20;
 
-// The id of a session's document, and the name of its label.
-fn name_of(alloc: Global, session: u32, number: u32) -> Option<String> {
-    format!(in alloc; "{session} {number}").ok()
-}
-
-fn label_of(alloc: Global, name: &str) -> Option<Path> {
-    let parts = vec![in alloc;
-        String::from_str(alloc, "Name").ok()?,
-        String::from_str(alloc, name).ok()?,
-    ]
-    .ok()?;
-    Path::new(alloc, &parts).ok()
-}
-
 fn document_of(alloc: Global, session: u32, number: u32) -> Option<Document> {
-    let name = name_of(alloc, session, number)?;
-    let facets = vec![in alloc; label_of(alloc, &name)?].ok()?;
+    let name = name_of(alloc, session, number).ok()?;
+    let facets = vec![in alloc; label_of(alloc, session, number).ok()?].ok()?;
     Document::new(alloc, &name, "", facets).ok()
 }
 
@@ -258,7 +244,7 @@ fn own_operations(alloc: Global, outcome: &Outcome, session: u32) -> Option<u32>
     let mut next = 0;
     for (id, owner) in outcome.ids.iter().zip(&outcome.trace.sessions) {
         if *owner == session {
-            if *id != name_of(alloc, session, next)? {
+            if *id != name_of(alloc, session, next).ok()? {
                 return None;
             }
             next = next.saturating_add(1);
@@ -271,7 +257,7 @@ fn own_operations(alloc: Global, outcome: &Outcome, session: u32) -> Option<u32>
 fn own_labels(alloc: Global, outcome: &Outcome, session: u32) -> Option<u32> {
     let mut next = 0;
     for path in outcome.trace.labels.paths() {
-        if *path == label_of(alloc, &name_of(alloc, session, next)?)? {
+        if *path == label_of(alloc, session, next).ok()? {
             next = next.saturating_add(1);
         }
     }

@@ -1,6 +1,5 @@
 -- What a pass finds and counts, segment by segment.
-use Rattle.std.specs.Prelude.{◌≡◌, ℕ, ◌+◌, ◌<◌, ◌≤◌, ◌++◌, ◌/◌, ◌&&◌, ◌||◌, Bool, nat_le, filter, true, false, not, List, [], ◌∷◌, length, take, map, flat_map, Option, Some, None, option_map, slice_get, slice_index_or, sum_by}
-use Rattle.std.specs.Borrow.{Bor}
+use Rattle.std.specs.Prelude.{◌≡◌, ℕ, ◌+◌, ◌<◌, ◌≤◌, ◌++◌, ◌/◌, ◌&&◌, ◌||◌, Bool, nat_le, filter, true, false, not, List, [], ◌∷◌, length, take, map, flat_map, Option, Some, None, slice_get, slice_index_or, sum_by}
 use Rattle.std.specs.List.{list_any, list_all, AllZip, AllByRecursion}
 use Rattle.std.specs.Str.{bytes_eq}
 use Rattle.facet_model.specs.CountedPaths.{places}
@@ -19,10 +18,6 @@ use Rattle.seg_postings.specs.Rising.{IsRising, is_in}
 use Rattle.seg_postings.specs.Sets.{without}
 
 -- ---- the documents of a pass
-
--- the dimension that is lifted, as bytes
-abbrev pub lifted_of : Option (Bor (List ℕ)) → Option (List ℕ)
-lifted_of lifted = option_map (λ text. text.now) lifted
 
 -- the dimension is the one that is lifted
 abbrev pub is_lifted : Option (List ℕ) → List ℕ → Bool

@@ -8,7 +8,8 @@ ghost use Rattle.facet_model.specs.QueryViews.{query_view};
 ghost use Rattle.facet_model.specs.Stored.{Decodes};
 ghost use Rattle.facet_names.specs.Labels.{IsLabelList};
 ghost use Rattle.query_eval.specs.Segments.{HasTermsOf};
-ghost use Rattle.sideways.specs.Counted.{is_drilled, lifted_of, passes_all};
+ghost use Rattle.sideways.specs.Counted.{is_drilled, passes_all};
+ghost use Rattle.facet_names.specs.Texts.{text_in};
 ghost use Rattle.sideways.specs.Kept.{AreCountsOf, IsPassOf};
 ghost use Rattle.sideways.specs.Refusals.{first_refused};
 ghost use Rattle.sideways.specs.Searches.{question_of, records_of, search_of};
@@ -40,7 +41,7 @@ fn pass_over<'a>(
 ) -> Result<Pass<'a>, NoMemory>
     requires { AllByRecursion (λ s. (docs : List Doc) × HasTermsOf s docs) (records_of segments.now) }
     ensures pass { IfOk result (λ p. IsPassOf (question_of view.now config.now segments.now ask.now)
-        (passes_all (query_view ask.now.query) ask.now.drill (lifted_of lifted.entry)) (records_of segments.now) p) }
+        (passes_all (query_view ask.now.query) ask.now.drill (text_in lifted.entry)) (records_of segments.now) p) }
     ensures list { IfOk result (λ p. IsLabelList p.counter.labels) }
 {
     let mut pass = Pass::new(alloc, view, config, segments.len())?;

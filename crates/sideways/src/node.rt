@@ -7,7 +7,8 @@ ghost use Rattle.facet_model.specs.Documents.{Doc, dim_of};
 ghost use Rattle.facet_model.specs.Queries.{matches};
 ghost use Rattle.facet_model.specs.QueryViews.{query_view};
 ghost use Rattle.query_eval.specs.Segments.{HasTermsOf};
-ghost use Rattle.sideways.specs.Counted.{AreAllOf, is_first, is_lifted, lifted_of, passes_all};
+ghost use Rattle.sideways.specs.Counted.{AreAllOf, is_first, is_lifted, passes_all};
+ghost use Rattle.facet_names.specs.Texts.{text_in};
 
 use facet_model::{Drill, Query};
 use facet_names::{NoMemory, Path};
@@ -24,7 +25,7 @@ fn has_dimension(paths: &[Path], dim: &str) -> bool
 }
 
 fn is_lifted(lifted: Option<&str>, dim: &str) -> bool
-    ensures { result ≡ is_lifted (lifted_of lifted.entry) dim.now }
+    ensures { result ≡ is_lifted (text_in lifted.entry) dim.now }
 {
     match lifted {
         Some(other) => dim == other,
@@ -35,7 +36,7 @@ fn is_lifted(lifted: Option<&str>, dim: &str) -> bool
 /// Whether the path at a place is the first of its dimension, and that is not lifted.
 pub(crate) fn is_first(drill: &[Path], at: usize, lifted: Option<&str>) -> bool
     requires { at < length drill.now }
-    ensures { result ≡ is_first drill.now at (lifted_of lifted.entry) }
+    ensures { result ≡ is_first drill.now at (text_in lifted.entry) }
 {
     let dim = drill[at].dim();
     !has_dimension(&drill[..at], dim) && !is_lifted(lifted, dim)
@@ -68,7 +69,7 @@ pub(crate) fn nodes_of<'a>(
     lifted: Option<&str>,
 ) -> Result<Vec<PlanNode<'a>>, NoMemory>
     ensures { IfOk result (λ v. (docs : List Doc) → HasTermsOf segment.now docs
-        → AreAllOf docs (passes_all (query_view query.now) drill.now (lifted_of lifted.entry)) v.items) }
+        → AreAllOf docs (passes_all (query_view query.now) drill.now (text_in lifted.entry)) v.items) }
 {
     let mut nodes = base_nodes(alloc, segment, query)?;
     let paths = drill.paths();

@@ -4,7 +4,8 @@ ghost use Rattle.facet_model.specs.QueryViews.{query_view};
 ghost use Rattle.facet_model.specs.Stored.{live_before};
 ghost use Rattle.query_eval.specs.Segments.{HasTermsOf};
 ghost use Rattle.seg_postings.specs.Rising.{IsNext};
-ghost use Rattle.sideways.specs.Counted.{AreAllOf, AreCountable, IsGrown, IsPartOf, IsSetWithin, is_near, lifted_of, lists_at, live_in, passes_all};
+ghost use Rattle.sideways.specs.Counted.{AreAllOf, AreCountable, IsGrown, IsPartOf, IsSetWithin, is_near, lists_at, live_in, passes_all};
+ghost use Rattle.facet_names.specs.Texts.{text_in};
 ghost use Rattle.sideways.specs.Parts.{IsLeft, left_of};
 
 use crate::common::{are_many, in_common};
@@ -76,7 +77,7 @@ impl<'a> Part<'a> {
         lifted: Option<&str>,
     ) -> Result<Part<'a>, NoMemory>
         requires { (docs : List Doc) × HasTermsOf segment.now docs }
-        ensures { IfOk result (λ p. IsPartOf (passes_all (query_view query.now) drill.now (lifted_of lifted.entry)) segment.now p) }
+        ensures { IfOk result (λ p. IsPartOf (passes_all (query_view query.now) drill.now (text_in lifted.entry)) segment.now p) }
     {
         let nodes = nodes_of(alloc, segment, query, drill, lifted)?;
         Part::of_nodes(alloc, segment, nodes)

@@ -232,3 +232,7 @@ module _ (parents : List ℤ) (n : ℕ) (within : n ≤ length parents) (smaller
       child_by : (i : ℕ) → i < length parents → (i < n) ⊎ (n ≤ i) → get_or (by_ordinal (length (take n parents)) (λ k. last_child (take n parents) (length (take n parents)) k) ++ replicate (length parents - n) (negsuc 0)) i (negsuc 0) ≡ or_none (last_child parents n i)
       child_by i lt (inl low) = front_entry (λ k. last_child (take n parents) (length (take n parents)) k) i low ∙ ap (λ m. or_none (last_child (take n parents) m i)) size ∙ ap or_none (last_child_front n i (omega arith))
       child_by i lt (inr high) = behind (λ k. last_child (take n parents) (length (take n parents)) k) i high lt ∙ ap or_none (sym (no_child i high n (omega arith)))
+
+-- each label has a parent in the arrays
+pub as_many_parents : (labels : List (List (List ℕ))) (arrays : ArrayLists) → arrays ≡ arrays_of labels → length arrays.parents ≡ length labels
+as_many_parents labels arrays are = ap (λ (a : ArrayLists). length a.parents) are ∙ length-map-range_with_len (λ k. or_none (parent_at labels k)) 0 (length labels)

@@ -11,7 +11,7 @@ use Rattle.facet_names.specs.Labels.{IsLabelList, above}
 use Rattle.facet_names.specs.Arrays.{parent_at}
 use Rattle.taxo_list.specs.DimLists.{is_dim, dims_below, dims_of, IsDimNumber, DimLists, AreDimLists}
 use Rattle.taxo_list.specs.Links.{parent_in, noted}
-use Rattle.taxo_list.proofs.Labels.{parent_before, place_at, root_first, some_label}
+use Rattle.taxo_list.proofs.Labels.{parent_before, place_at, root_first, root_is}
 use Rattle.taxo_list.proofs.Linked.{parents_of, length-parents_of, parent_in_labels}
 
 -- ---- paths
@@ -70,12 +70,9 @@ module _ (labels : List (List (List ℕ))) where
   module _ (is : IsLabelList labels) where
     -- ---- one label
 
-    first : slice_get labels 0 ≡ Some []
-    first = slice_get-get_or labels 0 [] (some_label labels is) ∙ ap Some (root_first labels is [])
-
     -- only the root has no component
     pub root_only : (p : ℕ) → slice_get labels p ≡ Some [] → p ≡ 0
-    root_only p at = same_Some p 0 (sym (place_at labels is p [] at) ∙ place_at labels is 0 [] first)
+    root_only p at = same_Some p 0 (sym (place_at labels is p [] at) ∙ place_at labels is 0 [] (root_is labels is))
 
     -- the parent of a label stands before it, and is the path above it
     parent_of_label : (k p : ℕ) → suc k < length labels → parent_at labels (suc k) ≡ Some p → (p < suc k) × (slice_get labels p ≡ Some (above (get_or labels (suc k) [])))
@@ -100,7 +97,7 @@ module _ (labels : List (List (List ℕ))) where
         where
           one : length (get_or labels n []) ≡ 1
           one =
-              let above_it : above (get_or labels n []) ≡ [] = same_Some (above (get_or labels n [])) [] (sym (parent_of_label k 0 lt goes).1 ∙ first) in
+              let above_it : above (get_or labels n []) ≡ [] = same_Some (above (get_or labels n [])) [] (sym (parent_of_label k 0 lt goes).1 ∙ root_is labels is) in
               one_part (get_or labels n []) (λ e. let zero_is : n ≡ 0 = root_only n (slice_get-get_or labels n [] lt ∙ ap Some e) in absurd (omega (arith, zero_is))) above_it
 
           new : ℕ

@@ -3,8 +3,9 @@ ghost use Rattle.chronicle.specs.Frame.{empty_frame};
 ghost use Rattle.chronicle.specs.Shown.{MayGive, MayTake};
 ghost use Rattle.taxo_cache.specs.Seen.{labels_of, SeesLabels};
 
-use chronicle::{Chronicle, Token};
-use facet_names::{Path, PathFault};
+use chronicle::Token;
+use facet_names::Path;
+use pair_fixture::{Opened, open_labels};
 use std::alloc::Global;
 use std::marker::Brand;
 use std::process::Abort;
@@ -15,34 +16,7 @@ use std::thread;
 use std::thread::{Threads, join};
 use std::time::{Clock, Duration};
 use taxo_cache::Name;
-use taxo_list::Taxonomy;
 use taxo_writer::{LabelList, TaxoWriter};
-
-// The chronicle of no labels but the root, with its first token.
-#[derive(Drop)]
-pub(crate) struct Opened {
-    pub(crate) labels: Chronicle<LabelList>,
-    pub(crate) first: Token<Path>,
-    ghost own: { first.identity ≡ labels },
-    ghost rests: { MayTake first },
-    ghost numbers: { (first.number ≡ 0) × (first.made ≡ 0) },
-    ghost sees: { SeesLabels first },
-    ghost framed: { first.frame ≡ empty_frame },
-}
-
-pub(crate) fn open_labels(alloc: Global) -> Option<Opened> {
-    let list = Taxonomy::new(alloc).ok()?;
-    let (labels, first) = Chronicle::open(alloc, LabelList::new(list)).ok()?;
-    Some(Opened { labels, first })
-}
-
-pub(crate) fn path_of(alloc: Global, parts: &[&str]) -> Result<Path, PathFault> {
-    let mut texts = Vec::new(alloc);
-    for part in parts {
-        texts.push(String::from_str(alloc, *part)?)?;
-    }
-    Path::new(alloc, &texts)
-}
 
 // The ordinal of the first path, where they are resolved as an add resolves the labels of its document.
 fn ordinal_of<N: Name, R: Wait>(
@@ -157,14 +131,14 @@ fn known_beside<N: Name + Send + Sync, R: Threads + Wait + Clock + Sync>(
 }
 
 fn in_room_for<R: Wait>(rt: &R, alloc: Global, room: (u32, u32)) -> Option<(u32, u32, u32)> {
-    let one = [path_of(alloc, &["Author", "Bob"]).ok()?];
-    let two = [path_of(alloc, &["Year", "2010"]).ok()?];
+    let one = [Path::of(alloc, &["Author", "Bob"]).ok()?];
+    let two = [Path::of(alloc, &["Year", "2010"]).ok()?];
     let opened = open_labels(alloc)?;
     ordinals_of::<Brand, R>(rt, alloc, opened, room, &one, &two)
 }
 
 fn while_held<R: Threads + Wait + Clock + Sync>(rt: &R, alloc: Global) -> Option<u32> {
-    let paths = [path_of(alloc, &["Author", "Bob"]).ok()?];
+    let paths = [Path::of(alloc, &["Author", "Bob"]).ok()?];
     let opened = open_labels(alloc)?;
     known_beside::<Brand, R>(rt, alloc, opened, &paths)
 }

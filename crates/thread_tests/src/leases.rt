@@ -2,8 +2,8 @@
 ghost use Rattle.std.specs.Prelude.{◌≡◌, IfSome};
 ghost use Rattle.pair_manager.specs.Passes.{IsOf};
 
-use crate::labels::{Opened, open_labels};
-use crate::pairs::{Begun, Reading, acquired, add_and_refresh, begin, read};
+use crate::pairs::{Reading, acquired, add_and_refresh, read};
+use pair_fixture::{Begun, Opened, begin, open_labels};
 use pair_manager::{Lease, Manager, Pass, release};
 use std::alloc::Global;
 use std::marker::Brand;

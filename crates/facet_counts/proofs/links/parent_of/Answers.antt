@@ -5,11 +5,12 @@ use Rattle.std.proofs.lemmas.Option.{same_Some}
 use Rattle.std.specs.Prelude.{is_some}
 use mir.Syntax.{w32}
 use Rattle.taxo_list.specs.Links.{ordinal}
-use Rattle.facet_counts.proofs.Entries.{as_many, parent_entry, has_parent}
+use Rattle.taxo_list.proofs.Linked.{as_many_parents}
+use Rattle.facet_counts.proofs.Entries.{parent_entry, has_parent}
 use Rattle.facet_counts.proofs.links.parent_of.Goals as goal
 
 pub parent-requires : goal.parent-requires
-parent-requires c = omega (arith, as_many c.args.view.now c.arrays.result.now c.arrays.ensures.arrays c.args.ord, c.requires.within)
+parent-requires c = omega (arith, as_many_parents c.args.view.now c.arrays.result.now c.arrays.ensures.arrays, c.requires.within)
 
 pub unwrap-requires : goal.unwrap-requires
 unwrap-requires c =

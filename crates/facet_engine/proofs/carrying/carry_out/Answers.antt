@@ -7,7 +7,7 @@ use Rattle.facet_words.specs.CommandViews.{search_view as line_view}
 use Rattle.facet_words.specs.Sessions.CommandViews.{command_view}
 use Rattle.facet_words.specs.declared.parts.SearchLine.{SearchLine}
 use Rattle.facet_engine.specs.Calls.{IsCall, IsCarriedOut}
-use Rattle.facet_engine.specs.Names.{name_in}
+use Rattle.facet_names.specs.Texts.{text_in}
 use Rattle.facet_engine.specs.Searches.{search_view}
 use Rattle.facet_engine.specs.Replies.{add_reply, refresh_reply, hold_reply, release_reply, search_reply, document_reply, stats_reply, commit_reply}
 use Rattle.facet_engine.specs.Steps.{step_of, last_place, refresh_place, hold_took, pair_taken}
@@ -65,7 +65,7 @@ returns-in-Search g c =
     let old = c.args.session.now in
     let new = c.search.new.session in
     let e = c.search.ensures in
-    let on = name_in c.text_of.result in
+    let on = text_in c.text_of.result in
     let s : Search = search_view c.ask_of-ask.result in
     let reply = search_reply c.search.result in
     let took = pair_taken on reply new.pass in
@@ -80,7 +80,7 @@ returns-in-Document g c =
     let old = c.args.session.now in
     let new = c.document.new.session in
     let e = c.document.ensures in
-    let on = name_in c.text_of-in-Document.result in
+    let on = text_in c.text_of-in-Document.result in
     let at = c.in-Document.at in
     let reply = document_reply at c.document.result in
     let took = pair_taken on reply new.pass in
@@ -94,7 +94,7 @@ returns-in-Stats g c =
     let old = c.args.session.now in
     let new = c.stats.new.session in
     let e = c.stats.ensures in
-    let on = name_in c.text_of-in-Stats.result in
+    let on = text_in c.text_of-in-Stats.result in
     let reply = stats_reply c.stats.result in
     let took = pair_taken on reply new.pass in
     let place = option_map (λ pair. last_place new.pass) took in

@@ -9,11 +9,12 @@ use Rattle.facet_names.specs.Paths.{last_part}
 use Rattle.facet_codec.specs.Spelling.{be32}
 use Rattle.facet_codec.specs.Laws.{IsText}
 use Rattle.label_file.specs.LabelBytes.{IsStorable}
-use Rattle.label_file.proofs.Put.{as_many, parent_entry, label_put}
+use Rattle.taxo_list.proofs.Linked.{as_many_parents}
+use Rattle.label_file.proofs.Put.{parent_entry, label_put}
 use Rattle.label_file.proofs.writing.put_label.Goals as goal
 
 pub parent-requires : goal.parent-requires
-parent-requires c = omega (arith, as_many c.args.view.now c.arrays.result.now c.arrays.ensures.arrays, c.requires.within)
+parent-requires c = omega (arith, as_many_parents c.args.view.now c.arrays.result.now c.arrays.ensures.arrays, c.requires.within)
 
 pub overflow_cast-parent : goal.overflow_cast-parent
 overflow_cast-parent c =

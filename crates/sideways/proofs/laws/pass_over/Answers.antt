@@ -4,7 +4,8 @@ use Rattle.std.proofs.lemmas.List.{take_all}
 use Rattle.facet_model.specs.Documents.{Doc}
 use Rattle.facet_model.specs.QueryViews.{query_view}
 use Rattle.query_eval.specs.Segments.{HasTermsOf}
-use Rattle.sideways.specs.Counted.{IsPartOf, lifted_of, passes_all}
+use Rattle.sideways.specs.Counted.{IsPartOf, passes_all}
+use Rattle.facet_names.specs.Texts.{text_in}
 use Rattle.sideways.specs.Kept.{IsPassOf}
 use Rattle.sideways.specs.Searches.{question_of, records_of}
 use Rattle.sideways.proofs.Gathered.{mapped_at, pass_more, pass_starts}
@@ -12,7 +13,7 @@ use Rattle.sideways.proofs.laws.pass_over.Goals as goal
 
 pub loop-segment-init : goal.loop-segment-init
 loop-segment-init c = record {
-  pass = pass_starts (question_of c.args.view.now c.args.config.now c.args.segments.now c.args.ask.now) (passes_all (query_view c.args.ask.now.query) c.args.ask.now.drill (lifted_of c.args.lifted)) c.in_ok-pass.pass c.in_ok-pass.ensures.none c.in_ok-pass.ensures.fresh c.in_ok-pass.ensures.labels
+  pass = pass_starts (question_of c.args.view.now c.args.config.now c.args.segments.now c.args.ask.now) (passes_all (query_view c.args.ask.now.query) c.args.ask.now.drill (text_in c.args.lifted)) c.in_ok-pass.pass c.in_ok-pass.ensures.none c.in_ok-pass.ensures.fresh c.in_ok-pass.ensures.labels
       c.in_ok-pass.ensures.config;
   list = c.in_ok-pass.ensures.list;
 }
@@ -26,7 +27,7 @@ pub loop-segment-preserved : goal.loop-segment-preserved
 loop-segment-preserved c =
     let q = question_of c.args.view.now c.args.config.now c.args.segments.now c.args.ask.now in
     let query = query_view c.args.ask.now.query in
-    let lift = lifted_of c.args.lifted in
+    let lift = text_in c.args.lifted in
     let test : Doc → Bool = passes_all query c.args.ask.now.drill lift in
     let part : IsPartOf test (arc_value c.segment-item.result) c.in_ok-part.part =
     subst (λ s. IsPartOf test s c.in_ok-part.part) c.deref.ensures c.in_ok-part.ensures in
@@ -37,5 +38,5 @@ loop-segment-preserved c =
 
 pub returns-clause-pass : goal.returns-clause-pass
 returns-clause-pass c =
-    subst (λ xs. IsPassOf (question_of c.args.view.now c.args.config.now c.args.segments.now c.args.ask.now) (passes_all (query_view c.args.ask.now.query) c.args.ask.now.drill (lifted_of c.args.lifted)) (records_of xs) c.loop-segment.pass)
+    subst (λ xs. IsPassOf (question_of c.args.view.now c.args.config.now c.args.segments.now c.args.ask.now) (passes_all (query_view c.args.ask.now.query) c.args.ask.now.drill (text_in c.args.lifted)) (records_of xs) c.loop-segment.pass)
     (take_all c.loop-segment.segment-index c.args.segments.now (omega arith)) c.loop-segment.invariant.pass

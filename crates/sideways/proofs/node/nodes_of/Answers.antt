@@ -5,7 +5,8 @@ use Rattle.facet_model.specs.Documents.{dim_of}
 use Rattle.facet_model.specs.Hits.{passes}
 use Rattle.facet_model.specs.Queries.{matches}
 use Rattle.facet_model.specs.QueryViews.{query_view}
-use Rattle.sideways.specs.Counted.{AreAllOf, lifted_of, passes_all, passes_each}
+use Rattle.sideways.specs.Counted.{AreAllOf, passes_all, passes_each}
+use Rattle.facet_names.specs.Texts.{text_in}
 use Rattle.sideways.proofs.Narrowed.{dim_at, narrowed, passed_over, push_all, same_all}
 use Rattle.sideways.proofs.node.nodes_of.Goals as goal
 use Rattle.sideways.proofs.node.nodes_of.Goals.{then-is_first+in_ok-node+in_ok-push, else-is_first}
@@ -14,7 +15,7 @@ pub loop-at-preserved : goal.loop-at-preserved
 loop-at-preserved c = λ docs are.
     let q = query_view c.args.query.now in
     let drill : List (List (List ℕ)) = c.paths-paths.result.now in
-    let lift = lifted_of c.args.lifted in
+    let lift = text_in c.args.lifted in
     let i : ℕ = c.loop-at.at in
     elim c.if-is_first.branch [
       | then-is_first+in_ok-node+in_ok-push w ↦
@@ -33,7 +34,7 @@ loop-at-preserved c = λ docs are.
 pub returns : goal.returns
 returns c = λ docs are.
     let q = query_view c.args.query.now in
-    let lift = lifted_of c.args.lifted in
+    let lift = text_in c.args.lifted in
     let paths : List (List (List ℕ)) = c.paths-paths.result.now in
     subst (λ ps. AreAllOf docs (passes_all q ps lift) c.loop-at.nodes.items) c.paths-paths.ensures.paths
     (subst (λ ps. AreAllOf docs (λ doc. matches q doc && passes_each paths lift ps doc) c.loop-at.nodes.items) (take_all c.loop-at.at paths (omega arith)) (c.loop-at.invariant docs are))

@@ -5,7 +5,7 @@ use Rattle.facet_engine.specs.Showing.{IsShownIn}
 use Rattle.facet_engine.specs.Sessions.{HasSeen}
 use Rattle.facet_output.specs.Steps.{IsStep}
 use Rattle.facet_engine.specs.HeldPairs.{numbers_held}
-use Rattle.facet_engine.specs.Names.{name_in}
+use Rattle.facet_names.specs.Texts.{text_in}
 use Rattle.facet_engine.specs.declared.showing.DocumentFault.TheVariants as documents
 use Rattle.facet_engine.specs.Steps.{documented}
 use Rattle.facet_engine.proofs.Naming.{all_under}
@@ -31,7 +31,7 @@ returns-in-Some-find-clause-step g c settings phase line is =
     let pass = session.pass in
     let pair = c.in-Some-find.lease.now in
     let seen = all_under (HasSeen pass) session.held c.in-Some.name.now pair session.seen c.in-Some-find.ensures in
-    subst (λ (on : Option (List ℕ)). IsStep settings (numbers_held session.held) (documented on c.args.at session.pass c.args.session.now.pass c.show_pair.result phase line)) (sym (ap name_in c.in-Some.is))
+    subst (λ (on : Option (List ℕ)). IsStep settings (numbers_held session.held) (documented on c.args.at session.pass c.args.session.now.pass c.show_pair.result phase line)) (sym (ap text_in c.in-Some.is))
     (document_under settings session.held phase line session.number pass pass session.numbers (same_pass pass) (sees_self pass.labels) (sees_self pass.operations) (sees_self pass.pairs) refl pair seen
     c.in-Some.name.now c.args.at c.in-Some-find.ensures c.show_pair.result
     (λ other. subst (λ (p : Published). IsShownIn p c.args.at (document_reply c.args.at c.show_pair.result)) c.pair.ensures (c.show_pair.ensures other)))
@@ -40,7 +40,7 @@ pub returns-in-None-find-clause-step : goal.returns-in-None-find-clause-step
 returns-in-None-find-clause-step g c settings phase line is =
     let session = c.args.session.now in
     let pass = session.pass in
-    subst (λ (on : Option (List ℕ)). IsStep settings (numbers_held session.held) (documented on c.args.at session.pass c.args.session.now.pass (Err documents.NotHeld) phase line)) (sym (ap name_in c.in-Some.is))
+    subst (λ (on : Option (List ℕ)). IsStep settings (numbers_held session.held) (documented on c.args.at session.pass c.args.session.now.pass (Err documents.NotHeld) phase line)) (sym (ap text_in c.in-Some.is))
     (document_not_held settings session.held phase line session.number pass pass session.numbers (same_pass pass) (sees_self pass.labels) (sees_self pass.operations) (sees_self pass.pairs) refl
     c.in-Some.name.now c.args.at c.in-None-find.ensures)
 
@@ -52,7 +52,7 @@ returns-in-Ok-clause-step g c settings phase line is =
     let e = c.in-Ok.ensures in
     let pair = c.in-Ok.lease in
     let seen = acquired old new pair e.same e.told.0 e.told.1 e.frame in
-    subst (λ (on : Option (List ℕ)). IsStep settings (numbers_held session.held) (documented on c.args.at session.pass c.acquire.new.pass c.show_pair-in-Ok.result phase line)) (sym (ap name_in c.in-None.is))
+    subst (λ (on : Option (List ℕ)). IsStep settings (numbers_held session.held) (documented on c.args.at session.pass c.acquire.new.pass c.show_pair-in-Ok.result phase line)) (sym (ap text_in c.in-None.is))
     (document_last settings session.held phase line session.number old new session.numbers e.same e.labels e.operations e.pairs e.commits pair seen c.args.at e.last c.show_pair-in-Ok.result
     (λ other. subst (λ (p : Published). IsShownIn p c.args.at (document_reply c.args.at c.show_pair-in-Ok.result)) c.pair-in-Ok.ensures (c.show_pair-in-Ok.ensures other)))
 
@@ -60,5 +60,5 @@ pub returns-in-Err-clause-step : goal.returns-in-Err-clause-step
 returns-in-Err-clause-step g c settings phase line is =
     let session = c.args.session.now in
     let e = c.in-Err.ensures in
-    subst (λ (on : Option (List ℕ)). IsStep settings (numbers_held session.held) (documented on c.args.at session.pass c.acquire.new.pass (Err documents.NoMemory) phase line)) (sym (ap name_in c.in-None.is))
+    subst (λ (on : Option (List ℕ)). IsStep settings (numbers_held session.held) (documented on c.args.at session.pass c.acquire.new.pass (Err documents.NoMemory) phase line)) (sym (ap text_in c.in-None.is))
     (document_without_memory settings session.held phase line session.number session.pass c.acquire.new.pass session.numbers e.same e.labels e.operations e.pairs e.commits None c.args.at)

@@ -7,7 +7,7 @@ use Rattle.facet_engine.specs.declared.holding.NotHeld.{NotHeld}
 use Rattle.facet_engine.specs.Sessions.{HasSeen}
 use Rattle.facet_output.specs.Steps.{IsStep}
 use Rattle.facet_engine.specs.HeldPairs.{numbers_held}
-use Rattle.facet_engine.specs.Names.{name_in}
+use Rattle.facet_names.specs.Texts.{text_in}
 use Rattle.facet_engine.specs.Steps.{counted}
 use Rattle.facet_engine.proofs.Naming.{all_under}
 use Rattle.facet_engine.proofs.PairReplies.{stats_last, stats_under, stats_not_held}
@@ -32,7 +32,7 @@ returns-in-Some-find-clause-step g c settings phase line is =
     let pass = session.pass in
     let pair = c.in-Some-find.lease.now in
     let seen = all_under (HasSeen pass) session.held c.in-Some.name.now pair session.seen c.in-Some-find.ensures in
-    subst (λ (on : Option (List ℕ)). IsStep settings (numbers_held session.held) (counted {E = NotHeld} on session.pass c.args.session.now.pass (Ok (record { operations = c.operations.result; labels = c.size.result; documents = c.documents.result })) phase line)) (sym (ap name_in c.in-Some.is))
+    subst (λ (on : Option (List ℕ)). IsStep settings (numbers_held session.held) (counted {E = NotHeld} on session.pass c.args.session.now.pass (Ok (record { operations = c.operations.result; labels = c.size.result; documents = c.documents.result })) phase line)) (sym (ap text_in c.in-Some.is))
     (stats_under settings session.held phase line session.number pass pass session.numbers (same_pass pass) (sees_self pass.labels) (sees_self pass.operations) (sees_self pass.pairs) refl pair seen NotHeld
     c.in-Some.name.now (record { operations = c.operations.result; labels = c.size.result; documents = c.documents.result }) c.in-Some-find.ensures
     (c.operations.ensures ∙ ap (λ (p : Published). length p.history.seen) c.pair-pair.ensures)
@@ -44,12 +44,12 @@ returns-in-None-find-clause-step g c settings phase line is =
     let session = c.args.session.now in
     let fault : NotHeld = record {} in
     let pass = session.pass in
-    subst (λ (on : Option (List ℕ)). IsStep settings (numbers_held session.held) (counted {E = NotHeld} on session.pass c.args.session.now.pass (Err fault) phase line)) (sym (ap name_in c.in-Some.is))
+    subst (λ (on : Option (List ℕ)). IsStep settings (numbers_held session.held) (counted {E = NotHeld} on session.pass c.args.session.now.pass (Err fault) phase line)) (sym (ap text_in c.in-Some.is))
     (stats_not_held settings session.held phase line session.number pass pass session.numbers (same_pass pass) (sees_self pass.labels) (sees_self pass.operations) (sees_self pass.pairs) refl c.in-Some.name.now fault c.in-None-find.ensures)
 
 pub returns-in-None-clause-step : goal.returns-in-None-clause-step
 returns-in-None-clause-step g c settings phase line is =
     let session = c.args.session.now in
     let e = c.stats.ensures in
-    subst (λ (on : Option (List ℕ)). IsStep settings (numbers_held session.held) (counted {E = NotHeld} on session.pass c.stats.new.pass (Ok c.stats.result) phase line)) (sym (ap name_in c.in-None.is))
+    subst (λ (on : Option (List ℕ)). IsStep settings (numbers_held session.held) (counted {E = NotHeld} on session.pass c.stats.new.pass (Ok c.stats.result) phase line)) (sym (ap text_in c.in-None.is))
     (stats_last settings session.held phase line session.number session.pass c.stats.new.pass session.numbers e.same e.labels e.operations e.pairs e.commits NotHeld c.stats.result e.last e.documents e.told.0 e.told.1)

@@ -2,7 +2,7 @@ use Rattle.std.proofs.Common.{rules, ◌≡◌, ◌∙◌, sym}
 use Rattle.std.specs.Arc.{arc_value}
 use Rattle.index_state.specs.Frames.{index_frame}
 use Rattle.pair_manager.specs.Published.{pair_frame}
-use Rattle.thread_tests.proofs.pairs.begin.Goals as goal
+use Rattle.pair_fixture.proofs.passes.begin.Goals as goal
 
 pub passes_of-requires-clause-index_frame : goal.passes_of-requires-clause-index_frame
 passes_of-requires-clause-index_frame g c =

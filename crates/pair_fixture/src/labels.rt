@@ -1,4 +1,5 @@
 ghost use Rattle.std.specs.Prelude.{◌≡◌};
+ghost use Rattle.chronicle.specs.Frame.{empty_frame};
 ghost use Rattle.chronicle.specs.Shown.{MayTake};
 ghost use Rattle.taxo_cache.specs.Seen.{SeesLabels};
 
@@ -17,8 +18,10 @@ pub struct Opened {
     ghost rests: { MayTake first },
     ghost numbers: { (first.number ≡ 0) × (first.made ≡ 0) },
     ghost sees: { SeesLabels first },
+    ghost framed: { first.frame ≡ empty_frame },
 }
 
+/// Opens a list of no label; `None` without memory.
 pub fn open_labels(alloc: Global) -> Option<Opened> {
     let list = Taxonomy::new(alloc).ok()?;
     let (labels, first) = Chronicle::open(alloc, LabelList::new(list)).ok()?;

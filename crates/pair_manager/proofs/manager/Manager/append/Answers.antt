@@ -8,8 +8,8 @@ use Rattle.chronicle.proofs.Prefixes.{prefix_self, prefix_trans}
 use Rattle.facet_model.specs.Histories.{Operation}
 use Rattle.pair_manager.proofs.Publishing.{still_right}
 use Rattle.taxo_cache.specs.Seen.{SeesLabels}
-use Rattle.facet_engine.proofs.Appended.{all_one, room_left, is_full}
-use Rattle.facet_engine.proofs.adding.append_entry.Goals as goal
+use Rattle.pair_manager.proofs.Appended.{all_one, room_left, is_full}
+use Rattle.pair_manager.proofs.manager.Manager.append.Goals as goal
 
 pub append-requires-clause-entry : goal.append-requires-clause-entry
 append-requires-clause-entry g c = c.requires.entry c.take-index.result.config (ap (λ (f : Frame). f.texts) (c.take-index.ensures.value.1 ∙ c.take-index.ensures.turn.0.4))
@@ -27,7 +27,7 @@ returns-in-Ok-clause-placed g c =
         between = seen;
         on = t.ensures.more.0;
         none = (λ i. own_of (sym same.2 i) (sym same.0 i) seen) ∙ t.ensures.more.1;
-        seen = c.give.ensures.seen.0 ∙ c.enter.ensures.added ∙ (λ i. seen ++ (same.0 i, c.args.operation) ∷ []);
+        seen = c.give.ensures.seen.0 ∙ c.enter.ensures.added ∙ (λ i. seen ++ (same.0 i, c.new-operation.ensures i) ∷ []);
       };
       place = place ∙ size;
       room = subst (All (λ most. c.in-Ok.at < most)) (ap (λ (f : Frame). f.numbers) (t.ensures.value.1 ∙ same.4)) (all_one (λ most. c.in-Ok.at < most) t.result.max_docs low);

@@ -1,0 +1,11 @@
+//! What tests and measurements of published pairs begin with: the chronicle of no label, a manager over no documents with two passes, and names for what
+//! sessions add.
+#![tactic(auto)]
+
+mod labels;
+mod names;
+mod passes;
+
+pub use labels::{Opened, open_labels};
+pub use names::{label_of, name_of};
+pub use passes::{Begun, begin};

@@ -1,0 +1,20 @@
+ghost use Rattle.std.specs.Prelude.{◌≡◌, IfOk, string_bytes};
+ghost use Rattle.pair_fixture.specs.Names.{label_of, name_of};
+
+use facet_names::{NoMemory, Path, PathFault};
+use std::alloc::Global;
+
+/// The id of the document of this number that the session adds, and the name of its label.
+pub fn name_of(alloc: Global, session: u32, number: u32) -> Result<String, NoMemory>
+    ensures { IfOk result (λ t. string_bytes t ≡ name_of session number) }
+{
+    Ok(format!(in alloc; "{session} {number}")?)
+}
+
+/// The label of that document: of two components, and no two are equal. The fault is that of want of memory.
+pub fn label_of(alloc: Global, session: u32, number: u32) -> Result<Path, PathFault>
+    ensures { IfOk result (λ p. p ≡ label_of session number) }
+{
+    let name = name_of(alloc, session, number)?;
+    Path::of(alloc, &["Name", &name])
+}
