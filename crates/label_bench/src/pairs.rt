@@ -2,8 +2,7 @@ ghost use Rattle.std.specs.Prelude.{◌≡◌, [], IfSome};
 ghost use Rattle.pair_manager.specs.Passes.{IsOf};
 
 use crate::naming::path_of;
-use facet_model::{Counted, Document};
-use pair_fixture::{Begun, Opened, begin, open_labels};
+use pair_fixture::{Begun, Opened, bare_entry, begin, open_labels};
 use pair_manager::{Manager, Pass, release};
 use seg_file::Entry;
 use std::alloc::Global;
@@ -39,12 +38,7 @@ fn entry_of(alloc: Global, number: u32) -> Option<Entry>
     } else {
         "item odd"
     };
-    let doc = Document::new(alloc, &id, text, Vec::new(alloc)).ok()?;
-    Some(Entry {
-        doc,
-        leaves: Vec::new(alloc),
-        counted: Counted::new(Vec::new(alloc)),
-    })
+    bare_entry(alloc, &id, text).ok()
 }
 
 // Whether the document could be added.

@@ -1,4 +1,4 @@
-ghost use Rattle.std.specs.Prelude.{◌≡◌};
+ghost use Rattle.std.specs.Prelude.{◌≡◌, []};
 ghost use Rattle.chronicle.specs.Frame.{empty_frame};
 ghost use Rattle.chronicle.specs.Shown.{MayTake};
 ghost use Rattle.taxo_cache.specs.Seen.{SeesLabels};
@@ -18,6 +18,7 @@ pub struct Opened {
     ghost rests: { MayTake first },
     ghost numbers: { (first.number ≡ 0) × (first.made ≡ 0) },
     ghost sees: { SeesLabels first },
+    ghost none: { first.seen ≡ [] },
     ghost framed: { first.frame ≡ empty_frame },
 }
 

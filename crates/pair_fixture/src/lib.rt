@@ -1,11 +1,13 @@
-//! What tests and measurements of published pairs begin with: the chronicle of no label, a manager over no documents with two passes, and names for what
-//! sessions add.
+//! What tests and measurements of published pairs begin with: the chronicle of no label, a manager over no documents with two passes, and names and
+//! entries for what sessions add.
 #![tactic(auto)]
 
+mod entries;
 mod labels;
 mod names;
 mod passes;
 
+pub use entries::bare_entry;
 pub use labels::{Opened, open_labels};
 pub use names::{label_of, name_of};
 pub use passes::{Begun, begin};

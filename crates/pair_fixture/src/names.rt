@@ -11,10 +11,15 @@ pub fn name_of(alloc: Global, session: u32, number: u32) -> Result<String, NoMem
     Ok(format!(in alloc; "{session} {number}")?)
 }
 
-/// The label of that document: of two components, and no two are equal. The fault is that of want of memory.
-pub fn label_of(alloc: Global, session: u32, number: u32) -> Result<Path, PathFault>
+#[tactic(auto, using(crate::proofs::Fitting::label_fits))]
+/// The label of that document: of two components, and no two are equal.
+pub fn label_of(alloc: Global, session: u32, number: u32) -> Result<Path, NoMemory>
     ensures { IfOk result (λ p. p ≡ label_of session number) }
 {
     let name = name_of(alloc, session, number)?;
-    Path::of(alloc, &["Name", &name])
+    match Path::of(alloc, &["Name", &name]) {
+        Ok(path) => Ok(path),
+        Err(PathFault::NoMemory) => Err(NoMemory),
+        Err(_) => unreachable!(),
+    }
 }

@@ -5,7 +5,7 @@ ghost use Rattle.chronicle.specs.Shown.{MayTake};
 ghost use Rattle.taxo_cache.specs.Seen.{SeesLabels};
 ghost use Rattle.index_state.specs.Frames.{index_frame};
 ghost use Rattle.pair_manager.specs.Published.{ArePublications, pair_frame, seen_of};
-ghost use Rattle.pair_manager.specs.Passes.{IsOf, IsFirst};
+ghost use Rattle.pair_manager.specs.Passes.{IsOf, IsFirst, all_seen};
 
 use crate::labels::Opened;
 use chronicle::{Chronicle, Standing, Token};
@@ -68,6 +68,10 @@ fn passes_of<N: Name>(
     requires pair_frame { pairs.frame ≡ pair_frame (arc_value config) manager.now.operations manager.now.writer.labels }
     ensures first { IfOk result (λ r. IsOf manager.now r.0) }
     ensures second { IfOk result (λ r. IsOf manager.now r.1) }
+    ensures none { IfOk result (λ r. (r.0.operations.seen ≡ []) × (r.1.operations.seen ≡ [])) }
+    ensures numbers { IfOk result (λ r. (r.0.operations.number ≡ 0) × (r.1.operations.number ≡ 1)) }
+    ensures frame { IfOk result (λ r. r.0.operations.frame ≡ operations.frame) }
+    ensures published { IfOk result (λ r. entries r.0.pairs.seen ≡ all_seen r.0 ∷ []) }
 {
     let value = Commits {
         operations: manager.operations().note(&mut operations),
@@ -95,6 +99,11 @@ fn passes_of<N: Name>(
 /// Publishes the pair of no documents, over these labels: of 16 stripes that have room for 4,096 paths each, and of at most a million labels and documents.
 pub fn begin<N: Name, R: Wait>(rt: &R, alloc: Global, opened: Opened) -> Result<Begun<N>, NoMemory>
     requires { opened.labels ≡ N.labels }
+    ensures writer { IfOk result (λ b. b.manager.writer ≡ record { labels = opened.labels; limit = 1000000 }) }
+    ensures none { IfOk result (λ b. (b.first.operations.seen ≡ []) × (b.second.operations.seen ≡ [])) }
+    ensures numbers { IfOk result (λ b. (b.first.operations.number ≡ 0) × (b.second.operations.number ≡ 1)) }
+    ensures frame { IfOk result (λ b. b.first.operations.frame ≡ index_frame [] 1000000 opened.labels) }
+    ensures published { IfOk result (λ b. entries b.first.pairs.seen ≡ all_seen b.first ∷ []) }
 {
     let Opened { labels, mut first } = opened;
     let config = Arc::new(alloc, FacetsConfig::new(alloc))?;

@@ -1,12 +1,11 @@
 //! Passes that add documents and labels, and refresh.
-ghost use Rattle.std.specs.Prelude.{◌≡◌, [], IfSome};
+ghost use Rattle.std.specs.Prelude.{◌≡◌, IfSome};
 ghost use Rattle.pair_manager.specs.Passes.{IsOf};
 
-use facet_model::{Counted, Document};
 use facet_names::Path;
-use pair_fixture::{Begun, Opened, begin, label_of, name_of, open_labels};
+use pair_fixture::{Begun, Opened, bare_entry, begin, label_of, name_of, open_labels};
 use pair_manager::{Lease, Manager, Pass, release};
-use seg_file::{Entry, Segment};
+use seg_file::Segment;
 use std::alloc::Global;
 use std::marker::Brand;
 use std::process::Abort;
@@ -15,19 +14,6 @@ use std::test::Fail;
 use std::thread::{Threads, join};
 use taxo_cache::Name;
 use taxo_list::Labelled;
-
-// A document without a facet.
-fn entry_of(alloc: Global, session: u32, number: u32) -> Option<Entry>
-    ensures { IfSome result (λ e. (e.doc.labels ≡ []) × (e.leaves.items ≡ []) × (e.counted ≡ [])) }
-{
-    let name = name_of(alloc, session, number).ok()?;
-    let doc = Document::new(alloc, &name, "", Vec::new(alloc)).ok()?;
-    Some(Entry {
-        doc,
-        leaves: Vec::new(alloc),
-        counted: Counted::new(Vec::new(alloc)),
-    })
-}
 
 // The document's place, where it and its label could be added.
 fn add<N: Name, R: Wait>(
@@ -43,7 +29,10 @@ fn add<N: Name, R: Wait>(
 {
     let labels = vec![in alloc; label_of(alloc, session, number).ok()?].ok()?;
     manager.resolve_each(rt, pass, &labels).ok()?;
-    let entry = entry_of(alloc, session, number)?;
+    let name = name_of(alloc, session, number).ok()?;
+    let Ok(entry) = bare_entry(alloc, &name, "") else {
+        return None;
+    };
     manager.append(rt, pass, session, entry).ok()
 }
 
