@@ -3,7 +3,9 @@ use Rattle.std.proofs.Common.{◌≡◌, ℕ, ◌+◌, ◌<◌, ◌≤◌, Bool,
 use Rattle.std.proofs.lemmas.Bool.Decides.{nat_tests}
 use Rattle.std.specs.declared.alloc.Global.{Global}
 use Rattle.std.specs.Prelude.{◌==◌, nat_lt, Option, Some, None, zero, suc, take, true, false, cond, slice_get}
-use Rattle.std.proofs.Common.{◌++◌}
+use Rattle.std.proofs.Common.{◌++◌, ◌^◌}
+use Rattle.std.specs.Fmt.{decimal}
+use Rattle.std.proofs.lemmas.Fmt.{decimal_nonempty, length-decimal-le}
 use Rattle.std.proofs.lemmas.List.{length-append, length-map, length-take-le, get_or-map, map-append, take_more}
 use Rattle.std.proofs.lemmas.Option.{slice_get-get_or}
 use Rattle.facet_names.specs.Paths.{texts}
@@ -68,9 +70,9 @@ child_fault ps p fits =
 
 -- ---- the parts of a path have 1 to 1,024 bytes
 
-record IsSized (p : List ℕ) : Type 0 where
-  some : 0 < length p
-  short : length p ≤ 1024
+pub record IsSized (p : List ℕ) : Type 0 where
+  pub some : 0 < length p
+  pub short : length p ≤ 1024
 
 sized : (at : ℕ) (ps : List (List ℕ)) → part_fault at ps ≡ None → (i : ℕ) (p : List ℕ) → slice_get ps i ≡ Some p → IsSized p
 sized at [] e i p is = absurd cc
@@ -86,3 +88,27 @@ text_at xs i s p lt is text = slice_get-get_or (texts xs) i [] (omega (arith, le
 
 pub part_is_short : (xs : List (String Global)) (i : ℕ) (s : String Global) (p : List ℕ) → IsPath (texts xs) → i < length xs → s ≡ get_or xs i s → p ≡ string_bytes s → length p ≤ 1024
 part_is_short xs i s p fits lt is text = (sized 0 (texts xs) (part_of_path (texts xs) fits).0 i p (text_at xs i s p lt is text)).short
+
+-- ---- few parts that have so many bytes are a path
+
+tests : (p : List ℕ) → IsSized p → ((length p == 0) ≡ false) × (nat_lt 1024 (length p) ≡ false)
+tests p of_p = (grind (arith, nat_tests, of_p.some), grind (arith, nat_tests, of_p.short))
+
+pub two_parts : (a b : List ℕ) → IsSized a → IsSized b → IsPath (a ∷ b ∷ [])
+two_parts a b of_a of_b = rw ((tests a of_a).0, (tests a of_a).1, (tests b of_b).0, (tests b of_b).1) refl
+
+pub three_parts : (a b c : List ℕ) → IsSized a → IsSized b → IsSized c → IsPath (a ∷ b ∷ c ∷ [])
+three_parts a b c of_a of_b of_c = rw ((tests a of_a).0, (tests a of_a).1, (tests b of_b).0, (tests b of_b).1, (tests c of_c).0, (tests c of_c).1) refl
+
+-- ---- numbers as parts
+
+-- a number of 32 bits has one to ten digits
+pub digits : (n : ℕ) → n < 2 ^ 32 → (0 < length (decimal n)) × (length (decimal n) ≤ 10)
+digits n few = (decimal_nonempty n (omega (arith, few)), length-decimal-le 10 n (omega arith) (omega (arith, few)) (omega (arith, few)))
+
+pub number : (n : ℕ) → n < 2 ^ 32 → IsSized (decimal n)
+number n few = let both = digits n few in record { some = both.0; short = omega (arith, both.1) }
+
+-- behind a letter
+pub numbered : (c n : ℕ) → n < 2 ^ 32 → IsSized (c ∷ decimal n)
+numbered c n few = let both = digits n few in record { some = omega arith; short = omega (arith, both.1) }

@@ -106,6 +106,18 @@ impl Path {
         Path::new(alloc, &texts)
     }
 
+    /// The path of these components, as [`of`](Path::of), where it is known that they make one. Memory that is short is all that it can lack.
+    pub fn of_valid(alloc: Global, parts: &[&str]) -> Result<Path, NoMemory>
+        requires { IsPath (texts_in parts.now) }
+        ensures { IfOk result (λ p. p ≡ texts_in parts.now) }
+    {
+        match Path::of(alloc, parts) {
+            Ok(path) => Ok(path),
+            Err(PathFault::NoMemory) => Err(NoMemory),
+            Err(_) => unreachable!(),
+        }
+    }
+
     #[tactic(auto, using(crate::proofs::Blocks::path_block))]
     /// The path of one component, a dimension alone. It is refused as `new` refuses it, before anything is copied.
     pub fn of_dim(alloc: Global, dim: &str) -> Result<Path, PathFault>

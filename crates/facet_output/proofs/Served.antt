@@ -1,5 +1,5 @@
 -- One session that ran alone was served on the shelf that `facet_words` speaks of.
-use Rattle.std.proofs.Common.{◌≡◌, ◌⊎◌, inl, inr, ⊎_elim, ℕ, ◌+◌, ◌≤◌, ◌<◌, ◌^◌, Bool, true, false, List, [], ◌∷◌, ◌++◌, length, map, Option, Some, None, slice_get, refl, sym, ap, ◌∙◌, subst, arith, length-append}
+use Rattle.std.proofs.Common.{◌≡◌, ◌⊎◌, inl, inr, ⊎_elim, ℕ, ◌≤◌, ◌<◌, ◌^◌, Bool, true, false, List, [], ◌∷◌, ◌++◌, length, map, Option, Some, None, slice_get, refl, sym, ap, ◌∙◌, subst, arith, length-append}
 use Rattle.std.specs.Prelude.{take, drop, flat_map, filter_map, nat_lt, nat_le, option_to_list, option_map, unwrap_or, IfSome, IsTrue}
 use Rattle.std.specs.List.{list_all, enumerate_from, cons_option}
 use Rattle.std.proofs.lemmas.Bool.{both_ways, cases_lt, lt-ltb, le-ltb, le-leb, lt-leb}
@@ -25,7 +25,7 @@ use Rattle.facet_output.specs.OneShelf.{command_of, order_of, Served, OneSession
 use Rattle.facet_output.specs.Output.{Opened}
 use Rattle.facet_output.specs.OutputLines.{reply_lines}
 use Rattle.facet_replies.specs.Replies.{Refusal, broken, labels_full, docs_full, no_such_document, disk_failed, closed, numbers_spent, no_memory, Reply, placed, numbered, found, shown, stats as numbers, refused}
-use Rattle.facet_output.specs.Replying.{IsAdded, IsResolved, IsOf, IsFound, IsShown, IsRight, IsCommitted, Counts, docs_of, ask_refusal, first_refused, numbers_of, takes_memory}
+use Rattle.facet_output.specs.Replying.{IsAdded, IsResolved, IsOf, IsFound, IsShown, IsRight, IsCommitted, Counts, docs_of, first_refused, numbers_of, takes_memory}
 use Rattle.facet_output.specs.Seen.{CommitPoint, Entries, Seen, Sees, IsTold, EntersNone, opened_seen, labels_of, history_of, failures}
 use Rattle.facet_output.specs.Sessions.{SessionRan, AllRan, steps_of, own_steps, is_by}
 use Rattle.facet_output.specs.Steps.{Step, IsStep, IsLastPair, EntersOperation, EntersPair, EntersPoint, EntersPoints, EntersCommit}

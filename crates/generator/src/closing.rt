@@ -6,9 +6,8 @@ ghost use Rattle.facet_words.specs.Sessions.CommandViews.{command_view, order_vi
 ghost use Rattle.facet_words.specs.Sessions.Commands.{search};
 ghost use Rattle.generator.specs.Generated.{closing_orders, first_ten, generated_search};
 
-use crate::labels::path_of;
 use facet_model::{Ask, Drill, Query, Word};
-use facet_names::{NoMemory, Path, PathFault};
+use facet_names::{NoMemory, Path};
 use facet_words::SearchLine;
 use facet_words::sessions::{Command, Order};
 use std::alloc::Global;
@@ -25,9 +24,7 @@ fn query(alloc: Global) -> Result<Query, NoMemory>
 fn drill(alloc: Global) -> Result<Drill, NoMemory>
     ensures { IfOk result (λ d. d ≡ generated_search.drill) }
 {
-    let dim = String::from_str(alloc, "Date")?;
-    let year = String::from_str(alloc, "2000")?;
-    let path = path_of(alloc, &vec![in alloc; dim, year]?)?;
+    let path = Path::of_valid(alloc, &["Date", "2000"])?;
     Drill::new(alloc, vec![in alloc; path]?)
 }
 
@@ -35,11 +32,8 @@ fn ask(alloc: Global, dim: &str) -> Result<Ask, NoMemory>
     requires { path_fault (dim.now ∷ []) ≡ None }
     ensures { IfOk result (λ a. ask_view a ≡ first_ten dim.now) }
 {
-    match Path::of_dim(alloc, dim) {
-        Ok(path) => Ok(Ask::Top { path, n: 10 }),
-        Err(PathFault::NoMemory) => Err(NoMemory),
-        Err(_) => unreachable!(),
-    }
+    let path = Path::of_valid(alloc, &[dim])?;
+    Ok(Ask::Top { path, n: 10 })
 }
 
 fn asks(alloc: Global) -> Result<Vec<Ask>, NoMemory>

@@ -1,5 +1,5 @@
 -- How what a session adds is named.
-use Rattle.std.specs.Prelude.{ℕ, List, [], ◌∷◌, ◌++◌, codes}
+use Rattle.std.specs.Prelude.{◌≡◌, ◌<◌, ◌^◌, ℕ, List, [], ◌∷◌, ◌++◌, codes}
 use Rattle.std.specs.Fmt.{decimal}
 
 -- the session's number, a space and the number of what it adds
@@ -9,3 +9,7 @@ name_of session number = decimal session ++ (codes " " ++ decimal number)
 -- the label of that name, under one dimension
 abbrev pub label_of : ℕ → ℕ → List (List ℕ)
 label_of session number = codes "Name" ∷ name_of session number ∷ []
+
+-- of another session, or of another number, the label is another
+abbrev pub LabelsDiffer : Type 0
+LabelsDiffer = (session number other next : ℕ) → session < 2 ^ 32 → number < 2 ^ 32 → other < 2 ^ 32 → next < 2 ^ 32 → label_of session number ≡ label_of other next → (session ≡ other) × (number ≡ next)

@@ -9,5 +9,5 @@ mod passes;
 
 pub use entries::bare_entry;
 pub use labels::{Opened, open_labels};
-pub use names::{label_of, name_of};
+pub use names::{label_of, labels_differ, name_of};
 pub use passes::{Begun, begin};

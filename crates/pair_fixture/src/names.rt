@@ -1,7 +1,7 @@
 ghost use Rattle.std.specs.Prelude.{◌≡◌, IfOk, string_bytes};
-ghost use Rattle.pair_fixture.specs.Names.{label_of, name_of};
+ghost use Rattle.pair_fixture.specs.Names.{LabelsDiffer, label_of, name_of};
 
-use facet_names::{NoMemory, Path, PathFault};
+use facet_names::{NoMemory, Path};
 use std::alloc::Global;
 
 /// The id of the document of this number that the session adds, and the name of its label.
@@ -12,14 +12,15 @@ pub fn name_of(alloc: Global, session: u32, number: u32) -> Result<String, NoMem
 }
 
 #[tactic(auto, using(crate::proofs::Fitting::label_fits))]
-/// The label of that document: of two components, and no two are equal.
+/// The label of that document, of two components.
 pub fn label_of(alloc: Global, session: u32, number: u32) -> Result<Path, NoMemory>
     ensures { IfOk result (λ p. p ≡ label_of session number) }
 {
     let name = name_of(alloc, session, number)?;
-    match Path::of(alloc, &["Name", &name]) {
-        Ok(path) => Ok(path),
-        Err(PathFault::NoMemory) => Err(NoMemory),
-        Err(_) => unreachable!(),
-    }
+    Path::of_valid(alloc, &["Name", &name])
 }
+
+/// A law: no two of these labels are equal.
+pub fn labels_differ()
+    ensures { LabelsDiffer }
+{}

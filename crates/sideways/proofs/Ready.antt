@@ -1,5 +1,5 @@
 -- What the passes of a plan find.
-use Rattle.std.proofs.Common.{◌≡◌, ℕ, ◌+◌, ◌≤◌, Bool, true, false, List, [], ◌∷◌, ◌++◌, length, Some, None, refl, sym, ap, subst, ◌∙◌, arith}
+use Rattle.std.proofs.Common.{◌≡◌, ℕ, ◌≤◌, Bool, true, false, List, [], ◌∷◌, ◌++◌, length, Some, None, refl, sym, ap, subst, ◌∙◌, arith}
 use Rattle.std.specs.Prelude.{cond, count_by, filter, sum_by, ◌||◌, ◌&&◌}
 use Rattle.std.specs.List.{list_all, list_any, AllByRecursion, AllZip}
 use Rattle.std.specs.Str.{bytes_eq}
