@@ -1,4 +1,4 @@
-//! Tests of what threads do: turns of a chronicle, the library that stands on chronicles, the writer of labels with its cache, and published pairs.
+//! Tests of what threads do: turns of a chronicle, the writer of labels with its cache, and published pairs.
 #![tactic(auto)]
 
 #[cfg(test)]
@@ -9,5 +9,3 @@ mod leases;
 mod pairs;
 #[cfg(test)]
 mod turns;
-#[cfg(test)]
-mod uses;
