@@ -5,8 +5,8 @@ use Rattle.std.proofs.lemmas.List.{length-map}
 use Rattle.std.proofs.lemmas.List.Sums.{sum_by-cons}
 use Rattle.facet_model.specs.Stored.{Records}
 use Rattle.commit_file.specs.Commits.{documents_of}
-use Rattle.seg_decoding.specs.Decoding.{records_in}
-use Rattle.seg_decoding.proofs.Live.{records_first_live}
+use Rattle.seg_documents.specs.Decoding.{records_in}
+use Rattle.seg_documents.proofs.Live.{records_first_live}
 use Rattle.commit_store.specs.Committed.{Kept, Committed, IsKept, IsOwn, segments_in, parts_in}
 use Rattle.commit_store.specs.Drafts.{Drafted, placed}
 use Rattle.commit_store.proofs.Keeping.{AreReadOnce, AreNamed, name_more, numbers_taken}

@@ -18,10 +18,10 @@ use Rattle.commit_calls.specs.Moments.{IsAt}
 use Rattle.commit_file.specs.Commits.{AreInOrder, TaxonomyListing, IndexListing, documents_listed}
 use Rattle.commit_file.specs.declared.taxonomy.LabelPart.{LabelPart}
 use Rattle.commit_file.specs.declared.index.DocumentPart.{DocumentPart}
-use Rattle.seg_decoding.specs.Decoding.{doc_in, docs_in, records_in}
+use Rattle.seg_documents.specs.Decoding.{doc_in, docs_in, records_in}
 use Rattle.seg_decoding.specs.Opening.{stored_segment, opened, documents_fit, unless_at, first_difference, counted_anew, rebuilt}
 use Rattle.seg_decoding.proofs.Differences.{same_from_none}
-use Rattle.seg_decoding.proofs.Live.{records_first_live}
+use Rattle.seg_documents.proofs.Live.{records_first_live}
 use Rattle.seg_grammar.specs.Spelling.{seg_bytes}
 use Rattle.store_opening.specs.declared.fault.OpenFault.{OpenFault}
 use Rattle.store_opening.specs.declared.fault.OpenFault.TheVariants.{Malformed}

@@ -6,7 +6,7 @@ ghost use Rattle.facet_disk.specs.Calls.{Rose};
 ghost use Rattle.facet_model.specs.Stored.{Decodes};
 ghost use Rattle.facet_names.specs.Labels.{IsLabelList};
 ghost use Rattle.commit_calls.specs.Held.{Below};
-ghost use Rattle.seg_decoding.specs.Decoding.{docs_in, records_in};
+ghost use Rattle.seg_documents.specs.Decoding.{docs_in, records_in};
 ghost use Rattle.commit_store.specs.declared.fault.CommitFault.TheVariants.{Disk as OfDisk, Closed, NumbersSpent};
 ghost use Rattle.store_opening.specs.declared.fault.OpenFault.TheVariants.{Disk as FaultOfDisk, NoMemory as NoRoom};
 ghost use Rattle.store_opening.specs.Faults.{IsSound};

@@ -1,7 +1,7 @@
 ghost use Rattle.std.specs.Prelude.{◌≡◌, ◌≤◌, ◌<◌, ◌+◌, ◌^◌, Some, length, map, not, IfOk, OnOk, IsTrue};
 ghost use Rattle.std.specs.Arc.{arc_value};
 ghost use Rattle.std.specs.List.{AllByRecursion};
-ghost use Rattle.seg_decoding.specs.Decoding.{records_in};
+ghost use Rattle.seg_documents.specs.Decoding.{records_in};
 ghost use Rattle.commit_store.specs.Committed.{IsKept, IsOwn, kept_view, parts_in};
 ghost use Rattle.commit_store.specs.Drafts.{placed, with_index, is_index_left_out, index_drafted, index_number_from, kept_from, IsIndexAgain};
 

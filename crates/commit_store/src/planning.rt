@@ -6,7 +6,7 @@ ghost use Rattle.commit_calls.specs.Outcomes.{file_view};
 ghost use Rattle.commit_calls.specs.Plans.{IsPlan, Rises};
 ghost use Rattle.facet_model.specs.Stored.{Decodes};
 ghost use Rattle.commit_file.specs.Commits.{AreInOrder};
-ghost use Rattle.seg_decoding.specs.Decoding.{records_in, docs_in};
+ghost use Rattle.seg_documents.specs.Decoding.{records_in, docs_in};
 ghost use Rattle.commit_store.specs.declared.fault.CommitFault.TheVariants.{NumbersSpent};
 ghost use Rattle.commit_store.specs.Committed.{IsKept, IsOwn, kept_view};
 ghost use Rattle.commit_store.specs.Drafts.{last_number, committed_by};

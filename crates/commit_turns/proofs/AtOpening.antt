@@ -5,8 +5,8 @@ use Rattle.facet_disk.specs.Images.{Image, Told}
 use Rattle.facet_disk.specs.declared.disk.Disk.{Ghosts}
 use Rattle.facet_model.specs.Documents.{Doc}
 use Rattle.facet_names.proofs.LabelLists.{Labels}
-use Rattle.seg_decoding.specs.Decoding.{docs_in}
-use Rattle.seg_decoding.proofs.Prefixes.{stays}
+use Rattle.seg_documents.specs.Decoding.{docs_in}
+use Rattle.seg_documents.proofs.Prefixes.{stays}
 use Rattle.commit_calls.proofs.Runs.{leaves_by}
 use Rattle.commit_store.specs.Committers.{CommitterView}
 use Rattle.commit_store.specs.Committing.{HasFiles}

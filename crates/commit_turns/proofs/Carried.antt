@@ -10,9 +10,9 @@ use Rattle.facet_model.specs.Flags.{Config}
 use Rattle.facet_model.specs.Stored.{Records, Decodes}
 use Rattle.facet_names.specs.Labels.{GoesOn, IsLabelList}
 use Rattle.facet_names.proofs.LabelLists.{Labels, goes_further}
-use Rattle.seg_decoding.specs.Decoding.{docs_in}
-use Rattle.seg_decoding.proofs.Decoded.{decoded, decodes_stay}
-use Rattle.seg_decoding.proofs.Prefixes.{stays}
+use Rattle.seg_documents.specs.Decoding.{docs_in}
+use Rattle.seg_documents.proofs.Decoded.{decoded, decodes_stay}
+use Rattle.seg_documents.proofs.Prefixes.{stays}
 use Rattle.commit_calls.specs.Held.{Below as NamedBelow}
 use Rattle.commit_calls.specs.Moments.{LeavesOnly}
 use Rattle.commit_calls.proofs.Runs.{leaves_on, leaves_more}

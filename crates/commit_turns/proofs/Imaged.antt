@@ -6,7 +6,7 @@ use Rattle.facet_model.specs.Flags.{Config}
 use Rattle.facet_model.specs.Stored.{Records}
 use Rattle.facet_names.specs.Labels.{GoesOn}
 use Rattle.facet_names.proofs.LabelLists.{Labels, goes_further}
-use Rattle.seg_decoding.specs.Decoding.{docs_in}
+use Rattle.seg_documents.specs.Decoding.{docs_in}
 use Rattle.store_opening.specs.Files.{files}
 use Rattle.commit_turns.specs.Recovery.{AreFirst, Holds, docs_found}
 use Rattle.pair_manager.specs.declared.point.CommitPoint.{CommitPoint}

@@ -9,12 +9,12 @@ use Rattle.facet_model.specs.Flags.{Config}
 use Rattle.facet_model.specs.Stored.{Records, Decodes}
 use Rattle.facet_names.specs.Labels.{GoesOn, IsLabelList}
 use Rattle.facet_names.proofs.LabelLists.{Labels, front_labels}
-use Rattle.seg_decoding.proofs.Decoded.{decodes_stay}
+use Rattle.seg_documents.proofs.Decoded.{decodes_stay}
 use Rattle.commit_turns.specs.Recovery.{AreFirst}
 use Rattle.taxo_cache.specs.Seen.{labels_of}
 use Rattle.commit_turns.specs.Seen.{docs_of}
 use Rattle.facet_model.specs.Histories.{Operation}
-use Rattle.taxo_writer.proofs.Growing.{seen_goes_on}
+use Rattle.taxo_adding.proofs.Growing.{seen_goes_on}
 
 pub docs_on : (xs ys : List (ℕ × Operation)) → IsPrefix xs ys → AreFirst (docs_of xs) (docs_of ys)
 docs_on xs ys p =

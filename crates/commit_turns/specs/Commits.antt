@@ -6,7 +6,7 @@ use Rattle.facet_disk.specs.declared.disk.Disk.{Ghosts}
 use Rattle.facet_model.specs.Documents.{Doc}
 use Rattle.facet_model.specs.Stored.{Records, Decodes}
 use Rattle.facet_names.specs.Labels.{GoesOn, IsLabelList}
-use Rattle.seg_decoding.specs.Decoding.{docs_in}
+use Rattle.seg_documents.specs.Decoding.{docs_in}
 use Rattle.commit_calls.specs.Held.{Below}
 use Rattle.commit_calls.specs.Moments.{LeavesOnly}
 use Rattle.store_opening.specs.Newest.{AreListed}

@@ -4,7 +4,7 @@ ghost use Rattle.chronicle.specs.History.{numbered};
 ghost use Rattle.chronicle.specs.Shown.{MayTake};
 ghost use Rattle.facet_disk.specs.Images.{Told};
 ghost use Rattle.facet_disk.specs.Calls.{Rose};
-ghost use Rattle.seg_decoding.specs.Decoding.{docs_in};
+ghost use Rattle.seg_documents.specs.Decoding.{docs_in};
 ghost use Rattle.store_opening.specs.declared.fault.OpenFault.TheVariants.{Disk as FaultOfDisk, NoMemory as NoRoom};
 ghost use Rattle.store_opening.specs.Faults.{IsSound};
 ghost use Rattle.store_opening.specs.Files.{files, greatest_number};

@@ -33,7 +33,7 @@ use Rattle.pair_manager.specs.Passes.{SamePass}
 use Rattle.taxo_cache.specs.Seen.{labels_of}
 use Rattle.taxo_list.specs.declared.fault.TaxoFault.{TaxoFault}
 use Rattle.taxo_list.specs.declared.fault.TaxoFault.TheVariants.{LabelsFull as ListFull, NoMemory as ListNoMemory}
-use Rattle.taxo_writer.specs.Several.{AddsInTurn, IsFullForOne}
+use Rattle.taxo_adding.specs.Several.{AddsInTurn, IsFullForOne}
 use Rattle.pair_manager.specs.Appended.{HasNoRoom, IsPlaced}
 use Rattle.facet_engine.specs.Adding.{HasTried}
 use Rattle.facet_engine.specs.Replies.{add_reply}

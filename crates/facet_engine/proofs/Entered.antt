@@ -14,9 +14,9 @@ use Rattle.facet_model.specs.Stored.{AreLabelsAt, IsRecordOf}
 use Rattle.seg_terms.specs.Entries.{stored_of}
 use Rattle.facet_config.specs.Expanding.{AreAsLong, AreExpanded}
 use Rattle.seg_terms.specs.declared.entry.Entry.{Entry}
-use Rattle.seg_decoding.specs.Entries.{IsEntry, IsShort}
+use Rattle.seg_documents.specs.Entries.{IsEntry, IsShort}
 use Rattle.facet_engine.specs.Adding.{leaf_of}
-use Rattle.seg_decoding.proofs.Ordinals.{resolved_known}
+use Rattle.seg_documents.proofs.Ordinals.{resolved_known}
 use Rattle.std.proofs.lemmas.List.Elements.{All-tail}
 
 -- ---- the last ordinal is the path's own

@@ -4,7 +4,7 @@ use Rattle.std.proofs.lemmas.Option.{slice_get-get_or}
 use Rattle.facet_model.specs.Stored.{Records, alive, is_dead, live_before}
 use Rattle.live_records.proofs.Alive.{get_alive, length_alive}
 use Rattle.seg_grammar.specs.Lookups.{record_of}
-use Rattle.seg_decoding.specs.Decoding.{records_in}
+use Rattle.seg_documents.specs.Decoding.{records_in}
 use Rattle.index_state.proofs.Counting.{cut}
 
 front_get : {X : Type 0} (xs ys : List X) (i : ℕ) → i < length xs → slice_get (xs ++ ys) i ≡ slice_get xs i

@@ -18,7 +18,7 @@ use Rattle.index_state.specs.Index.{opened}
 use Rattle.pair_manager.specs.declared.point.CommitPoint.{CommitPoint as Point}
 use Rattle.pair_manager.specs.declared.publication.Publication.{Publication}
 use Rattle.pair_manager.specs.Published.{numbers}
-use Rattle.seg_decoding.specs.Decoding.{doc_in, docs_in, records_in}
+use Rattle.seg_documents.specs.Decoding.{doc_in, docs_in, records_in}
 use Rattle.taxo_cache.specs.Seen.{labels_of}
 use Rattle.facet_engine.specs.Steps.{point_of}
 use Rattle.facet_engine.proofs.Seeing.{told}

@@ -38,7 +38,7 @@ use Rattle.facet_engine.specs.Showing.{IsShownIn}
 use Rattle.facet_engine.specs.Steps.{seen_of, taking, last_pair, pair_held, searched, documented, counted}
 use Rattle.facet_engine.proofs.Naming.{numbers_under}
 use Rattle.facet_engine.proofs.Seeing.{told}
-use Rattle.taxo_writer.proofs.Growing.{seen_goes_on}
+use Rattle.taxo_adding.proofs.Growing.{seen_goes_on}
 use Rattle.facet_engine.proofs.SeenPairs.{begins}
 use Rattle.facet_engine.proofs.Taking.{taking_last, taking_none, docs_seen}
 

@@ -18,13 +18,13 @@ use Rattle.taxo_cache.specs.Seen.{labels_of}
 use Rattle.pair_manager.specs.Kept.{DecodesTo}
 use Rattle.pair_manager.specs.Published.{Published}
 use Rattle.sideways.specs.declared.ask.SearchAsk.{SearchAsk}
-use Rattle.seg_decoding.proofs.Decoded.{decoded}
+use Rattle.seg_documents.proofs.Decoded.{decoded}
 use Rattle.facet_output.specs.Replies.{Refusal, Reply, refused}
 use Rattle.seg_terms.proofs.DocPlaces.{places_below}
 use Rattle.sideways.specs.Refusals as refusals
 use Rattle.sideways.specs.declared.ask.AskRefused.{AskRefused}
 use Rattle.sideways.specs.declared.ask.AskRefused.TheVariants.{NoMemory as Memory}
-use Rattle.seg_decoding.specs.Decoding.{doc_in, docs_in, records_in, record_at}
+use Rattle.seg_documents.specs.Decoding.{doc_in, docs_in, records_in, record_at}
 use Rattle.facet_engine.specs.Searches.{IsFoundIn, refusal_as, search_view}
 use Rattle.std.proofs.lemmas.Slice.Zip.{all_zipped_more}
 

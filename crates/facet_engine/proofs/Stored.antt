@@ -12,10 +12,10 @@ use Rattle.facet_model.specs.Flags.{Config}
 use Rattle.facet_model.specs.Stored.{Stored, Records, AreLabelsAt, Decodes}
 use Rattle.facet_output.specs.Replies.{shown, refused, no_such_document}
 use Rattle.facet_output.specs.Replying.{IsShown}
-use Rattle.seg_decoding.specs.Decoding.{doc_in, records_in}
-use Rattle.seg_decoding.proofs.Decoded.{decoded, record_is}
-use Rattle.seg_decoding.proofs.Ordinals.{all_stay}
-use Rattle.seg_decoding.proofs.Stored.{IsOfDoc, records_are, places_are, leaves_within, map_get}
+use Rattle.seg_documents.specs.Decoding.{doc_in, records_in}
+use Rattle.seg_documents.proofs.Decoded.{decoded, record_is}
+use Rattle.seg_documents.proofs.Ordinals.{all_stay}
+use Rattle.seg_documents.proofs.Stored.{IsOfDoc, records_are, places_are, leaves_within, map_get}
 
 module _ (config : Config) (view : Labels) (segments : List Records) (docs : List Doc) (list_view : IsLabelList view) (decodes : Decodes view config segments docs) (at : ℕ) where
   seen : slice_get docs at ≡ option_map (doc_in view) (slice_get (records_in segments) at)

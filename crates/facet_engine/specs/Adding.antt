@@ -8,11 +8,11 @@ use Rattle.facet_model.specs.Histories.{Operation, knows}
 use Rattle.facet_names.specs.Labels.{IsLabelList}
 use Rattle.pair_manager.specs.declared.pass.Pass.{Pass}
 use Rattle.pair_manager.specs.Appended.{HasNoRoom, IsPlaced}
-use Rattle.seg_decoding.specs.Entries.{IsEntry}
+use Rattle.seg_documents.specs.Entries.{IsEntry}
 use Rattle.seg_terms.specs.declared.entry.Entry.{Entry}
 use Rattle.taxo_cache.specs.Seen.{labels_of}
 use Rattle.taxo_list.specs.declared.fault.TaxoFault.TheVariants.{LabelsFull as ListFull}
-use Rattle.taxo_writer.specs.Several.{IsFullForOne}
+use Rattle.taxo_adding.specs.Several.{IsFullForOne}
 use Rattle.facet_engine.specs.declared.adding.AddFault.{AddFault}
 use Rattle.facet_engine.specs.declared.adding.AddFault.TheVariants as adds
 

@@ -6,7 +6,7 @@ use Rattle.facet_model.specs.Flags.{Config}
 use Rattle.facet_output.specs.Output.{Opened}
 use Rattle.commit_turns.specs.Opening.{IsOpened}
 use Rattle.pair_manager.specs.Passes.{IsFirst}
-use Rattle.seg_decoding.specs.Decoding.{docs_in}
+use Rattle.seg_documents.specs.Decoding.{docs_in}
 use Rattle.taxo_cache.specs.Seen.{labels_of, SeesLabels}
 use Rattle.facet_engine.specs.declared.opening.Store.{Store}
 

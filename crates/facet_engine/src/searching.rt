@@ -5,7 +5,7 @@ ghost use Rattle.facet_model.specs.Documents.{Doc};
 ghost use Rattle.facet_model.specs.ResultViews.{answer_view};
 ghost use Rattle.facet_model.specs.Results.{IsAnswer};
 ghost use Rattle.facet_replies.specs.ReplyViews.{hit_view};
-ghost use Rattle.seg_decoding.specs.Decoding.{docs_in, records_in, record_at};
+ghost use Rattle.seg_documents.specs.Decoding.{docs_in, records_in, record_at};
 ghost use Rattle.sideways.specs.Questions.{HasDocs, docs_of};
 ghost use Rattle.sideways.specs.Searches.{question};
 ghost use Rattle.sideways.specs.declared.ask.AskRefused.TheVariants.{NoMemory as Memory};

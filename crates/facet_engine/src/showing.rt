@@ -1,6 +1,6 @@
 ghost use Rattle.std.specs.Prelude.{◌≡◌, ◌≢◌, ◌<◌, None, Some, Err, All, IfOk, MatchOption, length, map, slice_get};
 ghost use Rattle.std.specs.Arc.{arc_value};
-ghost use Rattle.seg_decoding.specs.Decoding.{doc_in, records_in};
+ghost use Rattle.seg_documents.specs.Decoding.{doc_in, records_in};
 ghost use Rattle.seg_grammar.specs.Lookups.{record_of};
 ghost use Rattle.facet_engine.specs.Systems.{BelongsTo};
 ghost use Rattle.facet_engine.specs.Calls.{IsCall, SameSession};

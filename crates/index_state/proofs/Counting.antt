@@ -3,8 +3,8 @@ use Rattle.std.proofs.Common.{◌≡◌, ℕ, ◌+◌, ◌<◌, List, ◌∷◌,
 use Rattle.std.proofs.lemmas.List.{drop_more, length-append}
 use Rattle.facet_model.specs.Stored.{Records, alive, live_before}
 use Rattle.live_records.proofs.Alive.{length_alive}
-use Rattle.seg_decoding.specs.Decoding.{records_in}
-use Rattle.seg_decoding.proofs.Live.{records_first}
+use Rattle.seg_documents.specs.Decoding.{records_in}
+use Rattle.seg_documents.proofs.Live.{records_first}
 
 module _ {A : Type 0} (value : A → Records) (xs : List A) (i : ℕ) (x : A) (lt : i < length xs) (here : get_or xs i x ≡ x) where
   -- those of one segment, and those of the segments behind it

@@ -13,12 +13,12 @@ use Rattle.facet_model.specs.Stored.{Records, Decodes}
 use Rattle.seg_grammar.specs.Spelling.{IsSegment, seg_bytes}
 use Rattle.seg_terms.specs.Entries.{segment_of}
 use Rattle.seg_terms.specs.declared.entry.Entry.{Entry}
-use Rattle.seg_decoding.specs.Decoding.{docs_in, flushed}
-use Rattle.seg_decoding.specs.Entries.{IsEntry, AreEntries, docs_of}
-use Rattle.seg_decoding.proofs.Decoded.{decoded, decodes_stay, entries_stay, flushed_decodes}
+use Rattle.seg_documents.specs.Decoding.{docs_in, flushed}
+use Rattle.seg_documents.specs.Entries.{IsEntry, AreEntries, docs_of}
+use Rattle.seg_documents.proofs.Decoded.{decoded, decodes_stay, entries_stay, flushed_decodes}
 use Rattle.chronicle.specs.Shown.{Shown}
 use Rattle.taxo_cache.specs.Seen.{labels_of, SeesLabels}
-use Rattle.taxo_writer.proofs.Growing.{seen_goes_on}
+use Rattle.taxo_adding.proofs.Growing.{seen_goes_on}
 use Rattle.index_state.specs.Index.{Index, StandsFor, opened, AreOwn}
 use Rattle.index_state.specs.Kept.{IsKept}
 

@@ -8,8 +8,8 @@ use Rattle.facet_model.specs.Histories.{Operation, docs}
 use Rattle.facet_model.specs.Stored.{Records, Decodes}
 use Rattle.seg_grammar.specs.Spelling.{seg_bytes, IsSegment}
 use Rattle.seg_terms.specs.declared.entry.Entry.{Entry}
-use Rattle.seg_decoding.specs.Decoding.{docs_in}
-use Rattle.seg_decoding.specs.Entries.{docs_of}
+use Rattle.seg_documents.specs.Decoding.{docs_in}
+use Rattle.seg_documents.specs.Entries.{docs_of}
 use Rattle.chronicle.specs.Shown.{Shown, SameToken, SeesOn}
 use Rattle.taxo_cache.specs.Seen.{labels_of}
 

@@ -3,7 +3,7 @@ ghost use Rattle.std.specs.Prelude.{◌≡◌, ◌≢◌, ◌≤◌, [], length,
 ghost use Rattle.std.specs.Arc.{arc_value};
 ghost use Rattle.seg_grammar.specs.Spelling.{IsSegment, seg_bytes};
 ghost use Rattle.seg_terms.specs.Entries.{segment_of};
-ghost use Rattle.seg_decoding.specs.Decoding.{flushed, records_in};
+ghost use Rattle.seg_documents.specs.Decoding.{flushed, records_in};
 
 use facet_names::NoMemory;
 use seg_file::{Entry, Segment};

@@ -3,7 +3,7 @@ ghost use Rattle.std.specs.Arc.{arc_value};
 ghost use mathlib.Core.List.{IsPrefix};
 ghost use Rattle.facet_model.specs.Stored.{Decodes};
 ghost use Rattle.chronicle.specs.Shown.{IsNoteOf};
-ghost use Rattle.seg_decoding.specs.Entries.{IsEntry};
+ghost use Rattle.seg_documents.specs.Entries.{IsEntry};
 ghost use Rattle.taxo_cache.specs.Seen.{labels_of, SeesLabels};
 ghost use Rattle.index_state.specs.Index.{StandsFor, StandsForMore, opened, docs_under, DecodeUnder, AreOwn, IsAppended, IsFlushed};
 ghost use Rattle.index_state.specs.declared.fault.AppendFault.TheVariants.{DocsFull, NoMemory as Memory};
@@ -19,7 +19,7 @@ use seg_file::{Entry, Segment};
 use std::alloc::Global;
 use std::marker::Model;
 use std::sync::Arc;
-use taxo_writer::LabelList;
+use taxo_adding::LabelList;
 
 /// The value of the operations chronicle, as Lucene's `IndexWriter` behind a lock. The documents of its segments and then those that wait in memory are those
 /// of the history, under the labels that it has noted.

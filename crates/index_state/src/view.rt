@@ -1,6 +1,6 @@
 ghost use Rattle.std.specs.Prelude.{◌≡◌, ◌≤◌, true, false, length, map};
 ghost use Rattle.std.specs.Arc.{arc_value};
-ghost use Rattle.seg_decoding.specs.Decoding.{records_in};
+ghost use Rattle.seg_documents.specs.Decoding.{records_in};
 
 use chronicle::Token;
 use facet_names::Path;

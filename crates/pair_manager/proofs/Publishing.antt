@@ -14,12 +14,12 @@ use Rattle.facet_model.specs.Flags.{Config}
 use Rattle.facet_model.specs.Histories.{Operation, docs, knows, covers, never_falls, is_pair, are_publications}
 use Rattle.facet_model.specs.Stored.{Stored, Records, alive, alive_from, is_dead, live_docs, IsRecordOf, IsSegmentOf, Decodes}
 use Rattle.facet_model.proofs.Fronts.{weaker}
-use Rattle.seg_decoding.specs.Decoding.{doc_in, docs_in, records_in}
-use Rattle.seg_decoding.proofs.Decoded.{decoded}
+use Rattle.seg_documents.specs.Decoding.{doc_in, docs_in, records_in}
+use Rattle.seg_documents.proofs.Decoded.{decoded}
 use Rattle.chronicle.specs.History.{entries}
 use Rattle.chronicle.proofs.Entries.{entries-prefix}
 use Rattle.taxo_cache.specs.Seen.{labels_of}
-use Rattle.taxo_writer.proofs.Growing.{seen_goes_on}
+use Rattle.taxo_adding.proofs.Growing.{seen_goes_on}
 use Rattle.pair_manager.specs.declared.publication.Publication.{Publication}
 use Rattle.pair_manager.specs.Published.{Published, publication_of, numbers, ArePublications, IsNewest, StandsFor}
 use Rattle.pair_manager.specs.Kept.{IsPair}

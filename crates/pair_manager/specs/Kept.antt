@@ -3,7 +3,7 @@ use Rattle.std.specs.Prelude.{◌≡◌, ◌≤◌, ℕ, true, false, List, leng
 use Rattle.facet_model.specs.Flags.{Config}
 use Rattle.facet_model.specs.Histories.{Operation, docs}
 use Rattle.facet_model.specs.Stored.{Records, Decodes}
-use Rattle.seg_decoding.specs.Decoding.{records_in}
+use Rattle.seg_documents.specs.Decoding.{records_in}
 use Rattle.chronicle.specs.History.{entries}
 use Rattle.chronicle.specs.Shown.{Shown}
 use Rattle.taxo_cache.specs.Seen.{labels_of, SeesLabels}

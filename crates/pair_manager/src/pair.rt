@@ -2,7 +2,7 @@ ghost use Rattle.std.specs.Prelude.{◌≡◌, ◌≤◌, length, map};
 ghost use Rattle.std.specs.Arc.{arc_value};
 ghost use Rattle.facet_model.specs.Histories.{docs};
 ghost use Rattle.facet_model.specs.Stored.{Decodes};
-ghost use Rattle.seg_decoding.specs.Decoding.{records_in};
+ghost use Rattle.seg_documents.specs.Decoding.{records_in};
 ghost use Rattle.chronicle.specs.History.{entries};
 ghost use Rattle.taxo_cache.specs.Seen.{labels_of, SeesLabels};
 ghost use Rattle.pair_manager.specs.Published.{published};

@@ -5,7 +5,7 @@ ghost use Rattle.std.specs.Arc.{arc_value};
 ghost use Rattle.std.specs.List.{AllZip};
 ghost use Rattle.facet_model.specs.Documents.{Doc};
 ghost use Rattle.facet_model.specs.Stored.{Decodes};
-ghost use Rattle.seg_decoding.specs.Decoding.{docs_in};
+ghost use Rattle.seg_documents.specs.Decoding.{docs_in};
 ghost use Rattle.run_tests.specs.Thinned.{IsStoredAlike};
 
 use crate::runs::{disk_with, opened};

@@ -2,7 +2,7 @@
 ghost use Rattle.std.specs.Prelude.{◌≤◌, length, map, IfOk};
 ghost use Rattle.std.specs.Arc.{arc_value};
 ghost use Rattle.facet_model.specs.Stored.{Decodes};
-ghost use Rattle.seg_decoding.specs.Decoding.{docs_in};
+ghost use Rattle.seg_documents.specs.Decoding.{docs_in};
 
 use commit_store::{Committer, Opened};
 use facet_config::FacetsConfig;

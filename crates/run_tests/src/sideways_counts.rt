@@ -1,7 +1,7 @@
 ghost use Rattle.std.specs.Prelude.{◌≤◌, length, map};
 ghost use Rattle.std.specs.Arc.{arc_value};
 ghost use Rattle.facet_model.specs.Stored.{Decodes};
-ghost use Rattle.seg_decoding.specs.Decoding.{docs_in};
+ghost use Rattle.seg_documents.specs.Decoding.{docs_in};
 
 use crate::near_misses::are_alike_in_stores;
 use crate::runs::{BOB, COMMIT, CONFIG, LISA, disk_with, opened};

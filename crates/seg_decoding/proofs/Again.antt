@@ -8,9 +8,9 @@ use Rattle.facet_model.specs.Documents.{Doc}
 use Rattle.facet_model.specs.Flags.{Config}
 use Rattle.facet_model.specs.Stored.{Stored, Records, IsRecordOf}
 use Rattle.seg_decoding.specs.Laws.{OpensAgain, OpensLater}
-use Rattle.seg_decoding.proofs.Decoded.{segment_stays}
+use Rattle.seg_documents.proofs.Decoded.{segment_stays}
 use Rattle.seg_decoding.proofs.Opened.{opened_again}
-use Rattle.seg_decoding.proofs.Stored.{leaves_within}
+use Rattle.seg_documents.proofs.Stored.{leaves_within}
 use Rattle.std.proofs.lemmas.List.Elements.{recursion_from_All}
 
 low_each : (needs : ℕ) (rs : List Stored) → AllByRecursion (λ r. All (λ leaf. leaf < needs) r.leaves) rs → AllByRecursion (λ r. AllByRecursion (λ leaf. leaf < needs) r.leaves) rs

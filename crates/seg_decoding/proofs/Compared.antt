@@ -14,7 +14,7 @@ use Rattle.seg_grammar.specs.Spelling.{seg_bytes, IsSegment}
 use Rattle.seg_grammar.proofs.Again.{segment_again}
 use Rattle.seg_grammar.proofs.Found.{segment_found}
 use Rattle.seg_decoding.specs.Answers.{IsLeaf}
-use Rattle.seg_decoding.specs.Decoding.{doc_in}
+use Rattle.seg_documents.specs.Decoding.{doc_in}
 use Rattle.seg_decoding.specs.Opening.{unless_at, fault_place, by_place, head_fits, opened, documents_fit, rebuilt, first_difference, stored_segment}
 use Rattle.seg_decoding.specs.Laws.{OpensOnly}
 use Rattle.seg_decoding.proofs.Differences.{same_from_none}

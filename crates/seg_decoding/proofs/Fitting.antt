@@ -12,7 +12,7 @@ use Rattle.facet_model.specs.Flags.{Config}
 use Rattle.facet_model.specs.Stored.{Stored}
 use Rattle.seg_grammar.specs.Spelling.{record_bytes}
 use Rattle.seg_decoding.specs.Answers.{IsLeaf}
-use Rattle.seg_decoding.specs.Decoding.{doc_in}
+use Rattle.seg_documents.specs.Decoding.{doc_in}
 use Rattle.seg_decoding.specs.Opening.{unless_at, leaves_fit, leaves_place, document_fits, documents_fit}
 
 -- ---- leaf by leaf

@@ -1,12 +1,6 @@
-pub mod Ordinals
-pub mod Live
-pub mod Decoded
-pub mod Stored
 pub mod Differences
 pub mod Fitting
-pub mod Few
 pub mod Shapes
-pub mod Prefixes
 pub mod RecordSizes
 pub mod Opened
 pub mod Again
@@ -17,4 +11,3 @@ pub mod Pairs
 pub mod Walked
 pub mod Verified
 pub mod Rights
-pub mod Bare

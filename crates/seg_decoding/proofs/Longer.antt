@@ -17,12 +17,12 @@ use Rattle.facet_model.proofs.Fronts.{knows_its_labels}
 use Rattle.facet_config.proofs.Staying.{counted_stay}
 use Rattle.seg_grammar.specs.Spelling.{record_bytes, seg_bytes}
 use Rattle.seg_decoding.specs.Answers.{IsLeaf}
-use Rattle.seg_decoding.specs.Decoding.{doc_in, docs_in}
+use Rattle.seg_documents.specs.Decoding.{doc_in, docs_in}
 use Rattle.seg_decoding.specs.Opening.{unless_at, opened, leaves_fit, leaves_place, document_fits, documents_fit, counted_anew, rebuilt, first_difference, stored_segment}
-use Rattle.seg_decoding.proofs.Decoded.{decoded, decodes_stay}
+use Rattle.seg_documents.proofs.Decoded.{decoded, decodes_stay}
 use Rattle.seg_decoding.proofs.Fitting.{Fits, leaves_are, documents_are}
 use Rattle.seg_decoding.proofs.Opened.{own_labels}
-use Rattle.seg_decoding.proofs.Ordinals.{known_at}
+use Rattle.seg_documents.proofs.Ordinals.{known_at}
 
 module _ (config : Config) (a b : Labels) (list_a : IsLabelList a) (list_b : IsLabelList b) (on : GoesOn a b) where
   -- the documents of segments that decode stay

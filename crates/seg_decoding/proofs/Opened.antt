@@ -19,13 +19,13 @@ use Rattle.seg_grammar.specs.Reading.{head_at}
 use Rattle.seg_grammar.specs.Spelling.{record_bytes, term_bytes, seg_bytes, IsSegment}
 use Rattle.seg_grammar.proofs.Again.{number_again, segment_again}
 use Rattle.seg_decoding.specs.Answers.{IsLeaf}
-use Rattle.seg_decoding.specs.Decoding.{doc_in}
+use Rattle.seg_documents.specs.Decoding.{doc_in}
 use Rattle.seg_decoding.specs.Opening.{head_fits, opened, counted_anew, rebuilt, first_difference, stored_segment}
-use Rattle.seg_decoding.proofs.Ordinals.{known_at}
-use Rattle.seg_decoding.proofs.Decoded.{all_zip_is, record_is}
+use Rattle.seg_documents.proofs.Ordinals.{known_at}
+use Rattle.seg_documents.proofs.Decoded.{all_zip_is, record_is}
 use Rattle.seg_decoding.proofs.Differences.{none_from_same}
 use Rattle.seg_decoding.proofs.Fitting.{Fits, documents_fit_where}
-use Rattle.seg_decoding.proofs.Stored.{leaves_within}
+use Rattle.seg_documents.proofs.Stored.{leaves_within}
 use Rattle.std.proofs.lemmas.List.Elements.{recursion_from_All}
 
 -- what the head of a segment tells

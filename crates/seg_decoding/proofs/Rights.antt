@@ -19,7 +19,7 @@ use Rattle.seg_postings.specs.Rising.{IsRising, is_in}
 use Rattle.seg_terms.specs.Noting.{Table, path_terms}
 use Rattle.seg_terms.proofs.Pieces.{one_more_label}
 use Rattle.seg_decoding.specs.Answers.{IsLeaf}
-use Rattle.seg_decoding.specs.Decoding.{doc_in}
+use Rattle.seg_documents.specs.Decoding.{doc_in}
 use Rattle.seg_decoding.specs.Facts.{AreFacts, AreSeen, AreUnbroken, IsUnbroken, label_of, labels_of, texts_at}
 use Rattle.seg_decoding.specs.Pairs.{IsRight, Passes}
 use Rattle.seg_decoding.specs.declared.facts.LabelFacts.{LabelFacts}

@@ -8,7 +8,7 @@ use Rattle.facet_names.proofs.LabelLists.{Labels}
 use Rattle.facet_names.specs.Labels.{IsLabelList}
 use Rattle.seg_grammar.specs.Spelling.{seg_bytes, IsSegment, IsTerm}
 use Rattle.std.proofs.lemmas.List.{length-map}
-use Rattle.seg_decoding.specs.Decoding.{doc_in}
+use Rattle.seg_documents.specs.Decoding.{doc_in}
 use Rattle.seg_decoding.specs.Opening.{opened, documents_fit, counted_anew, rebuilt, stored_segment}
 use Rattle.seg_decoding.specs.Pairs.{AreTheirs, IsRight}
 use Rattle.seg_decoding.proofs.Compared.{agrees, decodes}

@@ -7,7 +7,7 @@ use Rattle.facet_model.specs.Flags.{Config}
 use Rattle.facet_model.specs.Stored.{Records, IsSegmentOf, Decodes}
 use Rattle.seg_grammar.specs.Spelling.{seg_bytes, IsSegment}
 use Rattle.seg_decoding.specs.Answers.{IsLeaf}
-use Rattle.seg_decoding.specs.Decoding.{docs_in}
+use Rattle.seg_documents.specs.Decoding.{docs_in}
 use Rattle.seg_decoding.specs.Opening.{stored_segment}
 
 -- What is opened is the segment that the bytes are. It has so many documents, and their leaves are below `needs`.

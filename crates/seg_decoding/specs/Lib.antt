@@ -1,5 +1,3 @@
-pub mod Entries
-pub mod Decoding
 pub mod Opening
 pub mod Answers
 pub mod Laws

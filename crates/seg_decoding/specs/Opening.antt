@@ -13,7 +13,7 @@ use Rattle.seg_grammar.specs.declared.fault.SegFault.{SegFault}
 use Rattle.seg_grammar.specs.declared.fault.SegFault.TheVariants.{BadMagic, BadVersion, Codec, Disorder, NoMemory}
 use Rattle.seg_grammar.specs.Reading.{head_at, number_at, segment_at}
 use Rattle.seg_grammar.specs.Spelling.{record_bytes, seg_bytes}
-use Rattle.seg_decoding.specs.Decoding.{doc_in}
+use Rattle.seg_documents.specs.Decoding.{doc_in}
 
 -- the value, or the fault at the place, if there is one
 abbrev pub unless_at : {A : Type 0} → A → Option ℕ → Result A ℕ

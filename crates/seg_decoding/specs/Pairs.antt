@@ -11,7 +11,7 @@ use Rattle.seg_terms.specs.Laws.{has_term}
 use Rattle.seg_terms.specs.Noting.{Table, found}
 use Rattle.seg_file.specs.Search.{term_of}
 use Rattle.seg_decoding.specs.Answers.{IsLeaf}
-use Rattle.seg_decoding.specs.Decoding.{doc_in}
+use Rattle.seg_documents.specs.Decoding.{doc_in}
 
 -- the term is stored with the place
 abbrev pub is_stored : Table → List ℕ → ℕ → Bool

@@ -8,8 +8,8 @@ ghost use Rattle.seg_grammar.specs.Lookups.{record_of};
 ghost use Rattle.seg_grammar.specs.Spelling.{IsRecord};
 ghost use Rattle.seg_terms.specs.Entries.{stored_of};
 ghost use Rattle.seg_decoding.specs.Answers.{Gives, IsLeaf};
-ghost use Rattle.seg_decoding.specs.Decoding.{doc_in};
-ghost use Rattle.seg_decoding.specs.Entries.{docs_of};
+ghost use Rattle.seg_documents.specs.Decoding.{doc_in};
+ghost use Rattle.seg_documents.specs.Entries.{docs_of};
 ghost use Rattle.seg_decoding.specs.Opening.{leaves_fit, document_fits, documents_fit, counted_anew};
 
 use crate::fault::StoredFault;

@@ -2,7 +2,7 @@ ghost use Rattle.std.specs.Prelude.{◌≡◌, ◌≤◌, ◌<◌, Ok, All, IfOk
 ghost use Rattle.facet_model.specs.Stored.{IsSegmentOf};
 ghost use Rattle.seg_grammar.specs.Spelling.{IsSegment, seg_bytes};
 ghost use Rattle.seg_decoding.specs.Answers.{Fails, Gives, IsLeaf};
-ghost use Rattle.seg_decoding.specs.Decoding.{doc_in};
+ghost use Rattle.seg_documents.specs.Decoding.{doc_in};
 ghost use Rattle.seg_decoding.specs.Opening.{head_fits, opened, stored_segment};
 
 use crate::difference::first_difference;

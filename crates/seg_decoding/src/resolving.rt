@@ -3,7 +3,7 @@ ghost use Rattle.std.specs.Prelude.{◌≡◌, Some, IsTrue, All, IfOk, OnOk, ma
 ghost use Rattle.std.specs.List.{list_all};
 ghost use Rattle.facet_names.specs.Labels.{prefixes, stands};
 ghost use Rattle.facet_model.specs.CountedPaths.{AreResolved};
-ghost use Rattle.seg_decoding.specs.Entries.{IsShort};
+ghost use Rattle.seg_documents.specs.Entries.{IsShort};
 
 use facet_model::Resolved;
 use facet_names::{NoMemory, Path};

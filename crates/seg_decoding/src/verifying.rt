@@ -9,7 +9,7 @@ ghost use Rattle.seg_grammar.specs.Lookups.{record_of};
 ghost use Rattle.seg_grammar.specs.Spelling.{IsRecord};
 ghost use Rattle.seg_postings.specs.Rising.{is_in};
 ghost use Rattle.seg_decoding.specs.Answers.{IsLeaf};
-ghost use Rattle.seg_decoding.specs.Decoding.{doc_in};
+ghost use Rattle.seg_documents.specs.Decoding.{doc_in};
 ghost use Rattle.seg_decoding.specs.Facts.{AreSeen, labels_of};
 ghost use Rattle.seg_decoding.specs.Ready.{IsReady};
 ghost use Rattle.seg_decoding.specs.Pairs.{AreTheirs, IsRight, Passes};

@@ -7,9 +7,9 @@ use Rattle.facet_model.specs.Flags.{Config}
 use Rattle.facet_model.specs.Stored.{Records, IsSegmentOf, Decodes, alive, live_docs}
 use Rattle.commit_file.specs.declared.index.DocumentPart.{DocumentPart}
 use Rattle.commit_file.specs.Commits.{documents_of}
-use Rattle.seg_decoding.specs.Decoding.{doc_in, docs_in, records_in}
+use Rattle.seg_documents.specs.Decoding.{doc_in, docs_in, records_in}
 use Rattle.live_records.proofs.Alive.{map_alive}
-use Rattle.seg_decoding.proofs.Live.{records_first, records_first_live}
+use Rattle.seg_documents.proofs.Live.{records_first, records_first_live}
 use Rattle.store_opening.specs.Newest.{IsNamedAs}
 
 module _ (config : Config) (labels : List (List (List ℕ))) where

@@ -10,7 +10,7 @@ use Rattle.commit_file.specs.Commits.{labels_listed, documents_listed}
 use Rattle.commit_file.specs.Reading.{taxonomy_commit, index_commit}
 use Rattle.commit_file.specs.declared.taxonomy.LabelPart.{LabelPart}
 use Rattle.commit_file.specs.declared.index.DocumentPart.{DocumentPart}
-use Rattle.seg_decoding.specs.Decoding.{doc_in}
+use Rattle.seg_documents.specs.Decoding.{doc_in}
 use Rattle.seg_grammar.specs.Spelling.{IsSegment, seg_bytes}
 
 -- these are the names of all files, each once

@@ -7,7 +7,7 @@ ghost use Rattle.facet_disk.specs.Calls.{Rose};
 ghost use Rattle.facet_model.specs.Stored.{Decodes};
 ghost use Rattle.facet_names.specs.Labels.{IsLabelList};
 ghost use Rattle.commit_file.specs.Commits.{AreInOrder};
-ghost use Rattle.seg_decoding.specs.Decoding.{docs_in};
+ghost use Rattle.seg_documents.specs.Decoding.{docs_in};
 ghost use Rattle.store_opening.specs.declared.fault.OpenFault.TheVariants.{Disk, NoMemory as Memory};
 ghost use Rattle.store_opening.specs.Files.{files, greatest_number};
 ghost use Rattle.store_opening.specs.Newest.{AreListed, next_after, IsNamedAs};

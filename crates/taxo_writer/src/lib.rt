@@ -2,10 +2,8 @@
 //! labels.
 #![tactic(auto)]
 
-mod label_list;
-mod resolving;
 mod viewing;
 mod writer;
 
-pub use label_list::LabelList;
+pub use taxo_adding::LabelList;
 pub use writer::TaxoWriter;

@@ -7,12 +7,10 @@ ghost use Rattle.facet_names.specs.Labels.{place, prefixes};
 ghost use Rattle.facet_model.specs.CountedPaths.{AreResolved};
 ghost use Rattle.taxo_cache.specs.Seen.{labels_of, SeesLabels};
 ghost use Rattle.taxo_cache.specs.declared.looked.Looked.TheVariants.{Hit};
-ghost use Rattle.taxo_writer.specs.Adding.{HaveOrdinals, Adds, IsFull};
-ghost use Rattle.taxo_writer.specs.Several.{AddsInTurn, EachHaveFirst, EachHaveOrdinals, IsFullForOne};
+ghost use Rattle.taxo_adding.specs.Adding.{HaveOrdinals, Adds, IsFull};
+ghost use Rattle.taxo_adding.specs.Several.{AddsInTurn, EachHaveFirst, EachHaveOrdinals, IsFullForOne};
 ghost use Rattle.taxo_list.specs.declared.fault.TaxoFault.TheVariants.{NoMemory as Memory};
 
-use crate::label_list::LabelList;
-use crate::resolving::{add_behind_each, add_each};
 use crate::viewing::renewed;
 use chronicle::{Chronicle, Token};
 use facet_model::Resolved;
@@ -20,6 +18,7 @@ use facet_names::{NoMemory, Path};
 use std::alloc::Global;
 use std::marker::Model;
 use std::sync::{Arc, Wait};
+use taxo_adding::{LabelList, add_behind_each, add_each};
 use taxo_cache::{Looked, Memos, Name, Stripes};
 use taxo_list::{TaxoFault, TaxoView, Taxonomy};
 

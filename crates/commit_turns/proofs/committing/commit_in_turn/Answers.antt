@@ -8,7 +8,7 @@ use Rattle.facet_model.specs.Histories.{Operation}
 use Rattle.commit_turns.proofs.Prefixed.{docs_on}
 use Rattle.commit_turns.proofs.Carried.{stands_more}
 use Rattle.commit_turns.proofs.committing.commit_in_turn.Goals as goal
-use Rattle.taxo_writer.proofs.Growing.{seen_goes_on}
+use Rattle.taxo_adding.proofs.Growing.{seen_goes_on}
 
 pub returns-clause-stands : goal.returns-clause-stands
 returns-clause-stands g c points st =

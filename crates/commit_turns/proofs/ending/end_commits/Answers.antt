@@ -11,7 +11,7 @@ use Rattle.commit_turns.proofs.Carried.{stands_more}
 use Rattle.commit_turns.proofs.Ended.{count_is, counts, rose, fails_with, lasts}
 use Rattle.commit_turns.proofs.Prefixed.{docs_on}
 use Rattle.commit_turns.proofs.ending.end_commits.Goals as goal
-use Rattle.taxo_writer.proofs.Growing.{seen_goes_on}
+use Rattle.taxo_adding.proofs.Growing.{seen_goes_on}
 
 pub returns-clause-counts : goal.returns-clause-counts
 returns-clause-counts g c =

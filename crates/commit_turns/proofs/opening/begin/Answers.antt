@@ -2,7 +2,7 @@ use Rattle.std.proofs.Common.{◌≡◌, map, sym, subst}
 use Rattle.std.specs.Arc.{arc_value}
 use Rattle.facet_model.specs.Flags.{Config}
 use Rattle.facet_model.specs.Stored.{Decodes}
-use Rattle.seg_decoding.specs.Decoding.{docs_in}
+use Rattle.seg_documents.specs.Decoding.{docs_in}
 use Rattle.commit_store.specs.Committing.{HasFiles}
 use Rattle.commit_store.specs.Promised.{IsHere}
 use Rattle.store_opening.specs.Settled.{IsSettled}

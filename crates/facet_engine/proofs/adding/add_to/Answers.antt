@@ -7,11 +7,11 @@ use Rattle.facet_model.specs.CountedPaths.{AreResolved}
 use Rattle.facet_model.specs.Documents.{Doc}
 use Rattle.facet_model.specs.Flags.{Config}
 use Rattle.facet_names.specs.Labels.{prefixes}
-use Rattle.seg_decoding.proofs.Ordinals.{resolved_known}
-use Rattle.seg_decoding.specs.Entries.{IsEntry}
+use Rattle.seg_documents.proofs.Ordinals.{resolved_known}
+use Rattle.seg_documents.specs.Entries.{IsEntry}
 use Rattle.taxo_cache.specs.Seen.{labels_of}
 use Rattle.taxo_list.specs.declared.fault.TaxoFault.TheVariants.{LabelsFull}
-use Rattle.taxo_writer.specs.Several.{AddsInTurn, IsFullForOne}
+use Rattle.taxo_adding.specs.Several.{AddsInTurn, IsFullForOne}
 use Rattle.facet_engine.proofs.Added.{full_for, tried_full, tried_placed}
 use Rattle.facet_engine.proofs.Seeing.{same_sees_on}
 use Rattle.facet_engine.proofs.adding.add_to.Goals as goal

@@ -2,9 +2,9 @@ use Rattle.std.proofs.Common.{◌≤◌, ◌∙◌, List, ℕ, length, ap, sym, 
 use Rattle.std.specs.Prelude.{All}
 use Rattle.std.specs.List.Sorted.{IsStrictlyIncreasing}
 use Rattle.facet_config.specs.Expanding.{AreAsLong}
-use Rattle.seg_decoding.proofs.Few.{counted_few, counted_rise}
-use Rattle.seg_decoding.proofs.Ordinals.{resolved_as_long}
-use Rattle.seg_decoding.specs.Entries.{IsShort}
+use Rattle.seg_documents.proofs.Few.{counted_few, counted_rise}
+use Rattle.seg_documents.proofs.Ordinals.{resolved_as_long}
+use Rattle.seg_documents.specs.Entries.{IsShort}
 use Rattle.facet_engine.proofs.Entered.{as_many, entry_made}
 use Rattle.facet_engine.proofs.adding.entry_of.Goals as goal
 

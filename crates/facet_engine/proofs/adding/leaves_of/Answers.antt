@@ -2,7 +2,7 @@ use Rattle.std.proofs.Common.{◌∙◌, ◌<◌, ◌≤◌, length, map, sym, a
 use Rattle.std.specs.Prelude.{All}
 use Rattle.std.proofs.lemmas.List.{take_all}
 use Rattle.std.proofs.lemmas.List.Elements.{All-more}
-use Rattle.seg_decoding.specs.Entries.{IsShort}
+use Rattle.seg_documents.specs.Entries.{IsShort}
 use Rattle.facet_engine.specs.Adding.{leaf_of}
 use Rattle.facet_engine.proofs.Entered.{as_many_resolved, leaf_more, long_at}
 use Rattle.facet_engine.proofs.adding.leaves_of.Goals as goal

@@ -1,6 +1,6 @@
 use Rattle.std.proofs.Common.{◌≡◌, map, take}
 use Rattle.std.specs.Prelude.{All}
-use Rattle.seg_decoding.specs.Entries.{IsShort}
+use Rattle.seg_documents.specs.Entries.{IsShort}
 use Rattle.facet_engine.specs.Adding.{leaf_of}
 use Rattle.facet_engine.proofs.adding.leaves_of.Given as goal
 

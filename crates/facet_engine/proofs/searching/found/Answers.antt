@@ -4,7 +4,7 @@ use Rattle.std.specs.Prelude.{All}
 use Rattle.facet_model.specs.Hits.{is_hit}
 use Rattle.facet_model.specs.Stored.{Records}
 use Rattle.sideways.specs.Searches.{question}
-use Rattle.seg_decoding.specs.Decoding.{doc_in, docs_in, records_in, record_at}
+use Rattle.seg_documents.specs.Decoding.{doc_in, docs_in, records_in, record_at}
 use Rattle.facet_engine.proofs.Searched.{places_within, hits_are, hit_of}
 use Rattle.facet_output.specs.Replies as replies
 use Rattle.facet_replies.specs.ReplyViews.{hit_view}

@@ -1,7 +1,7 @@
 use Rattle.std.proofs.Common.{◌≡◌, map, take}
 use Rattle.std.specs.Arc.{arc_value}
 use Rattle.facet_replies.specs.ReplyViews.{hit_view}
-use Rattle.seg_decoding.specs.Decoding.{record_at}
+use Rattle.seg_documents.specs.Decoding.{record_at}
 use Rattle.facet_engine.proofs.searching.hit_lines.Given as goal
 
 abbrev pub invariant-loop-place : goal.invariant-loop-place

@@ -7,8 +7,8 @@ use Rattle.facet_model.specs.Histories.{docs}
 use Rattle.facet_model.specs.Stored.{Decodes}
 use Rattle.facet_output.specs.Replies.{found, refused}
 use Rattle.facet_output.specs.Replying.{IsFound, first_refused}
-use Rattle.seg_decoding.specs.Decoding.{docs_in}
-use Rattle.seg_decoding.proofs.Decoded.{decoded}
+use Rattle.seg_documents.specs.Decoding.{docs_in}
+use Rattle.seg_documents.proofs.Decoded.{decoded}
 use Rattle.sideways.specs.Refusals as refusals
 use Rattle.sideways.specs.Searches.{Search}
 use Rattle.facet_engine.specs.Replies.{found_view}

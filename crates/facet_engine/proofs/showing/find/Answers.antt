@@ -2,7 +2,7 @@ use Rattle.std.proofs.Common.{◌≡◌, ◌∙◌, ◌+◌, ◌-◌, ◌<◌, �
 use Rattle.std.specs.Arc.{arc_value}
 use Rattle.facet_model.specs.Stored.{Records, is_dead, live_before}
 use Rattle.seg_grammar.specs.Lookups.{record_of}
-use Rattle.seg_decoding.specs.Decoding.{records_in}
+use Rattle.seg_documents.specs.Decoding.{records_in}
 use Rattle.facet_engine.proofs.Found.{record_here, record_later}
 use Rattle.facet_engine.proofs.showing.find.Goals as goal
 

@@ -1,6 +1,6 @@
 use Rattle.std.proofs.Common.{◌≡◌, map, drop, slice_get}
 use Rattle.std.specs.Arc.{arc_value}
-use Rattle.seg_decoding.specs.Decoding.{records_in}
+use Rattle.seg_documents.specs.Decoding.{records_in}
 use Rattle.facet_engine.proofs.showing.find.Given as goal
 
 abbrev pub invariant-loop-segment : goal.invariant-loop-segment

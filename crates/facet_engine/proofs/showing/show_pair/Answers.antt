@@ -5,7 +5,7 @@ use Rattle.facet_model.specs.Histories.{docs}
 use Rattle.facet_names.proofs.LabelLists.{Labels}
 use Rattle.facet_output.specs.Replies.{shown}
 use Rattle.facet_output.specs.Replying.{IsShown}
-use Rattle.seg_decoding.specs.Decoding.{doc_in, records_in}
+use Rattle.seg_documents.specs.Decoding.{doc_in, records_in}
 use Rattle.seg_grammar.specs.Lookups.{record_of}
 use Rattle.taxo_cache.specs.Seen.{labels_of}
 use Rattle.facet_engine.proofs.Stored.{leaves_at, shown_at, none_at, docs_many}

@@ -1,6 +1,6 @@
 use Rattle.std.proofs.Common.{◌≡◌, ◌+◌, length, map, drop}
 use Rattle.std.specs.Arc.{arc_value}
-use Rattle.seg_decoding.specs.Decoding.{records_in}
+use Rattle.seg_documents.specs.Decoding.{records_in}
 use Rattle.index_state.proofs.flushing.count_documents.Given as goal
 
 abbrev pub invariant-loop-segment : goal.invariant-loop-segment

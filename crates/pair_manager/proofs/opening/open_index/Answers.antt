@@ -2,7 +2,7 @@ use Rattle.std.proofs.Common.{rules, ◌≡◌, ℕ, List, map, sym, subst}
 use Rattle.std.specs.Arc.{arc_value}
 use Rattle.facet_model.specs.Flags.{Config}
 use Rattle.facet_model.specs.Stored.{Decodes}
-use Rattle.seg_decoding.specs.Decoding.{docs_in}
+use Rattle.seg_documents.specs.Decoding.{docs_in}
 use Rattle.taxo_cache.specs.Seen.{labels_of}
 use Rattle.pair_manager.proofs.opening.open_index.Goals as goal
 

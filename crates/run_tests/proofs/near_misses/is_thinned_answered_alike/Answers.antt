@@ -2,7 +2,7 @@ use Rattle.std.proofs.Common.{◌∙◌, ◌≡◌, ◌≤◌, List, ap, arith, 
 use Rattle.std.specs.Arc.{arc_value}
 use Rattle.std.specs.List.{AllZip, sum_by}
 use Rattle.facet_model.specs.Stored.{Decodes, Records}
-use Rattle.seg_decoding.specs.Decoding.{docs_in}
+use Rattle.seg_documents.specs.Decoding.{docs_in}
 use Rattle.run_tests.specs.Thinned.{IsStoredAlike}
 use Rattle.run_tests.proofs.Thinned.{decodes_alike}
 use Rattle.run_tests.proofs.near_misses.is_thinned_answered_alike.Goals as goal

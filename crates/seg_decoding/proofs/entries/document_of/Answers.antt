@@ -3,7 +3,7 @@ use Rattle.facet_model.specs.Shapes.{doc_fault}
 use Rattle.facet_model.specs.Stored.{AreLabelsAt}
 use Rattle.seg_grammar.specs.Lookups.{record_of}
 use Rattle.seg_grammar.specs.Spelling.{IsRecord}
-use Rattle.seg_decoding.proofs.Decoded.{doc_made}
+use Rattle.seg_documents.proofs.Decoded.{doc_made}
 use Rattle.seg_decoding.proofs.Shapes.{memory_alone}
 use Rattle.seg_decoding.proofs.entries.document_of.Goals as goal
 

@@ -2,7 +2,7 @@ use Rattle.std.proofs.Common.{ℕ, ◌<◌, ◌+◌, ◌∙◌, length, drop, sy
 use Rattle.std.proofs.lemmas.Result.{err_from_is_err_and}
 use Rattle.seg_grammar.specs.Lookups.{record_of}
 use Rattle.seg_terms.specs.Entries.{stored_of}
-use Rattle.seg_decoding.specs.Decoding.{doc_in}
+use Rattle.seg_documents.specs.Decoding.{doc_in}
 use Rattle.seg_decoding.specs.Opening.{document_fits, documents_fit, counted_anew}
 use Rattle.seg_decoding.proofs.Fitting.{documents_more, documents_fail, documents_end}
 use Rattle.seg_decoding.proofs.Telling.{fails_on, one_more}

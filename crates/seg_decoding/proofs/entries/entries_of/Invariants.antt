@@ -1,8 +1,8 @@
 use Rattle.std.proofs.Common.{◌≡◌, ◌≤◌, ◌<◌, ◌+◌, ◌*◌, map, take, drop}
 use Rattle.facet_names.specs.Labels.{IsLabelList}
 use Rattle.seg_terms.specs.Entries.{stored_of}
-use Rattle.seg_decoding.specs.Decoding.{doc_in}
-use Rattle.seg_decoding.specs.Entries.{docs_of}
+use Rattle.seg_documents.specs.Decoding.{doc_in}
+use Rattle.seg_documents.specs.Entries.{docs_of}
 use Rattle.seg_decoding.specs.Opening.{documents_fit, counted_anew}
 use Rattle.seg_decoding.proofs.entries.entries_of.Given as goal
 

@@ -5,10 +5,10 @@ use Rattle.facet_config.specs.Expanding.{AreAsLong}
 use Rattle.facet_model.specs.CountedPaths.{AreResolved}
 use Rattle.facet_model.specs.Histories.{knows}
 use Rattle.facet_model.proofs.Fronts.{knows_its_labels}
-use Rattle.seg_decoding.specs.Entries.{IsShort}
+use Rattle.seg_documents.specs.Entries.{IsShort}
 use Rattle.std.specs.List.Sorted.{IsStrictlyIncreasing}
-use Rattle.seg_decoding.proofs.Few.{counted_few, counted_rise}
-use Rattle.seg_decoding.proofs.Ordinals.{known_at, resolved_as_long}
+use Rattle.seg_documents.proofs.Few.{counted_few, counted_rise}
+use Rattle.seg_documents.proofs.Ordinals.{known_at, resolved_as_long}
 use Rattle.seg_decoding.proofs.entries.entry_of.Goals as goal
 
 pub resolve_all-requires : goal.resolve_all-requires

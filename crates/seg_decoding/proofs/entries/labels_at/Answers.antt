@@ -1,7 +1,7 @@
 use Rattle.std.proofs.Common.{◌≡◌, ◌∙◌, ◌-◌, ◌<◌, [], ℕ, get_or, length, ap, arith}
 use Rattle.std.proofs.lemmas.List.{get_or_default}
 use Rattle.seg_decoding.specs.Answers.{IsLeaf}
-use Rattle.seg_decoding.proofs.Decoded.{label_behind, labels_more}
+use Rattle.seg_documents.proofs.Decoded.{label_behind, labels_more}
 use Rattle.seg_decoding.proofs.entries.labels_at.Goals as goal
 
 pub loop-ord-preserved : goal.loop-ord-preserved

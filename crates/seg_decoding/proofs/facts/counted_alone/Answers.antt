@@ -3,7 +3,7 @@ use Rattle.facet_model.specs.CountedPaths.{counted_ordinals}
 use Rattle.facet_model.specs.Documents.{Doc}
 use Rattle.facet_model.specs.Stored.{Stored}
 use Rattle.seg_decoding.specs.Facts.{label_of}
-use Rattle.seg_decoding.proofs.Decoded.{labels_at}
+use Rattle.seg_documents.proofs.Decoded.{labels_at}
 use Rattle.seg_decoding.proofs.facts.counted_alone.Goals as goal
 
 pub returns : goal.returns

@@ -4,10 +4,10 @@ use Rattle.facet_model.specs.Terms.{terms_of}
 use Rattle.seg_terms.specs.Entries.{stored_of}
 use Rattle.seg_terms.specs.declared.entry.Entry.{Entry}
 use Rattle.seg_grammar.specs.Spelling.{IsSegment, seg_bytes}
-use Rattle.seg_decoding.specs.Entries.{docs_of}
+use Rattle.seg_documents.specs.Entries.{docs_of}
 use Rattle.seg_decoding.specs.Opening.{opened, documents_fit, rebuilt, first_difference, stored_segment}
 use Rattle.seg_decoding.proofs.Compared.{number_is, stored_unread, stored_unfit, differs, agrees, decodes, leaves_low}
-use Rattle.seg_decoding.proofs.Live.{own_segment}
+use Rattle.seg_documents.proofs.Live.{own_segment}
 use Rattle.seg_decoding.proofs.Telling.{fails_on}
 use Rattle.seg_decoding.proofs.Verified.{right_fits, verified_opens, verified_decodes}
 use Rattle.seg_decoding.proofs.opening.open_stored.Goals as goal

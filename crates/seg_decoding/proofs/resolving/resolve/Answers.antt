@@ -2,8 +2,8 @@ use Rattle.std.proofs.Common.{map, slice_get, Some, ◌≡◌, ◌<◌, ◌∙�
 use Rattle.std.proofs.lemmas.List.{take_all}
 use Rattle.facet_names.specs.Labels.{place, prefixes, stands}
 use Rattle.facet_names.proofs.LabelLists.{label_at}
-use Rattle.seg_decoding.proofs.Ordinals.{one_ordinal_more}
-use Rattle.seg_decoding.proofs.Prefixes.{prefix_stands}
+use Rattle.seg_documents.proofs.Ordinals.{one_ordinal_more}
+use Rattle.seg_documents.proofs.Prefixes.{prefix_stands}
 use Rattle.seg_decoding.proofs.resolving.resolve.Goals as goal
 use Rattle.facet_names.proofs.Fronts.{as_many_prefixes, prefix_at}
 

@@ -1,8 +1,8 @@
 use Rattle.std.proofs.Common.{sym, subst}
 use Rattle.std.proofs.lemmas.List.Elements.{All-more}
-use Rattle.seg_decoding.specs.Entries.{IsShort}
-use Rattle.seg_decoding.proofs.Ordinals.{one_path_resolved}
-use Rattle.seg_decoding.proofs.Prefixes.{stays}
+use Rattle.seg_documents.specs.Entries.{IsShort}
+use Rattle.seg_documents.proofs.Ordinals.{one_path_resolved}
+use Rattle.seg_documents.proofs.Prefixes.{stays}
 use Rattle.seg_decoding.proofs.resolving.resolve_all.Goals as goal
 
 pub loop-path-preserved : goal.loop-path-preserved

@@ -1,7 +1,7 @@
 use Rattle.std.proofs.Common.{take}
 use Rattle.std.specs.Prelude.{All}
 use Rattle.facet_model.specs.CountedPaths.{AreResolved}
-use Rattle.seg_decoding.specs.Entries.{IsShort}
+use Rattle.seg_documents.specs.Entries.{IsShort}
 use Rattle.seg_decoding.proofs.resolving.resolve_all.Given as goal
 
 abbrev pub invariant-loop-path : goal.invariant-loop-path

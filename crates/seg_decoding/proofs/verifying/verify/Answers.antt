@@ -9,9 +9,9 @@ use Rattle.facet_model.specs.Stored.{Records}
 use Rattle.facet_model.specs.Terms.{doc_terms}
 use Rattle.seg_grammar.specs.Lookups.{record_of}
 use Rattle.seg_file.specs.Search.{term_of}
-use Rattle.seg_decoding.specs.Decoding.{doc_in}
+use Rattle.seg_documents.specs.Decoding.{doc_in}
 use Rattle.seg_decoding.specs.Pairs.{IsPassed, IsRight}
-use Rattle.seg_decoding.proofs.Stored.{map_get}
+use Rattle.seg_documents.proofs.Stored.{map_get}
 use Rattle.seg_decoding.proofs.Walked.{passed_stays, own_has, theirs_at_end}
 use Rattle.seg_decoding.proofs.verifying.verify.Goals as goal
 use Rattle.std.proofs.lemmas.List.Elements.{recursion_from_All}

@@ -2,7 +2,7 @@ use Rattle.std.proofs.Common.{◌<◌, ℕ, map}
 use Rattle.std.specs.Prelude.{All}
 use Rattle.facet_model.specs.Terms.{doc_terms}
 use Rattle.seg_grammar.specs.Lookups.{record_of}
-use Rattle.seg_decoding.specs.Decoding.{doc_in}
+use Rattle.seg_documents.specs.Decoding.{doc_in}
 use Rattle.seg_decoding.specs.Pairs.{IsPassed, IsRight, OnlyTheirs}
 use Rattle.seg_decoding.specs.Ready.{IsReady}
 use Rattle.seg_decoding.proofs.verifying.verify.Given as goal

@@ -1,4 +1,4 @@
-use Rattle.seg_decoding.proofs.Bare.{bare_entry}
+use Rattle.seg_documents.proofs.Bare.{bare_entry}
 use Rattle.taxo_cache.specs.Seen.{labels_of}
 use Rattle.thread_tests.proofs.pairs.add.Goals as goal
 

@@ -13,7 +13,7 @@ use Rattle.pair_manager.proofs.Publishing.{still_right}
 use Rattle.taxo_cache.specs.Seen.{labels_of}
 use Rattle.facet_engine.proofs.Ended.{ends_later, ends_now, ends_still, ended_named, ended_told, ended_up_to, sessions_are, are_published, lasts_more}
 use Rattle.facet_engine.proofs.system.System.end.Goals as goal
-use Rattle.taxo_writer.proofs.Growing.{seen_goes_on}
+use Rattle.taxo_adding.proofs.Growing.{seen_goes_on}
 
 pub note_each-notes-requires-clause-right : goal.note_each-notes-requires-clause-right
 note_each-notes-requires-clause-right g c κs within =

@@ -5,7 +5,7 @@ use Rattle.chronicle.specs.Shown.{Shown}
 use Rattle.commit_turns.specs.Opening.{IsOpenedAs}
 use Rattle.commit_turns.specs.Points.{made}
 use Rattle.commit_turns.specs.Seen.{docs_of}
-use Rattle.seg_decoding.specs.Decoding.{docs_in, records_in}
+use Rattle.seg_documents.specs.Decoding.{docs_in, records_in}
 use Rattle.taxo_cache.specs.Seen.{labels_of}
 use Rattle.chronicle.specs.Shown.{mine}
 use Rattle.std.specs.Prelude.{All}

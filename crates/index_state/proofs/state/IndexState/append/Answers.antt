@@ -4,9 +4,9 @@ use Rattle.std.specs.Arc.{arc_value}
 use mathlib.Core.List.{IsPrefix}
 use Rattle.facet_names.specs.Labels.{IsLabelList}
 use Rattle.seg_terms.specs.declared.entry.Entry.{Entry}
-use Rattle.seg_decoding.specs.Decoding.{docs_in}
+use Rattle.seg_documents.specs.Decoding.{docs_in}
 use Rattle.facet_model.specs.Flags.{Config}
-use Rattle.seg_decoding.specs.Entries.{IsEntry, docs_of}
+use Rattle.seg_documents.specs.Entries.{IsEntry, docs_of}
 use Rattle.chronicle.specs.Shown.{SameToken, SeesOn}
 use Rattle.taxo_cache.specs.Seen.{labels_of}
 use Rattle.taxo_cache.proofs.Seen.{longer_list}

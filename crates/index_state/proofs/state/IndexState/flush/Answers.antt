@@ -5,8 +5,8 @@ use mathlib.Core.List.{IsPrefix}
 use Rattle.facet_model.specs.Documents.{Doc}
 use Rattle.facet_model.specs.Stored.{Records}
 use Rattle.seg_terms.specs.declared.entry.Entry.{Entry}
-use Rattle.seg_decoding.specs.Decoding.{docs_in, flushed}
-use Rattle.seg_decoding.specs.Entries.{docs_of}
+use Rattle.seg_documents.specs.Decoding.{docs_in, flushed}
+use Rattle.seg_documents.specs.Entries.{docs_of}
 use Rattle.taxo_cache.specs.Seen.{labels_of}
 use Rattle.index_state.specs.Index.{Index, IsFlushed}
 use Rattle.index_state.specs.Kept.{IsKept}

@@ -6,11 +6,11 @@ use Rattle.facet_names.proofs.LabelLists.{Labels}
 use Rattle.facet_model.specs.Flags.{Config}
 use Rattle.facet_model.specs.Histories.{Operation, docs}
 use Rattle.facet_model.specs.Stored.{Decodes}
-use Rattle.seg_decoding.proofs.Decoded.{decodes_stay}
+use Rattle.seg_documents.proofs.Decoded.{decodes_stay}
 use Rattle.chronicle.specs.History.{entries}
 use Rattle.chronicle.proofs.Prefixes.{prefix_trans}
 use Rattle.taxo_cache.specs.Seen.{labels_of}
-use Rattle.taxo_writer.proofs.Growing.{labels_begin, seen_goes_on}
+use Rattle.taxo_adding.proofs.Growing.{labels_begin, seen_goes_on}
 use Rattle.pair_manager.specs.Published.{Published}
 use Rattle.pair_manager.proofs.manager.Manager.make_pair.Goals as goal
 

@@ -3,7 +3,7 @@ use Rattle.std.specs.Prelude.{flat_map}
 use Rattle.chronicle.specs.History.{entries}
 use Rattle.chronicle.proofs.Prefixes.{prefix_self}
 use Rattle.facet_names.specs.Labels.{prefixes}
-use Rattle.taxo_writer.specs.Several.{AddsInTurn}
+use Rattle.taxo_adding.specs.Several.{AddsInTurn}
 use Rattle.pair_manager.specs.Passes.{Managed}
 use Rattle.pair_manager.proofs.Publishing.{still_right}
 use Rattle.pair_manager.proofs.manager.Manager.resolve_each.Goals as goal

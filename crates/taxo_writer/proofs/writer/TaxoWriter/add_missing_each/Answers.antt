@@ -4,8 +4,8 @@ use mathlib.Core.List.{IsPrefix}
 use Rattle.chronicle.proofs.Prefixes.{prefix_trans}
 use Rattle.facet_names.specs.Labels.{prefixes}
 use Rattle.taxo_cache.specs.Seen.{labels_of}
-use Rattle.taxo_writer.specs.Several.{IsInTurn}
-use Rattle.taxo_writer.proofs.Several.{each_none, first_seen, full_given_each, new_since}
+use Rattle.taxo_adding.specs.Several.{IsInTurn}
+use Rattle.taxo_adding.proofs.Several.{each_none, first_seen, full_given_each, new_since}
 use Rattle.taxo_writer.proofs.writer.TaxoWriter.add_missing_each.Goals as goal
 
 pub returns-in_err-resolved-clause-adds : goal.returns-in_err-resolved-clause-adds

@@ -2,10 +2,10 @@ use Rattle.std.proofs.Common.{rules, arith, ◌≡◌, List, ℕ, take, length, 
 use Rattle.std.proofs.lemmas.List.{take_all}
 use Rattle.facet_names.specs.Labels.{prefixes}
 use Rattle.taxo_cache.specs.Seen.{labels_of}
-use Rattle.taxo_writer.specs.Adding.{HaveOrdinals}
-use Rattle.taxo_writer.specs.Several.{EachHaveFirst, EachHaveOrdinals}
-use Rattle.taxo_writer.proofs.Entering.{sees_further}
-use Rattle.taxo_writer.proofs.Several.{first_next, each_next, all_found}
+use Rattle.taxo_adding.specs.Adding.{HaveOrdinals}
+use Rattle.taxo_adding.specs.Several.{EachHaveFirst, EachHaveOrdinals}
+use Rattle.taxo_adding.proofs.Entering.{sees_further}
+use Rattle.taxo_adding.proofs.Several.{first_next, each_next, all_found}
 use Rattle.taxo_writer.proofs.writer.TaxoWriter.find_each.Goals as goal
 
 pub returns-in_err-push-clause-token : goal.returns-in_err-push-clause-token

@@ -1,7 +1,7 @@
 use Rattle.std.proofs.Common.{◌≡◌, true, false, take}
 use Rattle.chronicle.specs.Shown.{SameToken, SeesOn, IsCounted}
 use Rattle.taxo_cache.specs.Seen.{labels_of, SeesLabels}
-use Rattle.taxo_writer.specs.Several.{EachHaveFirst, EachHaveOrdinals}
+use Rattle.taxo_adding.specs.Several.{EachHaveFirst, EachHaveOrdinals}
 use Rattle.taxo_writer.proofs.writer.TaxoWriter.find_each.Given as goal
 
 abbrev pub invariant-loop-path : goal.invariant-loop-path

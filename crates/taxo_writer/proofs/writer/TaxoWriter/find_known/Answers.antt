@@ -1,8 +1,8 @@
 use Rattle.std.proofs.Common.{arith, rules, ◌≡◌, length, sym, subst}
 use Rattle.facet_names.specs.Labels.{prefixes}
 use Rattle.taxo_cache.specs.Seen.{labels_of}
-use Rattle.taxo_writer.specs.Adding.{HaveOrdinals}
-use Rattle.taxo_writer.proofs.Several.{all_found}
+use Rattle.taxo_adding.specs.Adding.{HaveOrdinals}
+use Rattle.taxo_adding.proofs.Several.{all_found}
 use Rattle.taxo_writer.proofs.writer.TaxoWriter.find_known.Goals as goal
 
 pub offer-requires-clause-ordinals : goal.offer-requires-clause-ordinals

@@ -1,8 +1,8 @@
 use Rattle.std.proofs.Common.{arith, ◌≡◌, ◌<◌, ◌+◌, Some, take, length}
 use Rattle.facet_names.specs.Labels.{prefixes, place}
 use Rattle.taxo_cache.specs.Seen.{labels_of}
-use Rattle.taxo_writer.proofs.Ordinals.{known_taken, one_ordinal_more, ordinals_seen}
-use Rattle.taxo_writer.proofs.Entering.{sees_further}
+use Rattle.taxo_adding.proofs.Ordinals.{known_taken, one_ordinal_more, ordinals_seen}
+use Rattle.taxo_adding.proofs.Entering.{sees_further}
 use Rattle.taxo_writer.proofs.writer.TaxoWriter.find_shared.Goals as goal
 use Rattle.facet_names.proofs.Fronts.{as_many_prefixes, prefix_at}
 

@@ -1,9 +1,9 @@
 use Rattle.std.proofs.Common.{arith, List, ℕ, sym, subst}
 use Rattle.facet_names.specs.Labels.{prefixes}
 use Rattle.taxo_cache.specs.Seen.{labels_of}
-use Rattle.taxo_writer.specs.Adding.{HaveOrdinals}
-use Rattle.taxo_writer.specs.Several.{EachHaveOrdinals}
-use Rattle.taxo_writer.proofs.Several.{as_many_resolved, each_at}
+use Rattle.taxo_adding.specs.Adding.{HaveOrdinals}
+use Rattle.taxo_adding.specs.Several.{EachHaveOrdinals}
+use Rattle.taxo_adding.proofs.Several.{as_many_resolved, each_at}
 use Rattle.taxo_writer.proofs.writer.TaxoWriter.remember_each.Goals as goal
 
 pub bounds-resolved-at : goal.bounds-resolved-at

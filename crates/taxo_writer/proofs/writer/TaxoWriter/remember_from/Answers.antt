@@ -1,7 +1,7 @@
 use Rattle.std.proofs.Common.{arith, ◌∙◌, ◌<◌, ◌+◌, take, length, ap, sym}
 use Rattle.facet_names.specs.Labels.{prefixes, place}
 use Rattle.taxo_cache.specs.Seen.{labels_of}
-use Rattle.taxo_writer.proofs.Ordinals.{as_many_ordinals, ordinal_at}
+use Rattle.taxo_adding.proofs.Ordinals.{as_many_ordinals, ordinal_at}
 use Rattle.taxo_writer.proofs.writer.TaxoWriter.remember_from.Goals as goal
 use Rattle.facet_names.proofs.Fronts.{as_many_prefixes, prefix_at}
 

@@ -1,7 +1,7 @@
 use Rattle.std.proofs.Common.{◌∙◌, sym, subst}
 use mathlib.Core.List.{IsPrefix}
 use Rattle.chronicle.proofs.Prefixes.{prefix_trans}
-use Rattle.taxo_writer.proofs.Growing.{labels_begin}
+use Rattle.taxo_adding.proofs.Growing.{labels_begin}
 use Rattle.taxo_writer.proofs.writer.TaxoWriter.renew.Goals as goal
 
 pub renewed-view-requires : goal.renewed-view-requires

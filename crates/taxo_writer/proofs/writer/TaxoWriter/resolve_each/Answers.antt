@@ -5,7 +5,7 @@ use Rattle.chronicle.proofs.Prefixes.{prefix_trans}
 use Rattle.facet_model.specs.CountedPaths.{AreResolved}
 use Rattle.facet_names.specs.Labels.{prefixes}
 use Rattle.taxo_cache.specs.Seen.{labels_of}
-use Rattle.taxo_writer.proofs.Several.{are_resolved, as_many_found, new_since, none_new}
+use Rattle.taxo_adding.proofs.Several.{are_resolved, as_many_found, new_since, none_new}
 use Rattle.taxo_writer.proofs.writer.TaxoWriter.resolve_each.Goals as goal
 
 pub returns-in_err-found-clause-adds : goal.returns-in_err-found-clause-adds

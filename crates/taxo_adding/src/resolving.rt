@@ -4,8 +4,8 @@ ghost use Rattle.chronicle.specs.History.{numbered};
 ghost use Rattle.chronicle.specs.Shown.{mine, MayEnter, SameToken};
 ghost use Rattle.facet_names.specs.Labels.{above, place, prefixes, stands};
 ghost use Rattle.taxo_cache.specs.Seen.{labels_of, SeesLabels};
-ghost use Rattle.taxo_writer.specs.Adding.{HaveOrdinals, Adds, HasNoRoom, IsFull, lacking};
-ghost use Rattle.taxo_writer.specs.Several.{AddsInTurn, EachHaveFirst, EachHaveOrdinals, IsFullForOne};
+ghost use Rattle.taxo_adding.specs.Adding.{HaveOrdinals, Adds, HasNoRoom, IsFull, lacking};
+ghost use Rattle.taxo_adding.specs.Several.{AddsInTurn, EachHaveFirst, EachHaveOrdinals, IsFullForOne};
 ghost use Rattle.taxo_list.specs.declared.fault.TaxoFault.TheVariants.{NoMemory as Memory};
 
 use crate::label_list::LabelList;

@@ -9,7 +9,7 @@ use Rattle.facet_model.specs.CountedPaths.{counted_ordinals}
 use Rattle.facet_model.specs.Flags.{Config}
 use Rattle.facet_model.specs.Histories.{knows}
 use Rattle.seg_terms.specs.declared.entry.Entry.{Entry}
-use Rattle.seg_decoding.specs.Entries.{IsEntry}
+use Rattle.seg_documents.specs.Entries.{IsEntry}
 
 none_passes : (known : Labels) (n : ℕ) → filter (λ (_ : ℕ × List (List ℕ)). false) (enumerate_from n known) ≡ []
 none_passes [] n = refl

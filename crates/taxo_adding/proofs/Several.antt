@@ -24,10 +24,10 @@ use Rattle.facet_model.specs.CountedPaths.{AreResolved}
 use Rattle.taxo_cache.specs.Seen.{labels_of}
 use Rattle.taxo_list.specs.declared.fault.TaxoFault.{TaxoFault}
 use Rattle.taxo_list.specs.declared.fault.TaxoFault.TheVariants.{NoMemory as Memory}
-use Rattle.taxo_writer.specs.Adding.{lacking, HaveOrdinals, Adds}
-use Rattle.taxo_writer.specs.Several.{EachNew, IsInTurn, EachHaveOrdinals, EachHaveFirst, IsFullForOne}
-use Rattle.taxo_writer.proofs.Ordinals.{ordinals_seen, none_missing, labels_entered}
-use Rattle.taxo_writer.proofs.Entering.{adds_none}
+use Rattle.taxo_adding.specs.Adding.{lacking, HaveOrdinals, Adds}
+use Rattle.taxo_adding.specs.Several.{EachNew, IsInTurn, EachHaveOrdinals, EachHaveFirst, IsFullForOne}
+use Rattle.taxo_adding.proofs.Ordinals.{ordinals_seen, none_missing, labels_entered}
+use Rattle.taxo_adding.proofs.Entering.{adds_none}
 use Rattle.std.proofs.lemmas.Slice.Zip.{all_zipped_more}
 use Rattle.facet_names.proofs.Fronts.{as_many_prefixes}
 

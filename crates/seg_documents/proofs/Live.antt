@@ -7,7 +7,7 @@ use Rattle.facet_model.specs.Documents.{Doc}
 use Rattle.facet_model.specs.Stored.{Stored, Records, alive, live_docs}
 use Rattle.live_records.proofs.Alive.{alive_none}
 use Rattle.seg_grammar.specs.Spelling.{IsSegment, all_live}
-use Rattle.seg_decoding.specs.Decoding.{records_in}
+use Rattle.seg_documents.specs.Decoding.{records_in}
 use Rattle.facet_model.proofs.Each.{each_from}
 
 -- ---- of one list

@@ -3,8 +3,8 @@ use Rattle.chronicle.specs.History.{numbered}
 use Rattle.chronicle.specs.Shown.{mine}
 use Rattle.facet_names.specs.Labels.{stands, with_label}
 use Rattle.taxo_cache.specs.Seen.{labels_of}
-use Rattle.taxo_writer.proofs.Ordinals.{was_there}
-use Rattle.taxo_writer.proofs.resolving.add_label.Goals as goal
+use Rattle.taxo_adding.proofs.Ordinals.{was_there}
+use Rattle.taxo_adding.proofs.resolving.add_label.Goals as goal
 
 pub returns-else-ord-size-clause-list : goal.returns-else-ord-size-clause-list
 returns-else-ord-size-clause-list c =

@@ -2,9 +2,9 @@ use Rattle.std.proofs.Common.{◌≡◌, ◌≤◌, true, take, length}
 use Rattle.chronicle.specs.Shown.{SameToken}
 use Rattle.facet_names.specs.Labels.{prefixes}
 use Rattle.taxo_cache.specs.Seen.{labels_of, SeesLabels}
-use Rattle.taxo_writer.specs.Adding.{HaveOrdinals}
-use Rattle.taxo_writer.proofs.Entering.{HasSoFar}
-use Rattle.taxo_writer.proofs.resolving.add_each.Given as goal
+use Rattle.taxo_adding.specs.Adding.{HaveOrdinals}
+use Rattle.taxo_adding.proofs.Entering.{HasSoFar}
+use Rattle.taxo_adding.proofs.resolving.add_each.Given as goal
 
 abbrev pub invariant-loop-n : goal.invariant-loop-n
 invariant-loop-n l = record {

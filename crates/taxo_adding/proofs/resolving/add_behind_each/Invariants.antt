@@ -4,8 +4,8 @@ use mathlib.Core.List.{IsPrefix}
 use Rattle.chronicle.specs.Shown.{SameToken}
 use Rattle.facet_names.specs.Labels.{prefixes}
 use Rattle.taxo_cache.specs.Seen.{labels_of, SeesLabels}
-use Rattle.taxo_writer.specs.Several.{EachHaveOrdinals, EachNew, IsInTurn}
-use Rattle.taxo_writer.proofs.resolving.add_behind_each.Given as goal
+use Rattle.taxo_adding.specs.Several.{EachHaveOrdinals, EachNew, IsInTurn}
+use Rattle.taxo_adding.proofs.resolving.add_behind_each.Given as goal
 
 abbrev pub invariant-loop-at : goal.invariant-loop-at
 invariant-loop-at l = record {

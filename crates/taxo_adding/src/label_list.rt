@@ -45,8 +45,8 @@ impl LabelList {
         LabelList { list }
     }
 
-    // The list again.
-    pub(crate) fn into_list(self) -> Taxonomy
+    /// The list again.
+    pub fn into_list(self) -> Taxonomy
         ensures same { result ≡ self }
         ensures list { IsLabelList self }
     {

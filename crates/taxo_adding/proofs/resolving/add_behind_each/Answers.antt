@@ -5,10 +5,10 @@ use mathlib.Core.List.{IsPrefix}
 use Rattle.chronicle.proofs.Prefixes.{prefix_self, prefix_trans}
 use Rattle.facet_names.specs.Labels.{prefixes}
 use Rattle.taxo_cache.specs.Seen.{labels_of}
-use Rattle.taxo_writer.specs.Several.{EachHaveOrdinals, IsInTurn}
-use Rattle.taxo_writer.proofs.Entering.{adds_begins}
-use Rattle.taxo_writer.proofs.Several.{each_none, next_new, each_next, contained, first_seen, first_at, as_many_found}
-use Rattle.taxo_writer.proofs.resolving.add_behind_each.Goals as goal
+use Rattle.taxo_adding.specs.Several.{EachHaveOrdinals, IsInTurn}
+use Rattle.taxo_adding.proofs.Entering.{adds_begins}
+use Rattle.taxo_adding.proofs.Several.{each_none, next_new, each_next, contained, first_seen, first_at, as_many_found}
+use Rattle.taxo_adding.proofs.resolving.add_behind_each.Goals as goal
 
 pub loop-at-init : goal.loop-at-init
 loop-at-init c =

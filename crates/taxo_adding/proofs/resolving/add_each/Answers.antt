@@ -4,10 +4,10 @@ use Rattle.chronicle.specs.History.{numbered}
 use Rattle.chronicle.specs.Shown.{mine}
 use Rattle.facet_names.specs.Labels.{above, prefixes, stands, place}
 use Rattle.taxo_cache.specs.Seen.{labels_of}
-use Rattle.taxo_writer.specs.Adding.{lacking, HaveOrdinals}
-use Rattle.taxo_writer.proofs.Ordinals.{known_few, none_missing, one_ordinal_more, ordinals_seen, parent_placed, as_many_ordinals, lacks_one}
-use Rattle.taxo_writer.proofs.Entering.{nothing_yet, so_far, next_so_far}
-use Rattle.taxo_writer.proofs.resolving.add_each.Goals as goal
+use Rattle.taxo_adding.specs.Adding.{lacking, HaveOrdinals}
+use Rattle.taxo_adding.proofs.Ordinals.{known_few, none_missing, one_ordinal_more, ordinals_seen, parent_placed, as_many_ordinals, lacks_one}
+use Rattle.taxo_adding.proofs.Entering.{nothing_yet, so_far, next_so_far}
+use Rattle.taxo_adding.proofs.resolving.add_each.Goals as goal
 use Rattle.facet_names.proofs.Fronts.{as_many_prefixes, prefix_at}
 
 pub loop-n-init : goal.loop-n-init

@@ -18,7 +18,7 @@ use Rattle.facet_model.specs.CountedPaths.{counted_ordinals, is_counted, is_coun
 use Rattle.facet_model.specs.Documents.{dim_of}
 use Rattle.facet_model.specs.Flags.{Config, flags}
 use Rattle.facet_config.specs.Expanding.{AreAsLong, AreExpanded}
-use Rattle.seg_decoding.specs.Entries.{IsShort}
+use Rattle.seg_documents.specs.Entries.{IsShort}
 use Rattle.std.proofs.lemmas.List.Elements.{All-tail}
 
 label_few : (config : Config) (path : List (List ℕ)) (ords : List ℕ) → length (ordinals_of_label config path ords) ≤ length ords

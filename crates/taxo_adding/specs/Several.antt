@@ -5,7 +5,7 @@ use Rattle.chronicle.specs.Shown.{Shown}
 use Rattle.facet_names.specs.Labels.{prefixes, stands, skips_none}
 use Rattle.taxo_list.specs.declared.fault.TaxoFault.{TaxoFault}
 use Rattle.taxo_cache.specs.Seen.{labels_of}
-use Rattle.taxo_writer.specs.Adding.{HaveOrdinals, IsFull}
+use Rattle.taxo_adding.specs.Adding.{HaveOrdinals, IsFull}
 
 -- each entry under this number behind the old ones is as it has to be, given its place
 abbrev pub EachNew : {A : Type 0} → ℕ → (ℕ → A → Type 0) → List (ℕ × A) → List (ℕ × A) → Type 0

@@ -12,10 +12,10 @@ use Rattle.facet_config.proofs.Staying.{counted_stay, known_stay}
 use Rattle.live_records.proofs.Alive.{map_alive, alive_none}
 use Rattle.seg_terms.specs.Entries.{stored_of, segment_of}
 use Rattle.seg_terms.specs.declared.entry.Entry.{Entry}
-use Rattle.seg_decoding.specs.Decoding.{doc_in, records_in, docs_in, flushed}
-use Rattle.seg_decoding.specs.Entries.{AreEntries, docs_of}
-use Rattle.seg_decoding.proofs.Live.{records_first}
-use Rattle.seg_decoding.proofs.Ordinals.{all_stay}
+use Rattle.seg_documents.specs.Decoding.{doc_in, records_in, docs_in, flushed}
+use Rattle.seg_documents.specs.Entries.{AreEntries, docs_of}
+use Rattle.seg_documents.proofs.Live.{records_first}
+use Rattle.seg_documents.proofs.Ordinals.{all_stay}
 use Rattle.std.proofs.lemmas.Slice.Zip.{all_zipped_more}
 
 -- ---- lists side by side

@@ -1,0 +1,7 @@
+pub mod Ordinals
+pub mod Live
+pub mod Decoded
+pub mod Stored
+pub mod Few
+pub mod Prefixes
+pub mod Bare

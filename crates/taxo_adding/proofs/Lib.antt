@@ -1,0 +1,5 @@
+pub mod Ordinals
+pub mod Entering
+pub mod Several
+pub mod Growing
+pub mod Crossing
