@@ -21,6 +21,10 @@ use std::rt::Files;
 /// From its first call on it holds the folder's lock until it is dropped; while another has it, each call answers `Failed` and does nothing.
 /// The lock makes no file. It keeps apart only those who ask for it, and not every network file system knows it.
 ///
+/// The path names the folder once, when it is locked. Each file is then reached through the folder that is locked, also after the folder was
+/// renamed or a link in its path was moved. A system without `/proc` keeps the resolved path instead, and each call fails once that path leads
+/// to another folder.
+///
 /// A folder that is not there holds no file, and the first `put` makes it. Entries that are no name of ours are passed over.
 /// `sync` syncs the file and its folder, and `sync_names` the folder. The first `put` in a directory syncs what holds its folder and what
 /// holds the disk's, made or not: a run that was cut off may have made them and not synced them. A want of memory inside a call that

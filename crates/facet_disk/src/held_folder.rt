@@ -5,9 +5,14 @@ use std::alloc::{AllocError, Global};
 use std::fs::{File, OpenFile, OpenOptions};
 use std::io;
 use std::io::{ErrorKind, Read, Write};
+use std::os::fd::AsRawFd;
+use std::os::unix::fs::MetadataExt;
 use std::rt::Files;
 
-/// A folder of the operating system, with a folder in it for each directory. Each call on it takes its lock first, and none gives it back.
+/// A folder of the operating system, with a folder in it for each directory. Each call on it locks the folder first, and no call unlocks it.
+///
+/// The folder that is locked is the only one that is read or written. Its path names it once, when it is locked; where the path leads later, after
+/// a rename or through a link that was moved, has no effect.
 ///
 /// An error of the kind `NotFound` says that a file is not there, and one of the kind `AlreadyExists` that one is.
 #[derive(Drop)]
@@ -17,6 +22,10 @@ pub(crate) struct HeldFolder<R: Files<File = File> + Drop> {
     root: String,
     // the folder, with its lock
     lock: Option<File>,
+    // a path to the locked folder; each path of a file begins with it
+    base: String,
+    // whether `base` may lead elsewhere one day, so that each call looks first
+    may_move: bool,
     // whether it was not there at a call, and was not made by this disk since
     was_absent: bool,
     // whether this directory's folder was seen to at a call that may make it
@@ -33,48 +42,70 @@ impl<R: Files<File = File> + Drop> HeldFolder<R> {
             files,
             root,
             lock: None,
+            base: String::new(alloc),
+            may_move: false,
             was_absent: false,
             has_taxonomy: false,
             has_index: false,
         })
     }
 
-    // Takes the lock, unless it is held. Where another has it, that is an error of the kind `WouldBlock`.
+    // Locks the folder, unless it is locked. Where another has locked it, that is an error of the kind `WouldBlock`.
     fn take(&mut self) -> io::Result<()> {
-        if self.lock.is_none() {
-            let mut how = OpenOptions::new();
-            how.read(true);
-            let folder = self.files.open_file(&how, &self.root)?;
-            folder.try_lock()?;
-            self.lock = Some(folder);
+        if let Some(folder) = &self.lock {
+            return if !self.may_move || leads_to(&self.files, &self.base, folder)? {
+                Ok(())
+            } else {
+                Err(ErrorKind::StaleNetworkFileHandle.into())
+            };
         }
+        let mut how = OpenOptions::new();
+        how.read(true);
+        let folder = self.files.open_file(&how, &self.root)?;
+        folder.try_lock()?;
+        let fd = folder.as_raw_fd();
+        self.base = format!(in self.alloc; "/proc/self/fd/{fd}")?;
+        self.may_move = !leads_to(&self.files, &self.base, &folder)?;
+        if self.may_move {
+            self.base = resolved_path(self.alloc, &self.files, &self.root, &folder)?;
+        }
+        self.lock = Some(folder);
         Ok(())
     }
 
-    // The same, where a folder that is not there is none that another has. One that was not there, and then was made elsewhere, is another's:
-    // what this disk has told of it is not so.
-    fn take_if_there(&mut self) -> io::Result<()> {
+    // Locks the folder, and answers whether it is there. One that was not there, and then was made elsewhere, is another's: what this disk has
+    // told of it is not so.
+    fn take_if_there(&mut self) -> io::Result<bool> {
         match self.take() {
             Ok(()) => if self.was_absent {
                 Err(ErrorKind::WouldBlock.into())
             } else {
-                Ok(())
+                Ok(true)
             },
             Err(e) => if e.kind() == ErrorKind::NotFound {
                 self.was_absent = true;
-                Ok(())
+                Ok(false)
             } else {
                 Err(e)
             },
         }
     }
 
+    // The same, for a call on something in the folder.
+    fn take_there(&mut self) -> io::Result<()> {
+        if self.take_if_there()? {
+            Ok(())
+        } else {
+            Err(ErrorKind::NotFound.into())
+        }
+    }
+
     fn folder_path(&self, dir: Dir) -> Result<String, AllocError> {
-        format!(in self.alloc; "{}/{dir}", self.root)
+        format!(in self.alloc; "{}/{dir}", self.base)
     }
 
     fn file_path(&self, name: FileName) -> Result<String, AllocError> {
-        format!(in self.alloc; "{}/{name}", self.root)
+        format!(in self.alloc; "{}/{name}", self.base)
     }
 
     fn sync_path(&self, path: &str) -> io::Result<()> {
@@ -95,13 +126,16 @@ impl<R: Files<File = File> + Drop> HeldFolder<R> {
         }
     }
 
-    // Makes the folder of the store where it is not there, and takes it.
+    // Makes the folder of the store, which was not there, and locks it. A folder that has files of a store is not the one that was made: another
+    // run came first, or the path leads elsewhere by now.
     fn make_root(&mut self) -> io::Result<()> {
         if self.make_folder(&self.root)? {
             self.take()?;
-            self.was_absent = false;
+            let taxonomy = self.folder_path(Dir::Taxonomy)?;
+            let index = self.folder_path(Dir::Index)?;
+            self.was_absent = self.is_there(&taxonomy)? || self.is_there(&index)?;
         }
-        self.take_if_there()
+        self.take_there()
     }
 
     // Makes the folders that a file of a directory stands in, where they are not there, and syncs what holds them, made or not: a run that
@@ -114,12 +148,11 @@ impl<R: Files<File = File> + Drop> HeldFolder<R> {
         if is_done {
             return Ok(());
         }
-        self.make_root()?;
         let path = self.folder_path(dir)?;
         self.make_folder(&path)?;
-        let above = format!(in self.alloc; "{}/..", self.root)?;
+        let above = format!(in self.alloc; "{}/..", self.base)?;
         self.sync_path(&above)?;
-        self.sync_path(&self.root)?;
+        self.sync_path(&self.base)?;
         match dir {
             Dir::Taxonomy => self.has_taxonomy = true,
             Dir::Index => self.has_index = true,
@@ -141,7 +174,9 @@ impl<R: Files<File = File> + Drop> HeldFolder<R> {
 
     /// The names of ours in a directory's folder; none where it is not there.
     pub(crate) fn list(&mut self, alloc: Global, dir: Dir) -> io::Result<Names> {
-        self.take_if_there()?;
+        if !self.take_if_there()? {
+            return Ok(Names::new(Vec::new(alloc)));
+        }
         let path = self.folder_path(dir)?;
         match self.files.open_dir(&path) {
             Ok(mut folder) => {
@@ -157,7 +192,7 @@ impl<R: Files<File = File> + Drop> HeldFolder<R> {
     }
 
     pub(crate) fn read(&mut self, alloc: Global, name: FileName) -> io::Result<Vec<u8>> {
-        self.take_if_there()?;
+        self.take_there()?;
         let path = self.file_path(name)?;
         let mut how = OpenOptions::new();
         how.read(true);
@@ -168,7 +203,9 @@ impl<R: Files<File = File> + Drop> HeldFolder<R> {
     }
 
     pub(crate) fn put(&mut self, name: FileName, bytes: &[u8]) -> io::Result<()> {
-        self.take_if_there()?;
+        if !self.take_if_there()? {
+            self.make_root()?;
+        }
         self.make_folders(name.dir)?;
         let path = self.file_path(name)?;
         let mut how = OpenOptions::new();
@@ -179,7 +216,7 @@ impl<R: Files<File = File> + Drop> HeldFolder<R> {
 
     /// It syncs the file and its directory's folder.
     pub(crate) fn sync(&mut self, name: FileName) -> io::Result<()> {
-        self.take_if_there()?;
+        self.take_there()?;
         let path = self.file_path(name)?;
         self.sync_path(&path)?;
         let folder = self.folder_path(name.dir)?;
@@ -188,7 +225,7 @@ impl<R: Files<File = File> + Drop> HeldFolder<R> {
 
     /// The operating system would put the file in the place of one of the new name, so that is looked for first.
     pub(crate) fn rename(&mut self, from: FileName, to: FileName) -> io::Result<()> {
-        self.take_if_there()?;
+        self.take_there()?;
         let old = self.file_path(from)?;
         let new = self.file_path(to)?;
         if !self.is_there(&old)? {
@@ -204,15 +241,49 @@ impl<R: Files<File = File> + Drop> HeldFolder<R> {
     }
 
     pub(crate) fn sync_names(&mut self, dir: Dir) -> io::Result<()> {
-        self.take_if_there()?;
+        self.take_there()?;
         let path = self.folder_path(dir)?;
         self.sync_path(&path)
     }
 
     pub(crate) fn remove(&mut self, name: FileName) -> io::Result<()> {
-        self.take_if_there()?;
+        self.take_there()?;
         let path = self.file_path(name)?;
         self.files.remove_file(&path)
+    }
+}
+
+// Whether a path leads to an open folder. One that leads nowhere does not.
+fn leads_to<R: Files<File = File>>(files: &R, path: &str, folder: &File) -> io::Result<bool> {
+    let Ok(found) = files.metadata(path) else {
+        return Ok(false);
+    };
+    let held = folder.metadata()?;
+    Ok(found.dev() == held.dev() && found.ino() == held.ino())
+}
+
+// The path to an open folder through no link, for a system that has no `/proc`. Where the path has led elsewhere since the folder was opened,
+// that is an error.
+fn resolved_path<R: Files<File = File>>(
+    alloc: Global,
+    files: &R,
+    path: &str,
+    folder: &File,
+) -> io::Result<String> {
+    match files.canonicalize(alloc, path) {
+        Ok(found) => {
+            let resolved = found.into_string();
+            if leads_to(files, &resolved, folder)? {
+                Ok(resolved)
+            } else {
+                Err(ErrorKind::StaleNetworkFileHandle.into())
+            }
+        }
+        Err(e) => if e.kind() == ErrorKind::OutOfMemory {
+            Err(e)
+        } else {
+            Err(ErrorKind::StaleNetworkFileHandle.into())
+        },
     }
 }
 
