@@ -1,4 +1,4 @@
-ghost use Rattle.std.specs.Prelude.{◌≡◌, ◌≢◌, ◌≤◌, ◌⊎◌, true, false, Err, IfOk, IfErr, OnOk, OnErr, length, map};
+ghost use Rattle.std.specs.Prelude.{◌≡◌, ◌≢◌, ◌≤◌, ◌⊎◌, ◌++◌, [], ◌∷◌, true, false, Err, IfOk, IfErr, OnOk, OnErr, length, map};
 ghost use Rattle.std.specs.Arc.{arc_value};
 ghost use mathlib.Core.List.{IsPrefix};
 ghost use Rattle.facet_model.specs.Stored.{Decodes};
@@ -63,6 +63,25 @@ impl Standing for IndexState {
     ghost frame = { λ index. frame_of index };
 }
 
+// A document waits, with its session, behind the others. Without memory both are as before.
+fn add_waiting(
+    sessions: &mut Vec<u32>,
+    waiting: &mut Vec<Entry>,
+    session: u32,
+    entry: Entry,
+) -> Result<(), AppendFault>
+    ensures sessions { OnOk result (sessions.new.items ≡ sessions.old.items ++ session ∷ []) }
+    ensures waiting { OnOk result (waiting.new.items ≡ waiting.old.items ++ entry ∷ []) }
+    ensures unchanged { OnErr result ((sessions.new.items ≡ sessions.old.items) × (waiting.new.items ≡ waiting.old.items)) }
+    ensures memory { IfErr result (λ e. e ≡ Memory) }
+{
+    sessions.reserve(1)?;
+    waiting.reserve(1)?;
+    sessions.push(session)?;
+    waiting.push(entry)?;
+    Ok(())
+}
+
 impl IndexState {
     /// The index of segments that were opened, under labels that were noted. Each of their documents counts as added by session 0. It takes four bytes of
     /// memory for each document.
@@ -124,12 +143,9 @@ impl IndexState {
         if at >= self.max_docs as u64 {
             return Err(AppendFault::DocsFull { count: at });
         }
-        self.sessions.reserve(1)?;
-        self.waiting.reserve(1)?;
+        add_waiting(&mut self.sessions, &mut self.waiting, session, entry)?;
         let note = chronicle.note(seen);
         chronicle.meet(&mut self.labels, note);
-        self.sessions.push(session)?;
-        self.waiting.push(entry)?;
         Ok(at)
     }
 

@@ -15,7 +15,7 @@ use Rattle.index_state.specs.Kept.{IsKept}
 use Rattle.index_state.proofs.Keeping.{kept_appended, appended_docs, one_more_stands}
 use Rattle.index_state.proofs.state.IndexState.append.Goals as goal
 
-listed : (c : goal.In_ok-push-2) → IsLabelList (labels_of c.meet.new.into.seen)
+listed : (c : goal.After-meet) → IsLabelList (labels_of c.meet.new.into.seen)
 listed c = subst (λ (l : List (ℕ × List (List ℕ))). IsLabelList (labels_of l)) (sym c.meet.ensures.longer)
     (longer_list c.self.inside.labels.seen c.note-note.result.seen c.self.invariant.list
     (subst (λ (l : List (ℕ × List (List ℕ))). IsLabelList (labels_of l)) (sym c.note-note.ensures.note.2) c.requires.labels))
@@ -28,23 +28,17 @@ invariant_of-self-2 c =
     let next = c.meet.new.into in
     let noted : c.note-note.result.seen ≡ told.seen = c.note-note.ensures.note.2 in
     let begins : IsPrefix told.seen next.seen = subst (λ (l : List (ℕ × List (List ℕ))). IsPrefix l next.seen) noted c.meet.ensures.told in
-    subst (λ (sessions : List ℕ). IsKept (arc_value s.config) next all c.push-2.new.self.items sessions s.max_docs) (sym (c.in_ok-push.ensures.items ∙ ap (λ (l : List ℕ). l ++ c.args.session ∷ []) c.in_ok-reserve.ensures.items))
-    (subst (λ (entries : List Entry). IsKept (arc_value s.config) next all entries (s.sessions.items ++ c.args.session ∷ []) s.max_docs) (sym (c.in_ok-push-2.ensures.items ∙ ap (λ (l : List Entry). l ++ c.args.entry ∷ []) c.in_ok-reserve-2.ensures.items))
+    subst (λ (sessions : List ℕ). IsKept (arc_value s.config) next all c.add_waiting.new.waiting.items sessions s.max_docs) (sym c.in_ok-add_waiting.ensures.sessions)
+    (subst (λ (entries : List Entry). IsKept (arc_value s.config) next all entries (s.sessions.items ++ c.args.session ∷ []) s.max_docs) (sym c.in_ok-add_waiting.ensures.waiting)
     (kept_appended (arc_value s.config) s.labels all s.waiting.items s.sessions.items s.max_docs c.self.invariant next c.meet.ensures.more.0 (listed c) told c.args.entry c.args.session (search (rules, c.meet.ensures.same, c.self.invariant.note)) c.requires.labels begins
     (subst (λ (config : Config). IsEntry config (labels_of told.seen) c.args.entry) (sym (ap (λ (x : Index). x.config) c.self.view_is)) c.requires.entry)
     (omega (arith, c.if-at-self.false, c.len-at.ensures))))
 
-waiting_is : (c : goal.In_ok-push-2) → c.push-2.new.self.items ≡ c.self.inside.waiting.items ++ c.args.entry ∷ []
-waiting_is c = c.in_ok-push-2.ensures.items ∙ ap (λ (l : List Entry). l ++ c.args.entry ∷ []) c.in_ok-reserve-2.ensures.items
-
-sessions_are : (c : goal.In_ok-push-2) → c.push.new.self.items ≡ c.self.inside.sessions.items ++ c.args.session ∷ []
-sessions_are c = c.in_ok-push.ensures.items ∙ ap (λ (l : List ℕ). l ++ c.args.session ∷ []) c.in_ok-reserve.ensures.items
-
-docs_are : (c : goal.In_ok-push-2) → docs_in (labels_of c.meet.new.into.seen) (map arc_value c.self.inside.segments.items) ++ docs_of c.push-2.new.self.items ≡ c.args.self.now.docs ++ c.args.entry.doc ∷ []
+docs_are : (c : goal.After-meet) → docs_in (labels_of c.meet.new.into.seen) (map arc_value c.self.inside.segments.items) ++ docs_of c.add_waiting.new.waiting.items ≡ c.args.self.now.docs ++ c.args.entry.doc ∷ []
 docs_are c =
     let s = c.self.inside in
     let all = map arc_value s.segments.items in
-    ap (λ (es : List Entry). docs_in (labels_of c.meet.new.into.seen) all ++ docs_of es) (waiting_is c)
+    ap (λ (es : List Entry). docs_in (labels_of c.meet.new.into.seen) all ++ docs_of es) c.in_ok-add_waiting.ensures.waiting
     ∙ appended_docs (arc_value s.config) s.labels all s.waiting.items s.sessions.items s.max_docs c.self.invariant c.meet.new.into c.meet.ensures.more.0 (listed c) c.args.entry
     ∙ ap (λ (x : Index). x.docs ++ c.args.entry.doc ∷ []) c.self.view_is
 
@@ -54,13 +48,13 @@ returns-clause-appended c =
     let old = c.args.self.now in
     let all = map arc_value s.segments.items in
     let next = c.meet.new.into in
-    let size : length c.push-2.new.self.items ≡ length s.waiting.items + 1 = ap length (waiting_is c) ∙ length-append s.waiting.items (c.args.entry ∷ []) in
+    let size : length c.add_waiting.new.waiting.items ≡ length s.waiting.items + 1 = ap length c.in_ok-add_waiting.ensures.waiting ∙ length-append s.waiting.items (c.args.entry ∷ []) in
     record {
-      rest = (λ i. record { segments = all; waiting = size i; docs = docs_are c i; sessions = sessions_are c i; config = arc_value s.config; max_docs = s.max_docs; labels = next })
+      rest = (λ i. record { segments = all; waiting = size i; docs = docs_are c i; sessions = c.in_ok-add_waiting.ensures.sessions i; config = arc_value s.config; max_docs = s.max_docs; labels = next })
           ∙ ap (λ (x : Index). record { segments = x.segments; waiting = x.waiting + 1; docs = old.docs ++ c.args.entry.doc ∷ []; sessions = x.sessions ++ c.args.session ∷ []; config = x.config; max_docs = x.max_docs; labels = next }) c.self.view_is;
       same = subst (λ (x : Index). SameToken x.labels next) c.self.view_is c.meet.ensures.same.0;
       more = subst (λ (x : Index). SeesOn x.labels next) c.self.view_is c.meet.ensures.more;
     }
 
 pub returns-clause-stands : goal.returns-clause-stands
-returns-clause-stands c = one_more_stands c.args.self.now _ c.args.session c.args.entry.doc (docs_are c) (sessions_are c ∙ ap (λ (x : Index). x.sessions ++ c.args.session ∷ []) c.self.view_is)
+returns-clause-stands c = one_more_stands c.args.self.now _ c.args.session c.args.entry.doc (docs_are c) (c.in_ok-add_waiting.ensures.sessions ∙ ap (λ (x : Index). x.sessions ++ c.args.session ∷ []) c.self.view_is)
