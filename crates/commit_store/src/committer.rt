@@ -28,6 +28,7 @@ use facet_config::FacetsConfig;
 use facet_disk::Disk;
 use seg_file::Segment;
 use std::alloc::Global;
+use std::hash::RandomState;
 use std::marker::Model;
 use std::sync::Arc;
 use store_opening::{OpenFault, Read, read_store};
@@ -57,7 +58,12 @@ impl<D: Disk> Model for Committer<D> {
 
 impl<D: Disk> Committer<D> {
     /// Opens a disk, and writes nothing: it reads the store of the disk, with the costs of that.
-    pub fn open(alloc: Global, mut disk: D, config: FacetsConfig) -> Result<Opened<D>, NotOpened<D>>
+    pub fn open(
+        alloc: Global,
+        keys: RandomState,
+        mut disk: D,
+        config: FacetsConfig,
+    ) -> Result<Opened<D>, NotOpened<D>>
         // The labels and the segments are those of the files that the disk reads, or the first fault is told.
         ensures ok { IfOk result (λ o. (s : Told) → D.told disk ≡ Some s → HasFiles config o.labels (map arc_value o.segments.items) s.files) }
         ensures err { IfErr result (λ n. n.fault ≢ NoRoom → n.fault ≢ FaultOfDisk → (s : Told) → D.told disk ≡ Some s → files config s.files ≡ Err n.fault) }
@@ -91,7 +97,7 @@ impl<D: Disk> Committer<D> {
         ensures committed { IfOk result (λ o. (s : Told) → D.told disk ≡ Some s → IsSettled D.Disk config s disk
             → IsHere D.Disk config o.committer o.labels (map arc_value o.segments.items)) }
     {
-        let read = match read_store(alloc, &mut disk, &config) {
+        let read = match read_store(alloc, keys, &mut disk, &config) {
             Ok(read) => read,
             Err(fault) => return Err(NotOpened { fault, disk }),
         };

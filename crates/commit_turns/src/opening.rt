@@ -27,6 +27,7 @@ use index_state::Operation;
 use pair_manager::CommitPoint;
 use seg_file::Segment;
 use std::alloc::Global;
+use std::hash::RandomState;
 use std::marker::PhantomData;
 use std::snapshot::Snapshot;
 use std::sync::Arc;
@@ -44,6 +45,7 @@ pub struct Begun<D: Disk> {
 /// Opens the store of a disk, and writes nothing: [`Committer::open`], with its costs.
 pub fn begin<D: Disk>(
     alloc: Global,
+    keys: RandomState,
     disk: D,
     config: FacetsConfig,
 ) -> Result<Begun<D>, NotOpened<D>>
@@ -67,7 +69,7 @@ pub fn begin<D: Disk>(
         committer,
         labels,
         segments,
-    } = Committer::open(alloc, disk, config)?;
+    } = Committer::open(alloc, keys, disk, config)?;
     Ok(Begun {
         committer,
         labels,

@@ -35,6 +35,7 @@ use index_state::{Operation, count_documents};
 use pair_manager::{CommitPoint, Manager, Pass, Publication};
 use seg_file::Segment;
 use std::alloc::Global;
+use std::hash::RandomState;
 use std::snapshot::Snapshot;
 use std::sync::Arc;
 use store_opening::OpenFault;
@@ -45,6 +46,7 @@ use taxo_writer::{LabelList, TaxoWriter};
 /// A disk whose store was opened, with the chronicle of its labels: what a system is made of.
 #[derive(Drop)]
 pub struct Store<D: Disk> {
+    pub(crate) keys: RandomState,
     pub labels: Chronicle<LabelList>,
     pub start: Snapshot<D>,
     pub(crate) committer: Committer<D>,
@@ -55,7 +57,12 @@ pub struct Store<D: Disk> {
 
 impl<D: Disk> Store<D> {
     /// Opens the store of a disk, and writes nothing: it reads all files, with the costs of [`Committer::open`], and copies the labels.
-    pub fn open(alloc: Global, disk: D, config: FacetsConfig) -> Result<Store<D>, NotOpened<D>>
+    pub fn open(
+        alloc: Global,
+        keys: RandomState,
+        disk: D,
+        config: FacetsConfig,
+    ) -> Result<Store<D>, NotOpened<D>>
         // A system goes on from it.
         ensures start { IfOk result (λ s. s.start.value ≡ disk) }
         ensures ready { IfOk result (IsReady D.Disk config) }
@@ -75,12 +82,13 @@ impl<D: Disk> Store<D> {
             labels,
             segments,
             start,
-        } = begin(alloc, disk, config)?;
+        } = begin(alloc, keys, disk, config)?;
         let Ok(view) = labels.view() else {
             return Err(without_memory(committer.into_disk()));
         };
         match Chronicle::open(alloc, LabelList::new(labels)) {
             Ok((labels, first)) => Ok(Store {
+                keys,
                 labels,
                 start,
                 committer,
@@ -106,6 +114,7 @@ fn without_memory<D: Disk>(disk: D) -> NotOpened<D>
 // The manager over these labels, documents and settings, with the config that it shares, and the first tokens of the operations and the pairs.
 fn open_manager<N: Name>(
     alloc: Global,
+    keys: RandomState,
     labels: Chronicle<LabelList>,
     first: &mut Token<Path>,
     view: TaxoView,
@@ -145,9 +154,9 @@ fn open_manager<N: Name>(
     } = settings;
     let config = Arc::new(alloc, config)?;
     let shared = Arc::try_clone(&config)?;
-    let writer = TaxoWriter::open(alloc, labels, first, stripes, cache, max_labels)?;
+    let writer = TaxoWriter::open(alloc, keys, labels, first, stripes, cache, max_labels)?;
     let (manager, operations, pairs) = Manager::open(
-        alloc, writer, first, view, segments, shared, max_docs,
+        alloc, keys, writer, first, view, segments, shared, max_docs,
     )?;
     Ok((manager, config, operations, pairs))
 }
@@ -182,6 +191,7 @@ impl<D: Disk, N: Name + Start> System<D, N> {
         ensures fault { IfErr result (λ n. (n.fault ≡ NoRoom) × (n.disk ≡ store.committer.disk)) }
     {
         let Store {
+            keys,
             labels,
             start,
             committer,
@@ -195,7 +205,7 @@ impl<D: Disk, N: Name + Start> System<D, N> {
             failed: None,
         };
         let (manager, config, mut operations, pairs) = match open_manager(
-            alloc, labels, &mut first, view, segments, settings,
+            alloc, keys, labels, &mut first, view, segments, settings,
         ) {
             Ok(opened) => opened,
             Err(NoMemory) => return Err(without_memory(committer.into_disk())),

@@ -23,6 +23,7 @@ use facet_replies::write_summary;
 use facet_words::sessions::Script;
 use generator::{Tally, script_for};
 use std::alloc::Global;
+use std::hash::RandomState;
 use std::sync::Wait;
 use std::thread::Threads;
 
@@ -110,6 +111,7 @@ fn serve_generated<R: Threads + Wait + Sync, K: Sink, D: Disk, G: Gate + Sync>(
 fn run_generated_script<R: Threads + Wait + Sync, K: Sink, D: Disk, G: Gate + Sync>(
     rt: &R,
     alloc: Global,
+    keys: RandomState,
     sink: &mut K,
     disk: D,
     gate: &G,
@@ -123,7 +125,7 @@ fn run_generated_script<R: Threads + Wait + Sync, K: Sink, D: Disk, G: Gate + Sy
     let Ok(config) = script.settings.config.dup() else {
         return tell(sink, Status::NoMemory, disk);
     };
-    match Store::open(alloc, disk, config) {
+    match Store::open(alloc, keys, disk, config) {
         Ok(store) => serve_generated(rt, alloc, store, script, sink, gate),
         Err(NotOpened { fault, disk }) => tell_of_store(alloc, sink, fault, disk),
     }
@@ -135,6 +137,7 @@ fn run_generated_script<R: Threads + Wait + Sync, K: Sink, D: Disk, G: Gate + Sy
 pub(crate) fn run_generated<R: Threads + Wait + Sync, K: Sink, D: Disk, G: Gate + Sync>(
     rt: &R,
     alloc: Global,
+    keys: RandomState,
     sink: &mut K,
     disk: D,
     gate: &G,
@@ -148,7 +151,7 @@ pub(crate) fn run_generated<R: Threads + Wait + Sync, K: Sink, D: Disk, G: Gate 
     ensures failed { result.status ≡ Status.DiskFault → (t : Told) → D.told disk ≡ Some t → Rose (D.failures disk) (D.failures result.disk) }
 {
     match script_for(alloc, documents, sessions) {
-        Ok(script) => run_generated_script(rt, alloc, sink, disk, gate, script),
+        Ok(script) => run_generated_script(rt, alloc, keys, sink, disk, gate, script),
         Err(NoMemory) => tell(sink, Status::NoMemory, disk),
     }
 }

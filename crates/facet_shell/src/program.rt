@@ -24,6 +24,7 @@ use facet_phases::Gate;
 use facet_words::ScriptFault;
 use facet_words::sessions::read_script;
 use std::alloc::Global;
+use std::hash::RandomState;
 use std::sync::Wait;
 use std::thread::Threads;
 
@@ -68,6 +69,7 @@ fn asked_by(alloc: Global, words: &[String]) -> Result<Option<Asked>, NoMemory>
 fn run_read<R: Threads + Wait + Sync, S: Source, K: Sink, D: Disk, G: Gate + Sync>(
     rt: &R,
     alloc: Global,
+    keys: RandomState,
     source: &mut S,
     sink: &mut K,
     disk: D,
@@ -116,7 +118,7 @@ fn run_read<R: Threads + Wait + Sync, S: Source, K: Sink, D: Disk, G: Gate + Syn
             Err(fault) => tell_of_script(alloc, sink, fault, disk),
             Ok(script) => {
                 drop(input);
-                run_script(rt, alloc, sink, disk, gate, script)
+                run_script(rt, alloc, keys, sink, disk, gate, script)
             }
         },
     }
@@ -125,13 +127,14 @@ fn run_read<R: Threads + Wait + Sync, S: Source, K: Sink, D: Disk, G: Gate + Syn
 /// Reads a script from the source to its end, opens the store of the disk, carries out the orders of its sessions, and writes their replies to the sink. Or,
 /// where the words ask for it, generates documents in place of reading, and writes one line, the summary of the replies.
 ///
-/// `rt` gives the memory and the threads, and the words are those behind the program's name. The sessions of a phase run each on a thread of its own, one phase
+/// `rt` gives the memory and the threads, `keys` hash labels and terms, and the words are those behind the program's name. The sessions of a phase run each on a thread of its own, one phase
 /// after the other; the gate is called before and after each order. The replies of a phase are written before the next begins, and the last line at the end. It
 /// waits for the sessions of each phase, and where the gate waits. It keeps the script, the documents and the replies of one phase in memory, of generated
 /// documents a summary of the replies. Commits go to the disk as they come, so what they acknowledged is kept however the run ends; `Ended` hands the disk
 /// back.
 pub fn run<R: AllocGlobal + Threads + Wait + Sync, S: Source, K: Sink, D: Disk, G: Gate + Sync>(
     rt: &R,
+    keys: RandomState,
     words: &[String],
     source: &mut S,
     sink: &mut K,
@@ -200,7 +203,7 @@ pub fn run<R: AllocGlobal + Threads + Wait + Sync, S: Source, K: Sink, D: Disk, 
 {
     let alloc = rt.alloc();
     match asked_by(alloc, words) {
-        Ok(Some(Asked::Script)) => run_read(rt, alloc, source, sink, disk, gate),
+        Ok(Some(Asked::Script)) => run_read(rt, alloc, keys, source, sink, disk, gate),
         Ok(
             Some(
                 Asked::Generated {
@@ -208,7 +211,7 @@ pub fn run<R: AllocGlobal + Threads + Wait + Sync, S: Source, K: Sink, D: Disk, 
                     sessions,
                 },
             ),
-        ) => run_generated(rt, alloc, sink, disk, gate, documents, sessions),
+        ) => run_generated(rt, alloc, keys, sink, disk, gate, documents, sessions),
         Ok(None) => tell(sink, Status::BadWords, disk),
         Err(NoMemory) => tell(sink, Status::NoMemory, disk),
     }

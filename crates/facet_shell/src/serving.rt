@@ -21,6 +21,7 @@ use facet_io::Sink;
 use facet_phases::{Collector, Gate, Lines, Output, RanToEnd, run_to_end};
 use facet_words::sessions::Script;
 use std::alloc::Global;
+use std::hash::RandomState;
 use std::marker::Brand;
 use std::sync::Wait;
 use std::thread::Threads;
@@ -127,6 +128,7 @@ fn serve<R: Threads + Wait + Sync, K: Sink, D: Disk, G: Gate + Sync>(
 pub(crate) fn run_script<R: Threads + Wait + Sync, K: Sink, D: Disk, G: Gate + Sync>(
     rt: &R,
     alloc: Global,
+    keys: RandomState,
     sink: &mut K,
     disk: D,
     gate: &G,
@@ -140,7 +142,7 @@ pub(crate) fn run_script<R: Threads + Wait + Sync, K: Sink, D: Disk, G: Gate + S
     let Ok(config) = script.settings.config.dup() else {
         return tell(sink, Status::NoMemory, disk);
     };
-    match Store::open(alloc, disk, config) {
+    match Store::open(alloc, keys, disk, config) {
         Ok(store) => serve(rt, alloc, store, script, sink, gate),
         Err(NotOpened { fault, disk }) => tell_of_store(alloc, sink, fault, disk),
     }

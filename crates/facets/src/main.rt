@@ -7,8 +7,12 @@ use facet_io::{StdSink, StdSource};
 use facet_names::NoMemory;
 use facet_shell::{OpenGate, Status, place, run};
 use std::env;
+use std::hash::RandomState;
 use std::io::ErrorKind;
 use std::process::ExitCode;
+
+// The exit status if the operating system has no random numbers. No run ends with it.
+const NO_RANDOM: u8 = 14;
 
 // The words behind the program's name. None stands for all where one is not UTF-8.
 fn words(rt: &HostRuntime) -> Result<Vec<String>, NoMemory> {
@@ -47,6 +51,9 @@ fn disk_of<'a>(
 }
 
 fn main(rt: HostRuntime) -> ExitCode {
+    let Ok(keys) = RandomState::new(&rt) else {
+        return ExitCode::from(NO_RANDOM);
+    };
     let Ok(words) = words(&rt) else {
         return ExitCode::from(Status::NoMemory.code());
     };
@@ -55,6 +62,6 @@ fn main(rt: HostRuntime) -> ExitCode {
     };
     let mut source = StdSource::new(rt.reader());
     let mut sink = StdSink::new(rt.stdout());
-    let ended = run(&rt, &words, &mut source, &mut sink, disk, &OpenGate);
+    let ended = run(&rt, keys, &words, &mut source, &mut sink, disk, &OpenGate);
     ExitCode::from(ended.status.code())
 }

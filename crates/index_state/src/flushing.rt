@@ -8,11 +8,13 @@ ghost use Rattle.seg_documents.specs.Decoding.{flushed, records_in};
 use facet_names::NoMemory;
 use seg_file::{Entry, Segment};
 use std::alloc::Global;
+use std::hash::RandomState;
 use std::sync::Arc;
 
 /// Turns the entries, if there are any, into one segment behind these, and tells how many documents it has. Without memory all stays as it was.
 pub fn flush(
     alloc: Global,
+    keys: RandomState,
     segments: &mut Vec<Arc<Segment>>,
     entries: &mut Vec<Entry>,
 ) -> Result<u32, NoMemory>
@@ -27,7 +29,7 @@ pub fn flush(
     if entries.is_empty() {
         return Ok(0);
     }
-    let segment = Segment::build(alloc, entries)?;
+    let segment = Segment::build(alloc, keys, entries)?;
     let docs = segment.docs();
     let segment = Arc::new(alloc, segment)?;
     segments.push(segment)?;

@@ -17,6 +17,7 @@ use facet_config::FacetsConfig;
 use facet_names::{NoMemory, Path};
 use seg_file::{Entry, Segment};
 use std::alloc::Global;
+use std::hash::RandomState;
 use std::marker::Model;
 use std::sync::Arc;
 use taxo_adding::LabelList;
@@ -28,6 +29,7 @@ use taxo_adding::LabelList;
 #[derive(Drop)]
 pub struct IndexState {
     alloc: Global,
+    keys: RandomState,
     segments: Vec<Arc<Segment>>,
     waiting: Vec<Entry>,
     // of each document
@@ -87,6 +89,7 @@ impl IndexState {
     /// memory for each document.
     pub fn open(
         alloc: Global,
+        keys: RandomState,
         segments: Vec<Arc<Segment>>,
         labels: Token<Path>,
         config: Arc<FacetsConfig>,
@@ -107,6 +110,7 @@ impl IndexState {
         let sessions = zeros(alloc, count_documents(&segments))?;
         Ok(IndexState {
             alloc,
+            keys,
             segments,
             waiting: Vec::new(alloc),
             sessions,
@@ -157,7 +161,7 @@ impl IndexState {
         ensures flushed { OnOk result (IsFlushed self.old self.new) }
         ensures unchanged { OnErr result (self.new ≡ self.old) }
     {
-        let docs = flush(self.alloc, &mut self.segments, &mut self.waiting)?;
+        let docs = flush(self.alloc, self.keys, &mut self.segments, &mut self.waiting)?;
         Ok(docs)
     }
 

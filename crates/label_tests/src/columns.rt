@@ -4,14 +4,13 @@ ghost use Rattle.seg_postings.specs.Rising.{is_in};
 ghost use Rattle.label_tests.specs.Columns.{MayBeListed, AreListed};
 
 use crate::counts::{are_counted, config_of, flags_of, may_be_added, spelled};
-use crate::making::listed;
+use crate::making::viewed;
 use counted_column::Column;
 use facet_config::FacetsConfig;
 use facet_counts::{Counter, Counts};
 use place_bits::Bits;
 use seg_postings::Ords;
 use std::alloc::{AllocError, Global};
-use std::process::Abort;
 use std::test::Fail;
 use taxo_list::{Labelled, TaxoView};
 
@@ -19,7 +18,6 @@ const TAGS: &[&str] = &["Tag", "Tag/a", "Tag/b", "Tag/c"];
 
 // The bytes of these ordinals.
 fn list_of(
-    rt: &impl Abort,
     alloc: Global,
     view: &TaxoView,
     config: &FacetsConfig,
@@ -27,14 +25,14 @@ fn list_of(
 ) -> Result<Vec<u8>, Fail>
     ensures { IfOk result (λ v. AreListed config.now view.now v.items) }
 {
-    let may = may_be_added(view, config, ords);
-    assert!(rt; may);
+    if !may_be_added(view, config, ords) {
+        return Err("not to be listed".into());
+    }
     Ok(spelled(alloc, ords)?)
 }
 
 // A column of 130 documents: the first list for those of even numbers, the second for the others, but the third for the last two.
 fn column_of(
-    rt: &impl Abort,
     alloc: Global,
     view: &TaxoView,
     config: &FacetsConfig,
@@ -44,9 +42,9 @@ fn column_of(
     ensures listed { IfOk result (λ c. AllByRecursion (MayBeListed config.now view.now) c) }
 {
     let [even, odd, last] = kinds;
-    let even = list_of(rt, alloc, view, config, even)?;
-    let odd = list_of(rt, alloc, view, config, odd)?;
-    let last = list_of(rt, alloc, view, config, last)?;
+    let even = list_of(alloc, view, config, even)?;
+    let odd = list_of(alloc, view, config, odd)?;
+    let last = list_of(alloc, view, config, last)?;
     let mut lists = Vec::new(alloc);
     for _ in 0..64u32 {
         lists.push(Ords::new(&even))?;
@@ -73,7 +71,6 @@ fn chosen(alloc: Global, docs: &[u32]) -> Result<Bits, AllocError>
 
 // The counts of these documents.
 fn counts_of<'a>(
-    rt: &impl Abort,
     alloc: Global,
     view: &'a TaxoView,
     config: &'a FacetsConfig,
@@ -85,28 +82,83 @@ fn counts_of<'a>(
     ensures labels { IfOk result (λ c. c.labels ≡ view.now) }
 {
     let places = chosen(alloc, docs)?;
-    assert!(rt; places.len() <= 130);
+    if places.len() > 130 {
+        return Err("more than 130".into());
+    }
     let mut counter = Counter::new(alloc, view, config)?;
     counter.add_column(column, &places);
     Ok(counter.roll_up())
 }
 
-/// Counts tags of 130 documents at some of their places.
-pub(crate) fn tags_are_counted(rt: &impl Abort, alloc: Global) -> Result<(), Fail> {
-    let view = listed(rt, alloc, TAGS)?.view()?;
-    let config = config_of(alloc, "Tag", flags_of(true, false))?;
-    // the last ordinal is that of two documents alone
-    let column = column_of(rt, alloc, &view, &config, [&[1, 2], &[1, 3], &[1, 2, 4]])?;
-    let all = (0..130u32).collect::<Vec<u32>>(alloc)?;
-    let rows: [(&[u32], [(u32, u32); 4]); 4] = [
-        (&all, [(1, 130), (2, 66), (3, 64), (4, 2)]),
-        (&[0, 63, 64, 127, 128], [(1, 5), (2, 3), (3, 2), (4, 1)]),
-        (&[129], [(1, 1), (2, 1), (3, 0), (4, 1)]),
-        (&[], [(1, 0), (2, 0), (3, 0), (4, 0)]),
-    ];
-    for (docs, want) in rows {
-        let counts = counts_of(rt, alloc, &view, &config, &column, docs)?;
-        assert!(rt; are_counted(&view, &counts, &want), "{}", docs.len());
+// Whether so many of these documents have these ordinals.
+fn are_at(
+    alloc: Global,
+    view: &TaxoView,
+    config: &FacetsConfig,
+    column: &Column,
+    docs: &[u32],
+    want: &[(u32, u32)],
+) -> Result<bool, Fail>
+    requires docs { length column.now ≡ 130 }
+    requires listed { AllByRecursion (MayBeListed config.now view.now) column.now }
+{
+    let counts = counts_of(alloc, view, config, column, docs)?;
+    Ok(are_counted(view, &counts, want))
+}
+
+const SOME: &[(&[u32], &[(u32, u32)])] = &[
+    (&[0, 63, 64, 127, 128], &[(1, 5), (2, 3), (3, 2), (4, 1)]),
+    (&[129], &[(1, 1), (2, 1), (3, 0), (4, 1)]),
+    (&[], &[(1, 0), (2, 0), (3, 0), (4, 0)]),
+];
+
+fn are_at_some(
+    alloc: Global,
+    view: &TaxoView,
+    config: &FacetsConfig,
+    column: &Column,
+) -> Result<bool, Fail>
+    requires docs { length column.now ≡ 130 }
+    requires listed { AllByRecursion (MayBeListed config.now view.now) column.now }
+{
+    for (docs, want) in SOME {
+        if !are_at(alloc, view, config, column, *docs, *want)? {
+            return Ok(false);
+        }
     }
-    Ok(())
+    Ok(true)
+}
+
+const AT_ALL: &[(u32, u32)] = &[(1, 130), (2, 66), (3, 64), (4, 2)];
+
+fn are_at_all(
+    alloc: Global,
+    view: &TaxoView,
+    config: &FacetsConfig,
+    column: &Column,
+) -> Result<bool, Fail>
+    requires docs { length column.now ≡ 130 }
+    requires listed { AllByRecursion (MayBeListed config.now view.now) column.now }
+{
+    let all = (0..130u32).collect::<Vec<u32>>(alloc)?;
+    are_at(alloc, view, config, column, &all, AT_ALL)
+}
+
+// The lists of even and of odd documents, and of the last two; the last ordinal is that of these alone.
+const KINDS: [&[u32]; 3] = [&[1, 2], &[1, 3], &[1, 2, 4]];
+
+fn are_counted_by(alloc: Global, view: &TaxoView, config: &FacetsConfig) -> Result<bool, Fail> {
+    let column = column_of(alloc, view, config, KINDS)?;
+    Ok(are_at_all(alloc, view, config, &column)? && are_at_some(alloc, view, config, &column)?)
+}
+
+fn are_tags_of(alloc: Global, view: &TaxoView) -> Result<bool, Fail> {
+    let config = config_of(alloc, "Tag", flags_of(true, false))?;
+    are_counted_by(alloc, view, &config)
+}
+
+/// Whether tags of 130 documents are counted at some of their places.
+pub(crate) fn tags_are_counted(alloc: Global) -> Result<bool, Fail> {
+    let view = viewed(alloc, TAGS)?;
+    are_tags_of(alloc, &view)
 }

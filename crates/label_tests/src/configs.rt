@@ -1,36 +1,23 @@
+use crate::counts::config_of;
 use crate::making::path;
 use facet_config::FacetsConfig;
 use facet_model::{Counted, DimFlags, Document, Resolved};
 use std::alloc::Global;
-use std::process::Abort;
 use std::test::Fail;
 
 // What is counted for a document with the labels Tag/a/b and Tag/a/c, whose prefixes have these ordinals.
-fn expanded(
-    rt: &impl Abort,
-    alloc: Global,
-    config: &FacetsConfig,
-    b: &[u32],
-    c: &[u32],
-) -> Result<Counted, Fail> {
+fn expanded(alloc: Global, config: &FacetsConfig, b: &[u32], c: &[u32]) -> Result<Counted, Fail> {
     let first = path(alloc, "Tag/a/b")?;
     let second = path(alloc, "Tag/a/c")?;
-    let fit = first.len() == b.len() && second.len() == c.len();
-    assert!(rt; fit);
+    if first.len() != b.len() || second.len() != c.len() {
+        return Err("as many ordinals as components".into());
+    }
+    let facets = vec![in alloc; first, second]?;
+    let doc = Document::new(alloc, "d", "", facets)?;
     let mut resolved = Vec::new(alloc);
     resolved.push(Resolved::new(b.to_vec(alloc)?))?;
     resolved.push(Resolved::new(c.to_vec(alloc)?))?;
-    let mut facets = Vec::new(alloc);
-    facets.push(first)?;
-    facets.push(second)?;
-    let doc = Document::new(alloc, "d", "", facets)?;
     Ok(config.expand(alloc, &doc, &resolved)?)
-}
-
-fn tags(alloc: Global, flags: DimFlags) -> Result<FacetsConfig, Fail> {
-    let mut config = FacetsConfig::new(alloc);
-    config.declare("Tag", flags)?;
-    Ok(config)
 }
 
 // Flags of Tag, the ordinals of the prefixes of both labels, and what is counted.
@@ -66,22 +53,28 @@ const EXPANSIONS: &[Expansion] = &[
     },
 ];
 
-fn is_counted(rt: &impl Abort, alloc: Global, row: &Expansion) -> Result<bool, Fail> {
+fn is_counted(alloc: Global, row: &Expansion) -> Result<bool, Fail> {
     let flags = DimFlags {
         hierarchical: true,
         multi_valued: row.multi_valued,
         require_dim_count: row.require_dim_count,
     };
-    let config = tags(alloc, flags)?;
-    let counted = expanded(rt, alloc, &config, row.b, row.c)?;
+    let config = config_of(alloc, "Tag", flags)?;
+    let counted = expanded(alloc, &config, row.b, row.c)?;
     Ok(counted.ords() == row.counted)
+}
+
+fn are_expanded(alloc: Global) -> Result<bool, Fail> {
+    for row in EXPANSIONS {
+        if !is_counted(alloc, row)? {
+            return Ok(false);
+        }
+    }
+    Ok(true)
 }
 
 #[test]
 fn expands_by_the_flags(rt: HostRuntime) -> Result<(), Fail> {
-    for row in EXPANSIONS {
-        let right = is_counted(&rt, rt.alloc(), row)?;
-        assert!(rt; right, "{:?}", row.counted);
-    }
+    assert!(rt; are_expanded(rt.alloc())?);
     Ok(())
 }

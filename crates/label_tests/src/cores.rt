@@ -1,25 +1,30 @@
+use crate::making::{document, path};
 use facet_core::{Core, Event, Publication, run, step};
-use facet_model::Document;
-use facet_names::Path;
 use std::alloc::Global;
 use std::test::Fail;
 
+fn label(alloc: Global, text: &str) -> Result<Event, Fail> {
+    let path = path(alloc, text)?;
+    Ok(Event::Label { session: 1, path })
+}
+
+fn append(alloc: Global, id: &str, text: &str) -> Result<Event, Fail> {
+    let doc = document(alloc, id, &[text])?;
+    Ok(Event::Append { session: 1, doc })
+}
+
 /// A document with one label, behind the label and its parent.
-fn added(alloc: Global, id: &str, name: &str) -> Result<Vec<Event>, Fail> {
-    let mut facets = Vec::new(alloc);
-    facets.push(Path::of(alloc, &["Author", name])?)?;
-    let doc = Document::new(alloc, id, "", facets)?;
+fn added(alloc: Global, id: &str, text: &str) -> Result<Vec<Event>, Fail> {
     let mut events = Vec::new(alloc);
-    events.push(Event::Label {
-        session: 1,
-        path: Path::of_dim(alloc, "Author")?,
-    })?;
-    events.push(Event::Label {
-        session: 1,
-        path: Path::of(alloc, &["Author", name])?,
-    })?;
-    events.push(Event::Append { session: 1, doc })?;
+    events.push(label(alloc, "Author")?)?;
+    events.push(label(alloc, text)?)?;
+    events.push(append(alloc, id, text)?)?;
     Ok(events)
+}
+
+fn add(alloc: Global, core: &mut Core, id: &str, text: &str) -> Result<(), Fail> {
+    let events = added(alloc, id, text)?;
+    Ok(run(alloc, core, &events)?)
 }
 
 fn commit(alloc: Global, core: &mut Core, calls: u32) -> Result<(), Fail> {
@@ -31,13 +36,11 @@ fn commit(alloc: Global, core: &mut Core, calls: u32) -> Result<(), Fail> {
 }
 
 /// One document is committed, and of the commit of a second so many device calls are done.
-fn committing(alloc: Global, calls: u32) -> Result<Core, Fail> {
-    let mut core = Core::new(alloc)?;
-    run(alloc, &mut core, &added(alloc, "b1", "Bob")?)?;
-    commit(alloc, &mut core, 12)?;
-    run(alloc, &mut core, &added(alloc, "b2", "Lisa")?)?;
-    commit(alloc, &mut core, calls)?;
-    Ok(core)
+fn committing(alloc: Global, core: &mut Core, calls: u32) -> Result<(), Fail> {
+    add(alloc, core, "b1", "Author/Bob")?;
+    commit(alloc, core, 12)?;
+    add(alloc, core, "b2", "Author/Lisa")?;
+    commit(alloc, core, calls)
 }
 
 fn shown(core: &Core) -> (u64, u64) {
@@ -81,60 +84,96 @@ const CRASHES: &[Crash] = &[
     (11, true, 1, (4, 2)),
 ];
 
-// The core after the crash.
-fn crashed(alloc: Global, crash: &Crash) -> Result<Core, Fail> {
+// A device call fails, and no other commit begins.
+fn fail(alloc: Global, core: &mut Core) -> Result<(), Fail> {
+    step(alloc, core, &Event::Device { done: false })?;
+    commit(alloc, core, 12)
+}
+
+fn crash(alloc: Global, core: &mut Core, crash: &Crash) -> Result<(), Fail> {
     let (calls, fails, keep, _) = *crash;
-    let mut core = committing(alloc, calls)?;
+    committing(alloc, core, calls)?;
     if fails {
-        step(alloc, &mut core, &Event::Device { done: false })?;
-        // No other commit begins.
-        commit(alloc, &mut core, 12)?;
+        fail(alloc, core)?;
     }
-    step(alloc, &mut core, &Event::Crash { keep })?;
+    Ok(step(alloc, core, &Event::Crash { keep })?)
+}
+
+// The core after the crash.
+fn crashed(alloc: Global, row: &Crash) -> Result<Core, Fail> {
+    let mut core = Core::new(alloc)?;
+    crash(alloc, &mut core, row)?;
     Ok(core)
+}
+
+fn are_left(alloc: Global) -> Result<bool, Fail> {
+    for row in CRASHES {
+        if shown(&crashed(alloc, row)?) != row.3 {
+            return Ok(false);
+        }
+    }
+    Ok(true)
+}
+
+// What was published when a crash has kept the pair of one operation and four labels.
+const KEPT: &[Publication] = &[Publication {
+    operations: 1,
+    labels: 4,
+}];
+
+fn is_published(alloc: Global) -> Result<bool, Fail> {
+    let core = crashed(alloc, &(10, false, 0, (4, 1)))?;
+    Ok(core.publications() == KEPT)
 }
 
 #[test]
 fn crashes_of_a_commit(rt: HostRuntime) -> Result<(), Fail> {
     let alloc = rt.alloc();
-    for crash in CRASHES {
-        let core = crashed(alloc, crash)?;
-        assert!(rt; shown(&core) == crash.3, "{crash:?}");
-    }
-    let kept = [Publication {
-        operations: 1,
-        labels: 4,
-    }];
-    let core = crashed(alloc, &(10, false, 0, (4, 1)))?;
-    assert!(rt; core.publications() == kept.as_slice());
+    assert!(rt; are_left(alloc)? && is_published(alloc)?);
     Ok(())
+}
+
+fn publish(alloc: Global, core: &mut Core, session: u32) -> Result<(), Fail> {
+    let events = [
+        Event::DropRefresh { session: 2 },
+        Event::TakeLabels { session },
+        Event::Publish { session },
+    ];
+    Ok(run(alloc, core, &events)?)
 }
 
 // A refresh between two documents, which first takes the index, or the labels, for which it is too early; and then its publication. Steps of other
 // sessions change nothing.
-fn refreshing(alloc: Global, first: &Event) -> Result<Core, Fail> {
+fn refresh(alloc: Global, core: &mut Core, first: &Event) -> Result<(), Fail> {
+    add(alloc, core, "b1", "Author/Bob")?;
+    step(alloc, core, &Event::TakeLabels { session: 1 })?;
+    step(alloc, core, first)?;
+    add(alloc, core, "b2", "Author/Lisa")?;
+    publish(alloc, core, 2)?;
+    publish(alloc, core, 1)
+}
+
+const NONE: Publication = Publication {
+    operations: 0,
+    labels: 1,
+};
+
+const ONE: Publication = Publication {
+    operations: 1,
+    labels: 4,
+};
+
+fn has_published(alloc: Global, first: &Event, expected: &[Publication]) -> Result<bool, Fail> {
     let mut core = Core::new(alloc)?;
-    run(alloc, &mut core, &added(alloc, "b1", "Bob")?)?;
-    step(alloc, &mut core, &Event::TakeLabels { session: 1 })?;
-    step(alloc, &mut core, first)?;
-    run(alloc, &mut core, &added(alloc, "b2", "Lisa")?)?;
-    for session in [2, 1] {
-        step(alloc, &mut core, &Event::DropRefresh { session: 2 })?;
-        step(alloc, &mut core, &Event::TakeLabels { session })?;
-        step(alloc, &mut core, &Event::Publish { session })?;
-    }
-    Ok(core)
+    refresh(alloc, &mut core, first)?;
+    Ok(core.publications() == expected)
 }
 
 // A label whose parent does not stand, a document whose label does not, and the end of a commit that did not begin.
 fn none_is_possible(alloc: Global) -> Result<bool, Fail> {
     let mut core = Core::new(alloc)?;
-    let path = Path::of(alloc, &["Author", "Bob"])?;
-    step(alloc, &mut core, &Event::Label { session: 1, path })?;
-    let mut facets = Vec::new(alloc);
-    facets.push(Path::of_dim(alloc, "Author")?)?;
-    let doc = Document::new(alloc, "b1", "", facets)?;
-    step(alloc, &mut core, &Event::Append { session: 1, doc })?;
+    step(alloc, &mut core, &label(alloc, "Author/Bob")?)?;
+    step(alloc, &mut core, &append(alloc, "b1", "Author")?)?;
     step(alloc, &mut core, &Event::DropCommit)?;
     Ok(shown(&core) == (1, 0))
 }
@@ -142,18 +181,8 @@ fn none_is_possible(alloc: Global) -> Result<bool, Fail> {
 #[test]
 fn refreshes_and_impossible_events(rt: HostRuntime) -> Result<(), Fail> {
     let alloc = rt.alloc();
-    let none = Publication {
-        operations: 0,
-        labels: 1,
-    };
-    let one = Publication {
-        operations: 1,
-        labels: 4,
-    };
-    let core = refreshing(alloc, &Event::TakeIndex { session: 1 })?;
-    assert!(rt; core.publications() == [none, one].as_slice());
-    let core = refreshing(alloc, &Event::TakeLabels { session: 1 })?;
-    assert!(rt; core.publications() == [none].as_slice());
-    assert!(rt; none_is_possible(alloc)?);
+    let index = has_published(alloc, &Event::TakeIndex { session: 1 }, &[NONE, ONE])?;
+    let labels = has_published(alloc, &Event::TakeLabels { session: 1 }, &[NONE])?;
+    assert!(rt; index && labels && none_is_possible(alloc)?);
     Ok(())
 }

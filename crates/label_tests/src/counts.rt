@@ -5,14 +5,13 @@ ghost use Rattle.seg_postings.specs.Bytes.{AreNumbers};
 ghost use Rattle.seg_postings.specs.Rising.{IsRising};
 
 use crate::columns::tags_are_counted;
-use crate::making::{BOOKS, listed};
+use crate::making::{BOOKS, viewed};
 use facet_codec::put_u32;
 use facet_config::FacetsConfig;
 use facet_counts::{Counter, Counts};
 use facet_model::DimFlags;
 use seg_postings::Ords;
 use std::alloc::Global;
-use std::process::Abort;
 use std::test::Fail;
 use taxo_list::{Labelled, TaxoView};
 
@@ -70,7 +69,6 @@ pub(crate) fn spelled(alloc: Global, ords: &[u32]) -> Result<Vec<u8>, facet_code
 
 // The counts of these lists.
 fn counts_of<'a>(
-    rt: &impl Abort,
     alloc: Global,
     view: &'a TaxoView,
     config: &'a FacetsConfig,
@@ -82,8 +80,9 @@ fn counts_of<'a>(
 {
     let mut counter = Counter::new(alloc, view, config)?;
     for list in lists {
-        let may = may_be_added(view, config, *list);
-        assert!(rt; may);
+        if !may_be_added(view, config, *list) {
+            return Err("not to be added".into());
+        }
         let bytes = spelled(alloc, *list)?;
         counter.add_doc(Ords::new(&bytes));
     }
@@ -102,22 +101,24 @@ pub(crate) fn are_counted(view: &TaxoView, counts: &Counts, rows: &[(u32, u32)])
     true
 }
 
-fn days_are_counted(
-    rt: &impl Abort,
-    alloc: Global,
-    view: &TaxoView,
-    config: &FacetsConfig,
-) -> Result<bool, Fail> {
-    let counts = counts_of(rt, alloc, view, config, &[&[6], &[6], &[1]])?;
-    let rows = [(1, 1), (2, 0), (3, 2), (4, 2), (5, 2), (6, 2)];
-    Ok(are_counted(view, &counts, &rows))
+const DAYS: &[&[u32]] = &[&[6], &[6], &[1]];
+
+const COUNTED: &[(u32, u32)] = &[(1, 1), (2, 0), (3, 2), (4, 2), (5, 2), (6, 2)];
+
+fn days_are_counted(alloc: Global, view: &TaxoView) -> Result<bool, Fail> {
+    let config = config_of(alloc, "Publish Date", flags_of(false, false))?;
+    let counts = counts_of(alloc, view, &config, DAYS)?;
+    Ok(are_counted(view, &counts, COUNTED))
+}
+
+fn books_are_counted(alloc: Global) -> Result<bool, Fail> {
+    let view = viewed(alloc, BOOKS)?;
+    days_are_counted(alloc, &view)
 }
 
 #[test]
 fn counts_by_ordinals(rt: HostRuntime) -> Result<(), Fail> {
     let alloc = rt.alloc();
-    let view = listed(&rt, alloc, BOOKS)?.view()?;
-    let config = config_of(alloc, "Publish Date", flags_of(false, false))?;
-    assert!(rt; days_are_counted(&rt, alloc, &view, &config)?);
-    tags_are_counted(&rt, alloc)
+    assert!(rt; books_are_counted(alloc)? && tags_are_counted(alloc)?);
+    Ok(())
 }

@@ -58,30 +58,55 @@ fn is_listed(alloc: Global, docs: &[Document], row: &TopRow) -> Result<bool, Fai
     }
 }
 
+fn are_listed(alloc: Global) -> Result<bool, Fail> {
+    let docs = shop(alloc)?;
+    for row in TOPS {
+        if !is_listed(alloc, &docs, row)? {
+            return Ok(false);
+        }
+    }
+    Ok(true)
+}
+
 #[test]
 fn plain_tops(rt: HostRuntime) -> Result<(), Fail> {
-    let docs = shop(rt.alloc())?;
-    for row in TOPS {
-        assert!(rt; is_listed(rt.alloc(), &docs, row)?, "{}", row.0);
-    }
+    assert!(rt; are_listed(rt.alloc())?);
     Ok(())
 }
 
-fn is_copied(alloc: Global) -> Result<bool, Fail> {
-    let doc = document(alloc, "b1", &["Author/Bob"])?;
+fn is_alike(alloc: Global, doc: &Document) -> Result<bool, Fail> {
     let copy = doc.dup(alloc)?;
-    let author = path(alloc, "Author")?;
     let alike = copy.id() == "b1" && copy.text() == "" && copy.facets() == doc.facets();
-    let word = Word::new(alloc, "Wörter")?.ok_or("no word")?;
-    let ask = Ask::Top {
+    Ok(alike && copy.has(&path(alloc, "Author")?))
+}
+
+fn document_is_copied(alloc: Global) -> Result<bool, Fail> {
+    let doc = document(alloc, "b1", &["Author/Bob"])?;
+    is_alike(alloc, &doc)
+}
+
+fn word(alloc: Global, text: &str) -> Result<Word, Fail> {
+    Ok(Word::new(alloc, text)?.ok_or("no word")?)
+}
+
+fn word_is_copied(alloc: Global) -> Result<bool, Fail> {
+    let word = word(alloc, "Wörter")?;
+    Ok(word.dup(alloc)?.text() == "Wörter")
+}
+
+fn ask(alloc: Global) -> Result<Ask, Fail> {
+    let author = path(alloc, "Author")?;
+    Ok(Ask::Top {
         path: author.dup(alloc)?,
         n: 3,
-    };
-    let asked = match ask {
-        Ask::Top { path, n } => path.part(0) == "Author" && n == 3,
-        _ => false,
-    };
-    Ok(alike && copy.has(&author) && word.dup(alloc)?.text() == "Wörter" && asked)
+    })
+}
+
+fn is_asked(alloc: Global) -> Result<bool, Fail> {
+    match ask(alloc)? {
+        Ask::Top { path, n } => Ok(path.len() == 1 && path.part(0) == "Author" && n == 3),
+        _ => Ok(false),
+    }
 }
 
 fn shape_of(alloc: Global, id: usize, text: usize) -> Result<Option<DocShape>, Fail> {
@@ -100,24 +125,32 @@ fn has_words(alloc: Global, text: &str, expected: &[&str]) -> Result<bool, Fail>
     Ok(list.len() == expected.len())
 }
 
-fn query_is_copied(alloc: Global) -> Result<bool, Fail> {
-    let term = Query::Term(Word::new(alloc, "rust")?.ok_or("no word")?);
-    let query = Query::Bool {
+fn query(alloc: Global) -> Result<Query, Fail> {
+    let term = Query::Term(word(alloc, "rust")?);
+    Ok(Query::Bool {
         must: vec![in alloc; term]?,
         should: vec![in alloc; Query::All]?,
         must_not: Vec::new(alloc),
-    };
+    })
+}
+
+fn query_is_copied(alloc: Global) -> Result<bool, Fail> {
+    let query = query(alloc)?;
+    let copy = query.dup(alloc)?;
     let shown = format!(in alloc; "{query:?}")?;
-    let copy = format!(in alloc; "{:?}", query.dup(alloc)?)?;
-    Ok(copy.as_str() == shown.as_str())
+    Ok(format!(in alloc; "{copy:?}")?.as_str() == shown.as_str())
+}
+
+fn drill(alloc: Global) -> Result<Drill, Fail> {
+    let paths = vec![in alloc; path(alloc, "Author/Bob")?, path(alloc, "Year")?]?;
+    if paths.len() > 256 {
+        return Err("too many paths".into());
+    }
+    Ok(Drill::new(alloc, paths)?)
 }
 
 fn drill_is_copied(alloc: Global) -> Result<bool, Fail> {
-    let paths = vec![in alloc; path(alloc, "Author/Bob")?, path(alloc, "Year")?]?;
-    if paths.len() > 256 {
-        return Ok(false);
-    }
-    let drill = Drill::new(alloc, paths)?;
+    let drill = drill(alloc)?;
     let copy = drill.dup(alloc)?;
     Ok(copy.paths().len() == 2 && copy.paths() == drill.paths())
 }
@@ -128,21 +161,50 @@ const SHAPES: &[(usize, usize, DocShape)] = &[
     (2, 65537, DocShape::TextTooLong { len: 65537 }),
 ];
 
+fn have_shapes(alloc: Global) -> Result<bool, Fail> {
+    for (id, text, expected) in SHAPES {
+        if shape_of(alloc, *id, *text)? != Some(*expected) {
+            return Ok(false);
+        }
+    }
+    Ok(true)
+}
+
 fn are_no_words(alloc: Global) -> Result<bool, Fail> {
     let long = "x".repeat(alloc, 65537)?;
     Ok(Word::new(alloc, "")? == None && Word::new(alloc, long.as_str())? == None)
 }
 
+const WORDS: &[(&str, &[&str])] = &[
+    ("\tÄ  Rust\r\nin\u{b}RUST\n", &["Ä", "rust", "in\u{b}rust"]),
+    (" \t", &[]),
+];
+
+fn have_words(alloc: Global) -> Result<bool, Fail> {
+    for (text, expected) in WORDS {
+        if !has_words(alloc, *text, *expected)? {
+            return Ok(false);
+        }
+    }
+    Ok(true)
+}
+
+fn words_are_taken(alloc: Global) -> Result<bool, Fail> {
+    Ok(word_is_copied(alloc)? && are_no_words(alloc)? && have_words(alloc)?)
+}
+
+fn documents_are_taken(alloc: Global) -> Result<bool, Fail> {
+    Ok(have_shapes(alloc)? && document_is_copied(alloc)?)
+}
+
+fn queries_are_taken(alloc: Global) -> Result<bool, Fail> {
+    Ok(is_asked(alloc)? && query_is_copied(alloc)? && drill_is_copied(alloc)?)
+}
+
 #[test]
 fn shapes_and_copies(rt: HostRuntime) -> Result<(), Fail> {
     let alloc = rt.alloc();
-    for (id, text, expected) in SHAPES {
-        assert!(rt; shape_of(alloc, *id, *text)? == Some(*expected));
-    }
-    assert!(rt; is_copied(alloc)? && are_no_words(alloc)?);
-    let expected = &["Ä", "rust", "in\u{b}rust"];
-    assert!(rt; has_words(alloc, "\tÄ  Rust\r\nin\u{b}RUST\n", expected)?);
-    assert!(rt; has_words(alloc, " \t", &[])?);
-    assert!(rt; query_is_copied(alloc)? && drill_is_copied(alloc)?);
+    let documents = documents_are_taken(alloc)?;
+    assert!(rt; documents && words_are_taken(alloc)? && queries_are_taken(alloc)?);
     Ok(())
 }

@@ -1,18 +1,17 @@
 ghost use Rattle.std.specs.Prelude.{◌≡◌, ◌<◌, OnOk};
 ghost use Rattle.taxo_list.specs.ArrayLists.{arrays_of};
 
-use crate::making::{BOOKS, listed, put_all};
+use crate::making::{BOOKS, listed, put_all, viewed};
 use std::alloc::Global;
-use std::process::Abort;
 use std::test::Fail;
 use taxo_list::{Arrays, Labelled, TaxoView, Taxonomy};
+use test_keys::fixed_keys;
 
 const ARRAYS: &str =
     "Arrays { parents: [-1, 0, 1, 0, 3, 4, 5, 1, 5, 3, 9, 10, 1, 10, 1, 3, 15, 16], children: [3, 14, -1, 15, 5, 8, -1, -1, -1, 10, 13, -1, -1, -1, -1, 16, 17, -1], siblings: [-1, -1, -1, 1, -1, -1, -1, 2, 6, 4, -1, -1, 7, 11, 12, 9, -1, -1] }";
 
 // Puts these labels, and extends the arrays of the list before to those of the list now.
 fn go_on(
-    rt: &impl Abort,
     alloc: Global,
     list: &mut Taxonomy,
     arrays: &mut Arrays,
@@ -21,14 +20,13 @@ fn go_on(
     requires { arrays.old ≡ arrays_of list.old }
     ensures { OnOk result (arrays.new ≡ arrays_of list.new) }
 {
-    put_all(rt, alloc, list, labels)?;
+    put_all(alloc, list, labels)?;
     arrays.extend(&list.view()?)?;
     Ok(())
 }
 
 // Puts these labels, and extends the arrays after each so many of them.
 fn go_on_by(
-    rt: &impl Abort,
     alloc: Global,
     list: &mut Taxonomy,
     arrays: &mut Arrays,
@@ -39,24 +37,24 @@ fn go_on_by(
     requires some { 0 < many }
 {
     for part in labels.chunks(many) {
-        go_on(rt, alloc, list, arrays, part)?;
+        go_on(alloc, list, arrays, part)?;
     }
     Ok(())
 }
 
 // The arrays of these labels, extended after each so many of them.
-fn extended(rt: &impl Abort, alloc: Global, labels: &[&str], many: usize) -> Result<Arrays, Fail>
+fn extended(alloc: Global, labels: &[&str], many: usize) -> Result<Arrays, Fail>
     requires { 0 < many }
 {
-    let mut list = Taxonomy::new(alloc)?;
+    let mut list = Taxonomy::new(alloc, fixed_keys()?)?;
     let mut arrays = Arrays::from_scratch(alloc, &list.view()?)?;
-    go_on_by(rt, alloc, &mut list, &mut arrays, labels, many)?;
+    go_on_by(alloc, &mut list, &mut arrays, labels, many)?;
     Ok(arrays)
 }
 
 // The arrays of these labels, from scratch.
-fn from_scratch(rt: &impl Abort, alloc: Global, labels: &[&str]) -> Result<Arrays, Fail> {
-    let view = listed(rt, alloc, labels)?.view()?;
+fn from_scratch(alloc: Global, labels: &[&str]) -> Result<Arrays, Fail> {
+    let view = viewed(alloc, labels)?;
     Ok(Arrays::from_scratch(alloc, &view)?)
 }
 
@@ -65,16 +63,27 @@ fn is_text(alloc: Global, arrays: &Arrays, text: &str) -> Result<bool, Fail> {
     Ok(written.as_str() == text)
 }
 
+fn are_from_scratch(alloc: Global) -> Result<bool, Fail> {
+    let arrays = from_scratch(alloc, BOOKS)?;
+    is_text(alloc, &arrays, ARRAYS)
+}
+
+fn are_extended_by(alloc: Global, many: usize) -> Result<bool, Fail>
+    requires { 0 < many }
+{
+    let arrays = extended(alloc, BOOKS, many)?;
+    is_text(alloc, &arrays, ARRAYS)
+}
+
 // Extended after each so many labels: from the nine that stand after eight of them, from each, and from the root to all.
+fn are_extended(alloc: Global) -> Result<bool, Fail> {
+    Ok(are_extended_by(alloc, 8)? && are_extended_by(alloc, 1)? && are_extended_by(alloc, 17)?)
+}
+
 #[test]
 fn arrays_of_labels(rt: HostRuntime) -> Result<(), Fail> {
     let alloc = rt.alloc();
-    let arrays = from_scratch(&rt, alloc, BOOKS)?;
-    assert!(rt; is_text(alloc, &arrays, ARRAYS)?);
-    for many in [8, 1, 17] {
-        let arrays = extended(&rt, alloc, BOOKS, many)?;
-        assert!(rt; is_text(alloc, &arrays, ARRAYS)?, "{many}");
-    }
+    assert!(rt; are_from_scratch(alloc)? && are_extended(alloc)?);
     Ok(())
 }
 
@@ -82,13 +91,18 @@ fn may_be_shared<T: Send + Sync>(_value: &T) -> bool {
     true
 }
 
+fn are_linked(alloc: Global, view: &TaxoView) -> Result<bool, Fail> {
+    if view.size() != 3 {
+        return Ok(false);
+    }
+    let arrays = Arrays::from_scratch(alloc, view)?;
+    Ok((arrays.parent(2), arrays.child(1), arrays.sibling(2)) == (1, 2, -1))
+}
+
 // Whether the links of two labels are these, by a view that threads may share.
-fn has_links(rt: &impl Abort, alloc: Global) -> Result<bool, Fail> {
-    let view: TaxoView = listed(rt, alloc, &["Author", "Author/Bob"])?.view()?;
-    assert!(rt; view.size() == 3);
-    let arrays = Arrays::from_scratch(alloc, &view)?;
-    let links = (arrays.parent(2), arrays.child(1), arrays.sibling(2));
-    Ok(links == (1, 2, -1) && may_be_shared(&view))
+fn has_links(alloc: Global) -> Result<bool, Fail> {
+    let view: TaxoView = viewed(alloc, &["Author", "Author/Bob"])?;
+    Ok(may_be_shared(&view) && are_linked(alloc, &view)?)
 }
 
 // The components of all labels, and how many labels there are.
@@ -110,16 +124,21 @@ fn is_described<L: Labelled>(alloc: Global, labels: &L, expected: &str) -> Resul
     Ok(described(alloc, labels)?.as_str() == expected)
 }
 
-fn both_are_described(alloc: Global, list: &Taxonomy, expected: &str) -> Result<bool, Fail> {
+const DESCRIBED: &str = "Author/ Author/Bob/ Year/ 3";
+
+fn view_is_described(alloc: Global, list: &Taxonomy) -> Result<bool, Fail> {
     let view = list.view()?;
-    Ok(is_described(alloc, list, expected)? && is_described(alloc, &view, expected)?)
+    is_described(alloc, &view, DESCRIBED)
+}
+
+fn both_are_described(alloc: Global) -> Result<bool, Fail> {
+    let list = listed(alloc, &["Author", "Author/Bob", "Year"])?;
+    Ok(is_described(alloc, &list, DESCRIBED)? && view_is_described(alloc, &list)?)
 }
 
 #[test]
 fn a_list_and_its_view_alike(rt: HostRuntime) -> Result<(), Fail> {
     let alloc = rt.alloc();
-    let list = listed(&rt, alloc, &["Author", "Author/Bob", "Year"])?;
-    let expected = "Author/ Author/Bob/ Year/ 3";
-    assert!(rt; both_are_described(alloc, &list, expected)? && has_links(&rt, alloc)?);
+    assert!(rt; both_are_described(alloc)? && has_links(alloc)?);
     Ok(())
 }

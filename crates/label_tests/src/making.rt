@@ -5,9 +5,9 @@ ghost use Rattle.facet_names.specs.Labels.{GoesOn, above, stands};
 use facet_model::Document;
 use facet_names::{NoMemory, Path};
 use std::alloc::Global;
-use std::process::Abort;
 use std::test::Fail;
-use taxo_list::{Labelled, TaxoFault, Taxonomy};
+use taxo_list::{Labelled, TaxoView, Taxonomy};
+use test_keys::fixed_keys;
 
 /// The path whose components stand between slashes.
 pub fn path(alloc: Global, text: &str) -> Result<Path, Fail> {
@@ -37,43 +37,39 @@ fn has_parent(alloc: Global, list: &Taxonomy, path: &Path) -> Result<bool, NoMem
     }
 }
 
-/// Puts a label, whose parent stands.
-pub fn put(
-    rt: &impl Abort,
-    alloc: Global,
-    list: &mut Taxonomy,
-    text: &str,
-    limit: u32,
-) -> Result<Result<u32, TaxoFault>, Fail>
-    requires { limit < 1000000 }
+// Puts a label, whose parent stands.
+fn put(alloc: Global, list: &mut Taxonomy, text: &str) -> Result<(), Fail>
     ensures { GoesOn list.old list.new }
 {
     let path = path(alloc, text)?;
-    let may = has_parent(alloc, list, &path)?;
-    assert!(rt; may);
-    Ok(list.add(&path, limit))
+    if !has_parent(alloc, list, &path)? {
+        return Err("no parent".into());
+    }
+    list.add(&path, 1000)?;
+    Ok(())
 }
 
 /// Puts these labels.
-pub fn put_all(
-    rt: &impl Abort,
-    alloc: Global,
-    list: &mut Taxonomy,
-    labels: &[&str],
-) -> Result<(), Fail>
+pub fn put_all(alloc: Global, list: &mut Taxonomy, labels: &[&str]) -> Result<(), Fail>
     ensures { GoesOn list.old list.new }
 {
     for label in labels {
-        let _ = put(rt, alloc, list, *label, 1000)?;
+        put(alloc, list, *label)?;
     }
     Ok(())
 }
 
 /// A list of these labels.
-pub fn listed(rt: &impl Abort, alloc: Global, labels: &[&str]) -> Result<Taxonomy, Fail> {
-    let mut list = Taxonomy::new(alloc)?;
-    put_all(rt, alloc, &mut list, labels)?;
+pub fn listed(alloc: Global, labels: &[&str]) -> Result<Taxonomy, Fail> {
+    let mut list = Taxonomy::new(alloc, fixed_keys()?)?;
+    put_all(alloc, &mut list, labels)?;
     Ok(list)
+}
+
+/// A view of these labels.
+pub fn viewed(alloc: Global, labels: &[&str]) -> Result<TaxoView, Fail> {
+    let list = listed(alloc, labels)?;
+    Ok(list.view()?)
 }
 
 /// The labels of five books, in the order in which they were added.

@@ -29,34 +29,87 @@ const REFUSED: &[(&[&str], Option<PathFault>)] = &[
     (&[""; 33], Some(PathFault::TooManyParts { len: 33 })),
 ];
 
-// Whether the parts and the parent of a date are what they should be.
-fn is_taken_apart(alloc: Global) -> Result<bool, Fail> {
-    let date = Path::of(alloc, &["Date", "2010", "10"])?;
-    let year = Path::of(alloc, &["Date", "2010"])?;
-    let dim = Path::of(alloc, &["Date"])?;
-    let parts = date.dim() == "Date" && year.len() == 2 && year.part(1) == "2010";
-    let parents = date.parent(alloc)? == Some(year.dup(alloc)?) && dim.parent(alloc)? == None;
-    let made = year.child(alloc, "10")? == date && Path::of_dim(alloc, "Date")? == dim;
-    let refused = year.child(alloc, "").is_err() && Path::of_dim(alloc, "").is_err();
-    Ok(parts && parents && made && refused)
-}
-
-fn is_under(alloc: Global, parts: &[&str], above: &[&str]) -> Result<bool, Fail> {
-    let path = Path::of(alloc, parts)?;
-    let above = Path::of(alloc, above)?;
-    Ok(path.is_under(&above))
+fn are_refused(alloc: Global) -> bool {
+    for (parts, expected) in REFUSED {
+        if fault(alloc, *parts) != *expected {
+            return false;
+        }
+    }
+    true
 }
 
 const DATE: &[&str] = &["Date", "2010", "10"];
 
+const YEAR: &[&str] = &["Date", "2010"];
+
+const DIM: &[&str] = &["Date"];
+
+fn is_path(alloc: Global, path: &Path, parts: &[&str]) -> Result<bool, Fail> {
+    Ok(*path == Path::of(alloc, parts)?)
+}
+
+fn has_parts(year: &Path) -> bool {
+    year.len() == 2 && year.part(1) == "2010"
+}
+
+fn has_child(alloc: Global, year: &Path) -> Result<bool, Fail> {
+    is_path(alloc, &year.child(alloc, "10")?, DATE)
+}
+
+fn refuses_child(alloc: Global, year: &Path) -> bool {
+    year.child(alloc, "").is_err()
+}
+
+fn is_year(alloc: Global) -> Result<bool, Fail> {
+    let year = Path::of(alloc, YEAR)?;
+    Ok(has_parts(&year) && refuses_child(alloc, &year) && has_child(alloc, &year)?)
+}
+
+// Whether the parent of the date, copied, is the year.
+fn has_parent(alloc: Global, date: &Path) -> Result<bool, Fail> {
+    match date.parent(alloc)? {
+        Some(parent) => is_path(alloc, &parent.dup(alloc)?, YEAR),
+        None => Ok(false),
+    }
+}
+
+fn is_date(alloc: Global) -> Result<bool, Fail> {
+    let date = Path::of(alloc, DATE)?;
+    Ok(date.dim() == "Date" && has_parent(alloc, &date)?)
+}
+
+fn is_dim(alloc: Global) -> Result<bool, Fail> {
+    let dim = Path::of_dim(alloc, "Date")?;
+    Ok(is_path(alloc, &dim, DIM)? && dim.parent(alloc)? == None)
+}
+
+// Whether the parts, the parent and the child of a date are what they should be.
+fn is_taken_apart(alloc: Global) -> Result<bool, Fail> {
+    Ok(is_year(alloc)? && is_date(alloc)? && is_dim(alloc)?)
+}
+
+fn is_under(alloc: Global, path: &Path, above: &[&str]) -> Result<bool, Fail> {
+    let above = Path::of(alloc, above)?;
+    Ok(path.is_under(&above))
+}
+
 const FAMILIES: &[(&[&str], &[&str], bool)] = &[
     (DATE, DATE, true),
-    (DATE, &["Date"], true),
-    (&["Date"], DATE, false),
+    (DATE, DIM, true),
+    (DIM, DATE, false),
     (DATE, &["Date", "20"], false),
 ];
 
-const RISING: [&[&str]; 6] = [
+fn are_families(alloc: Global) -> Result<bool, Fail> {
+    for (parts, above, expected) in FAMILIES {
+        if is_under(alloc, &Path::of(alloc, *parts)?, *above)? != *expected {
+            return Ok(false);
+        }
+    }
+    Ok(true)
+}
+
+const RISING: &[&[&str]] = &[
     &["A"],
     &["A", "b"],
     &["A", "b", "a"],
@@ -65,31 +118,50 @@ const RISING: [&[&str]; 6] = [
     &["Z"],
 ];
 
-// Whether the paths are sorted so, and each is found in a map.
-fn are_in_order(alloc: Global) -> Result<bool, Fail> {
+fn rising(alloc: Global) -> Result<Vec<Path>, Fail> {
     let mut paths = Vec::new(alloc);
-    let mut places = HashMap::new(alloc);
-    for (place, parts) in RISING.iter().enumerate() {
+    for parts in RISING {
         paths.push(Path::of(alloc, *parts)?)?;
-        places.insert(Path::of(alloc, *parts)?, place)?;
     }
+    Ok(paths)
+}
+
+fn are_sorted(alloc: Global) -> Result<bool, Fail> {
+    let mut paths = rising(alloc)?;
     paths.reverse();
     paths.sort()?;
+    Ok(paths.as_slice() == rising(alloc)?.as_slice())
+}
+
+fn places(alloc: Global) -> Result<HashMap<Path, usize>, Fail> {
+    let mut places = HashMap::new(alloc);
     for (place, parts) in RISING.iter().enumerate() {
-        let path = Path::of(alloc, *parts)?;
-        if paths.get(place) != Some(&path) || places.get(&path).copied() != Some(place) {
+        places.insert(Path::of(alloc, *parts)?, place)?;
+    }
+    Ok(places)
+}
+
+// Whether each path is found in a map.
+fn are_found(alloc: Global) -> Result<bool, Fail> {
+    let places = places(alloc)?;
+    for (place, path) in rising(alloc)?.iter().enumerate() {
+        if places.get(path).copied() != Some(place) {
             return Ok(false);
         }
     }
     Ok(true)
 }
 
-// Whether the path is spelled so, and read from it.
-fn is_spelled(alloc: Global, parts: &[&str], text: &str) -> Result<bool, Fail> {
-    let path = Path::of(alloc, parts)?;
-    let spelled = path.term_text(alloc)?;
-    let read = Path::from_term_text(alloc, text)?;
-    Ok(spelled.as_str() == text && read == Some(path))
+fn has_term_text(alloc: Global, parts: &[&str], text: &str) -> Result<bool, Fail> {
+    let spelled = Path::of(alloc, parts)?.term_text(alloc)?;
+    Ok(spelled.as_str() == text)
+}
+
+fn is_read(alloc: Global, parts: &[&str], text: &str) -> Result<bool, Fail> {
+    match Path::from_term_text(alloc, text)? {
+        Some(read) => is_path(alloc, &read, parts),
+        None => Ok(false),
+    }
 }
 
 const SPELLED: &[(&[&str], &str)] = &[
@@ -102,22 +174,44 @@ const SPELLED: &[(&[&str], &str)] = &[
     (&["é"], "é"),
 ];
 
+// Whether each path is spelled so, and read from it.
+fn are_spelled(alloc: Global) -> Result<bool, Fail> {
+    for (parts, text) in SPELLED {
+        if !has_term_text(alloc, *parts, *text)? || !is_read(alloc, *parts, *text)? {
+            return Ok(false);
+        }
+    }
+    Ok(true)
+}
+
+const NO_PATHS: &[&str] = &["A\u{1e}", "\u{1e}A", "A\u{1f}", ""];
+
+fn are_no_paths(alloc: Global) -> Result<bool, Fail> {
+    for text in NO_PATHS {
+        if Path::from_term_text(alloc, *text)?.is_some() {
+            return Ok(false);
+        }
+    }
+    Ok(true)
+}
+
+fn are_made(alloc: Global) -> Result<bool, Fail> {
+    let refused = are_refused(alloc) && Path::of_dim(alloc, "").is_err();
+    Ok(refused && is_too_long(alloc)? && longest_is_taken(alloc)?)
+}
+
+fn are_in_order(alloc: Global) -> Result<bool, Fail> {
+    Ok(are_families(alloc)? && are_sorted(alloc)? && are_found(alloc)?)
+}
+
+fn have_term_texts(alloc: Global) -> Result<bool, Fail> {
+    Ok(are_spelled(alloc)? && are_no_paths(alloc)?)
+}
+
 #[test]
 fn paths_and_their_term_texts(rt: HostRuntime) -> Result<(), Fail> {
     let alloc = rt.alloc();
-    for (parts, expected) in REFUSED {
-        assert!(rt; fault(alloc, *parts) == *expected, "{expected:?}");
-    }
-    for (parts, above, expected) in FAMILIES {
-        assert!(rt; is_under(alloc, *parts, *above)? == *expected);
-    }
-    assert!(rt; is_too_long(alloc)? && longest_is_taken(alloc)? && is_taken_apart(alloc)?);
-    assert!(rt; are_in_order(alloc)?);
-    for (parts, text) in SPELLED {
-        assert!(rt; is_spelled(alloc, *parts, *text)?);
-    }
-    for text in ["A\u{1e}", "\u{1e}A", "A\u{1f}", ""] {
-        assert!(rt; Path::from_term_text(alloc, text)? == None);
-    }
+    let paths = are_made(alloc)? && is_taken_apart(alloc)? && are_in_order(alloc)?;
+    assert!(rt; paths && have_term_texts(alloc)?);
     Ok(())
 }

@@ -6,12 +6,15 @@ ghost use Rattle.taxo_cache.specs.Seen.{SeesLabels};
 use chronicle::{Chronicle, Token};
 use facet_names::Path;
 use std::alloc::Global;
+use std::hash::RandomState;
 use taxo_list::Taxonomy;
 use taxo_writer::LabelList;
+use test_keys::fixed_keys;
 
-/// The chronicle of no labels but the root, with its first token.
+/// The chronicle of no labels but the root, with its first token, and the keys that hash its labels, the same at each run.
 #[derive(Drop)]
 pub struct Opened {
+    pub keys: RandomState,
     pub labels: Chronicle<LabelList>,
     pub first: Token<Path>,
     ghost own: { first.identity ≡ labels },
@@ -24,7 +27,8 @@ pub struct Opened {
 
 /// Opens a list of no label; `None` without memory.
 pub fn open_labels(alloc: Global) -> Option<Opened> {
-    let list = Taxonomy::new(alloc).ok()?;
+    let keys = fixed_keys().ok()?;
+    let list = Taxonomy::new(alloc, keys).ok()?;
     let (labels, first) = Chronicle::open(alloc, LabelList::new(list)).ok()?;
-    Some(Opened { labels, first })
+    Some(Opened { keys, labels, first })
 }

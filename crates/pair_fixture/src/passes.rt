@@ -105,13 +105,18 @@ pub fn begin<N: Name, R: Wait>(rt: &R, alloc: Global, opened: Opened) -> Result<
     ensures frame { IfOk result (λ b. b.first.operations.frame ≡ index_frame [] 1000000 opened.labels) }
     ensures published { IfOk result (λ b. entries b.first.pairs.seen ≡ all_seen b.first ∷ []) }
 {
-    let Opened { labels, mut first } = opened;
+    let Opened {
+        keys,
+        labels,
+        mut first,
+    } = opened;
     let config = Arc::new(alloc, FacetsConfig::new(alloc))?;
     let again = Arc::try_clone(&config)?;
-    let writer = TaxoWriter::<N>::open(alloc, labels, &mut first, 16, 4096, 1_000_000)?;
+    let writer = TaxoWriter::<N>::open(alloc, keys, labels, &mut first, 16, 4096, 1_000_000)?;
     let view = writer.snapshot(rt, &mut first)?;
     let (manager, operations, pairs) = Manager::open(
         alloc,
+        keys,
         writer,
         &mut first,
         view,

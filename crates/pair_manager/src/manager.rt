@@ -34,6 +34,7 @@ use facet_names::{NoMemory, Path};
 use index_state::{AppendFault, IndexState, IndexView, Operation};
 use seg_file::{Entry, Segment};
 use std::alloc::Global;
+use std::hash::RandomState;
 use std::marker::Model;
 use std::sync::{Arc, Wait};
 use taxo_cache::Name;
@@ -73,6 +74,7 @@ impl<N: Name> Manager<N> {
     /// operations and that of the pairs.
     pub fn open(
         alloc: Global,
+        keys: RandomState,
         writer: TaxoWriter<N>,
         labels: &mut Token<Path>,
         view: TaxoView,
@@ -97,6 +99,7 @@ impl<N: Name> Manager<N> {
     {
         let (index, taken) = open_index(
             alloc,
+            keys,
             writer.labels(),
             labels,
             segments,

@@ -12,12 +12,14 @@ use facet_names::{NoMemory, Path};
 use index_state::{IndexState, IndexView};
 use seg_file::Segment;
 use std::alloc::Global;
+use std::hash::RandomState;
 use std::sync::Arc;
 use taxo_writer::LabelList;
 
 /// The index of segments that were opened, and how it stands before the first operation.
 pub fn open_index(
     alloc: Global,
+    keys: RandomState,
     chronicle: &Chronicle<LabelList>,
     labels: &mut Token<Path>,
     segments: Vec<Arc<Segment>>,
@@ -39,7 +41,14 @@ pub fn open_index(
     ensures decodes { IfOk result (λ r. Decodes (labels_of labels.old.seen) (arc_value config.now) (map arc_value r.1.segments.items) r.0.docs) }
 {
     let note = chronicle.note(labels);
-    let mut index = IndexState::open(alloc, segments, note, Arc::try_clone(config)?, max_docs)?;
+    let mut index = IndexState::open(
+        alloc,
+        keys,
+        segments,
+        note,
+        Arc::try_clone(config)?,
+        max_docs,
+    )?;
     let view = index.snapshot(chronicle)?;
     Ok((index, view))
 }

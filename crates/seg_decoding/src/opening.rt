@@ -14,6 +14,7 @@ use facet_codec::Cursor;
 use facet_config::FacetsConfig;
 use seg_file::Segment;
 use std::alloc::Global;
+use std::hash::RandomState;
 use taxo_list::{Labelled, Taxonomy};
 
 // The first bytes are those of a segment that has so many documents.
@@ -64,6 +65,7 @@ fn opened(alloc: Global, documents: u32, bytes: Vec<u8>) -> Result<Segment, Stor
 /// and memory of adding them all. It keeps the given bytes and their index, 16 bytes a document and 8 a term.
 pub fn open_stored(
     alloc: Global,
+    keys: RandomState,
     config: &FacetsConfig,
     labels: &Taxonomy,
     needs: u32,
@@ -88,7 +90,7 @@ pub fn open_stored(
         Err(Unlike::Differs) => {}
     }
     let entries = entries_of(alloc, config, labels, needs, &segment)?;
-    let rebuilt = Segment::build(alloc, &entries)?;
+    let rebuilt = Segment::build(alloc, keys, &entries)?;
     match first_difference(segment.bytes(), rebuilt.bytes()) {
         Some(at) => Err(StoredFault::Malformed { at }),
         None => Ok(segment),

@@ -19,6 +19,7 @@ use seg_grammar::SegFault;
 use seg_postings::{Ords, Postings};
 use seg_terms::Entry;
 use std::alloc::{AllocError, Global};
+use std::hash::RandomState;
 use std::marker::Model;
 use std::sync::Arc;
 
@@ -74,12 +75,12 @@ impl Segment {
     /// The segment of documents and their terms: the records in their order, and each term once. It takes memory for the bytes, and in between for the
     /// terms with their places. Beside a refused allocation it answers that there is no memory where there would be 2^32 terms or more, which the format
     /// cannot number, or 2^32 counted ordinals without a map, which the column cannot.
-    pub fn build(alloc: Global, entries: &[Entry]) -> Result<Segment, NoMemory>
+    pub fn build(alloc: Global, keys: RandomState, entries: &[Entry]) -> Result<Segment, NoMemory>
         requires some { 0 < length entries.now }
         requires few { length entries.now ≤ 1000000 }
         ensures { IfOk result (λ s. s ≡ segment_of entries.now) }
     {
-        let stored = SegmentBytes::build(alloc, entries)?;
+        let stored = SegmentBytes::build(alloc, keys, entries)?;
         Ok(of_stored(alloc, stored)?)
     }
 

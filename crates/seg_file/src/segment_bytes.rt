@@ -17,6 +17,7 @@ use seg_postings::{Ords, Postings};
 use seg_terms::{Entry, terms_of};
 use seg_writing::write_segment;
 use std::alloc::Global;
+use std::hash::RandomState;
 use std::marker::Model;
 
 /// The bytes of a segment, which are read where they stand, and where their parts begin, 16 bytes a document and 8 a term.
@@ -41,12 +42,16 @@ impl SegmentBytes {
     /// The segment of documents and their terms: the records in their order, and each term once. It takes memory for the bytes, and in between for the
     /// terms with their places. Beside a refused allocation it answers that there is no memory where there would be 2^32 terms or more, which the format
     /// cannot number.
-    pub(crate) fn build(alloc: Global, entries: &[Entry]) -> Result<SegmentBytes, NoMemory>
+    pub(crate) fn build(
+        alloc: Global,
+        keys: RandomState,
+        entries: &[Entry],
+    ) -> Result<SegmentBytes, NoMemory>
         requires some { 0 < length entries.now }
         requires few { length entries.now ≤ 1000000 }
         ensures { IfOk result (λ s. s ≡ segment_of entries.now) }
     {
-        let terms = terms_of(alloc, entries)?;
+        let terms = terms_of(alloc, keys, entries)?;
         let written = write_segment(alloc, entries, &terms)?;
         Ok(SegmentBytes {
             bytes: written.bytes,

@@ -15,6 +15,7 @@ use crate::term_places::TermPlaces;
 use facet_model::{Document, is_blank};
 use facet_names::{NoMemory, Path, push_part};
 use std::alloc::Global;
+use std::hash::RandomState;
 
 /// Collects the terms of documents. The text of each term is made in one buffer, so a term that is known takes no memory.
 #[derive(Drop)]
@@ -45,12 +46,12 @@ pub fn write_word_term(term: &mut String, word: &[u8]) -> Result<(), NoMemory>
 }
 
 impl TermCollector {
-    /// No term.
-    pub fn new(alloc: Global) -> TermCollector
+    /// No term. Look-ups hash terms with `keys`.
+    pub fn new(alloc: Global, keys: RandomState) -> TermCollector
         ensures { result.table ≡ [] }
     {
         TermCollector {
-            table: TermTable::new(alloc),
+            table: TermTable::new(alloc, keys),
             term: String::new(alloc),
         }
     }

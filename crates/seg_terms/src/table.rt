@@ -9,12 +9,13 @@ use crate::term_places::TermPlaces;
 use facet_names::NoMemory;
 use indexmap::IndexMap;
 use std::alloc::Global;
+use std::hash::RandomState;
 use std::marker::Model;
 
 /// Terms with the places of the documents that have them, found by hash.
 #[derive(Drop)]
 pub struct TermTable {
-    terms: IndexMap<String, Vec<u32>>,
+    terms: IndexMap<String, Vec<u32>, RandomState>,
 }
 
 impl Model for TermTable {
@@ -39,12 +40,12 @@ fn put_place(places: &mut Vec<u32>, place: u32) -> Result<(), NoMemory>
 }
 
 impl TermTable {
-    /// No term.
-    pub fn new(alloc: Global) -> TermTable
+    /// No term. Look-ups hash terms with `keys`, on which no answer depends.
+    pub fn new(alloc: Global, keys: RandomState) -> TermTable
         ensures { result ≡ [] }
     {
         TermTable {
-            terms: IndexMap::new(alloc),
+            terms: IndexMap::with_hasher(alloc, keys),
         }
     }
 

@@ -7,6 +7,7 @@ use crate::collector::TermCollector;
 use crate::entry::Entry;
 use facet_names::NoMemory;
 use std::alloc::Global;
+use std::hash::RandomState;
 
 /// A term, and the places of the documents that have it, rising.
 #[derive(Debug, Drop)]
@@ -22,12 +23,16 @@ pub struct TermPlaces {
 ///
 /// It goes over the documents once, looks each term up by hash, and takes memory for each different term alone and for its places. In the end
 /// the terms are sorted.
-pub fn terms_of(alloc: Global, entries: &[Entry]) -> Result<Vec<TermPlaces>, NoMemory>
+pub fn terms_of(
+    alloc: Global,
+    keys: RandomState,
+    entries: &[Entry],
+) -> Result<Vec<TermPlaces>, NoMemory>
     requires few { length entries.now ≤ 1000000 }
     ensures terms { IfOk result (λ v. map term_view v.items ≡ terms_of (map (λ e. e.doc) entries.now)) }
     ensures short { IfOk result (λ v. AllByRecursion (λ t. IsShortTerm t.0) (map term_view v.items)) }
 {
-    let mut collector = TermCollector::new(alloc);
+    let mut collector = TermCollector::new(alloc, keys);
     for (place, entry) in entries.iter().enumerate() {
         collector.note_document(alloc, &entry.doc, place as u32)?;
     }

@@ -2,8 +2,8 @@ use place_bits::Bits;
 use seg_postings::Places;
 use std::alloc::{AllocError, Global};
 
-// The places below 130 that are also among four, at the ends of words and behind the bound, as a walk over bits gives them.
-pub(crate) fn in_common(alloc: Global) -> Result<[Option<u32>; 4], AllocError> {
+// Whether a walk over bits gives the places below 130 that are also among four, at the ends of words and behind the bound.
+pub(crate) fn are_in_common(alloc: Global) -> Result<bool, AllocError> {
     let mut below = Bits::none(alloc, 200)?;
     below.fill(130);
     let mut some = Bits::none(alloc, 200)?;
@@ -16,5 +16,6 @@ pub(crate) fn in_common(alloc: Global) -> Result<[Option<u32>; 4], AllocError> {
     let first = places.next();
     let from_64 = places.seek(64);
     let last = places.next();
-    Ok([first, from_64, last, places.seek(64)])
+    let found = [first, from_64, last, places.seek(64)];
+    Ok(found == [Some(63), Some(64), Some(128), None])
 }

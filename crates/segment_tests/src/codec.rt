@@ -2,12 +2,6 @@ use facet_codec::{CodecFault, Cursor, NoMemory, put_text, put_u8, put_u32, put_u
 use std::alloc::Global;
 use std::test::Fail;
 
-fn vint_bytes(alloc: Global, value: u32) -> Result<Vec<u8>, NoMemory> {
-    let mut out = Vec::new(alloc);
-    put_vint(&mut out, value)?;
-    Ok(out)
-}
-
 // What reading answers behind the first byte, and where the cursor then stands.
 fn vint_behind(bytes: &[u8]) -> (Result<u32, CodecFault>, usize) {
     let mut cursor = Cursor::new(bytes);
@@ -22,44 +16,63 @@ fn text_of(bytes: &[u8], max: u32) -> (Result<&str, CodecFault>, usize) {
     (read, cursor.rest())
 }
 
-// Whether the value is spelled so behind a byte, and read from it.
-fn is_spelled(alloc: Global, value: u32, bytes: &[u8]) -> Result<bool, Fail> {
+const SPELLED: &[(u32, &[u8])] = &[
+    (0, &[9, 0x00]),
+    (127, &[9, 0x7f]),
+    (128, &[9, 0x80, 0x01]),
+    (300, &[9, 0xac, 0x02]),
+    (2097152, &[9, 0x80, 0x80, 0x80, 0x01]),
+    (4294967295, &[9, 0xff, 0xff, 0xff, 0xff, 0x0f]),
+];
+
+fn spelled(alloc: Global, value: u32) -> Result<Vec<u8>, Fail> {
     let mut spelled = Vec::new(alloc);
     spelled.push(9)?;
-    spelled.extend_from_slice(&vint_bytes(alloc, value)?)?;
-    Ok(spelled.as_slice() == bytes && vint_behind(bytes) == (Ok(value), bytes.len()))
+    put_vint(&mut spelled, value)?;
+    Ok(spelled)
+}
+
+// Whether each value is spelled so behind a byte, and read from it.
+fn are_spelled(alloc: Global) -> Result<bool, Fail> {
+    for (value, bytes) in SPELLED {
+        let read = vint_behind(*bytes) == (Ok(*value), bytes.len());
+        if spelled(alloc, *value)?.as_slice() != *bytes || !read {
+            return Ok(false);
+        }
+    }
+    Ok(true)
+}
+
+const SHORT: CodecFault = CodecFault::Short { at: 1 };
+
+const LONG: CodecFault = CodecFault::LongSpelling { at: 1 };
+
+const OVER: CodecFault = CodecFault::OutOfRange { at: 1 };
+
+const REFUSED: &[(&[u8], CodecFault)] = &[
+    (&[9], SHORT),
+    (&[9, 0x80], SHORT),
+    (&[9, 0xff, 0xff, 0xff, 0xff], SHORT),
+    (&[9, 0x81, 0x00], LONG),
+    (&[9, 0x80, 0x80, 0x00, 0x01], LONG),
+    (&[9, 0x80, 0x80, 0x80, 0x80, 0x00], LONG),
+    (&[9, 0xff, 0xff, 0xff, 0xff, 0x10], OVER),
+    (&[9, 0x80, 0x80, 0x80, 0x80, 0x80], OVER),
+    (&[9, 0x80, 0x80, 0x80, 0x80, 0x80, 0x00], OVER),
+];
+
+fn are_refused() -> bool {
+    for (bytes, fault) in REFUSED {
+        if vint_behind(*bytes) != (Err(*fault), 1) {
+            return false;
+        }
+    }
+    true
 }
 
 #[test]
 fn vints(rt: HostRuntime) -> Result<(), Fail> {
-    let rows: [(u32, &[u8]); 6] = [
-        (0, &[9, 0x00]),
-        (127, &[9, 0x7f]),
-        (128, &[9, 0x80, 0x01]),
-        (300, &[9, 0xac, 0x02]),
-        (2097152, &[9, 0x80, 0x80, 0x80, 0x01]),
-        (4294967295, &[9, 0xff, 0xff, 0xff, 0xff, 0x0f]),
-    ];
-    for (value, bytes) in rows {
-        assert!(rt; is_spelled(rt.alloc(), value, bytes)?, "{value}");
-    }
-    let short = CodecFault::Short { at: 1 };
-    let long = CodecFault::LongSpelling { at: 1 };
-    let over = CodecFault::OutOfRange { at: 1 };
-    let faults: [(&[u8], CodecFault); 9] = [
-        (&[9], short),
-        (&[9, 0x80], short),
-        (&[9, 0xff, 0xff, 0xff, 0xff], short),
-        (&[9, 0x81, 0x00], long),
-        (&[9, 0x80, 0x80, 0x00, 0x01], long),
-        (&[9, 0x80, 0x80, 0x80, 0x80, 0x00], long),
-        (&[9, 0xff, 0xff, 0xff, 0xff, 0x10], over),
-        (&[9, 0x80, 0x80, 0x80, 0x80, 0x80], over),
-        (&[9, 0x80, 0x80, 0x80, 0x80, 0x80, 0x00], over),
-    ];
-    for (bytes, fault) in faults {
-        assert_eq!(rt; vint_behind(bytes), (Err(fault), 1));
-    }
+    assert!(rt; are_spelled(rt.alloc())? && are_refused());
     Ok(())
 }
 
@@ -92,34 +105,53 @@ fn are_short(bytes: &[u8]) -> bool {
     cursor.u32() == Err(short) && cursor.u64() == Err(short) && cursor.rest() == bytes.len()
 }
 
+// The bytes, the greatest length, the answer, and how many bytes are left.
+type TextRow = (&'static [u8], u32, Result<&'static str, CodecFault>, usize);
+
+const TEXTS: &[TextRow] = &[
+    (&[0], 0, Ok(""), 0),
+    (&[3, 0xc3, 0xa9, 0x6b, 7], 3, Ok("ék"), 1),
+    (&[0x80], 9, Err(CodecFault::Short { at: 0 }), 1),
+    (&[0x81, 0], 9, Err(CodecFault::LongSpelling { at: 0 }), 2),
+    (
+        &[0xff, 0xff, 0xff, 0xff, 0x10],
+        9,
+        Err(CodecFault::OutOfRange { at: 0 }),
+        5,
+    ),
+    (&[3, 0xff], 2, Err(CodecFault::OutOfRange { at: 0 }), 2),
+    (
+        &[2, 0xff, 0xff],
+        1,
+        Err(CodecFault::OutOfRange { at: 0 }),
+        3,
+    ),
+    (&[2, 0xff], 2, Err(CodecFault::Short { at: 0 }), 2),
+    (&[1, 0xff], 1, Err(CodecFault::NotUtf8 { at: 0 }), 2),
+    (
+        &[2, 0x61, 0xc3, 0xa9],
+        2,
+        Err(CodecFault::NotUtf8 { at: 0 }),
+        4,
+    ),
+];
+
+fn are_texts() -> bool {
+    for (bytes, max, want, left) in TEXTS {
+        if text_of(*bytes, *max) != (*want, *left) {
+            return false;
+        }
+    }
+    true
+}
+
+fn numbers_are_read(alloc: Global) -> Result<bool, Fail> {
+    let bytes = written(alloc)?;
+    Ok(bytes.as_slice() == WRITTEN.as_slice() && are_read(&bytes))
+}
+
 #[test]
 fn texts_and_numbers(rt: HostRuntime) -> Result<(), Fail> {
-    let short = CodecFault::Short { at: 0 };
-    let over = CodecFault::OutOfRange { at: 0 };
-    // the bytes, the greatest length, the answer, and how many bytes are left
-    let rows: [(&[u8], u32, Result<&str, CodecFault>, usize); 10] = [
-        (&[0], 0, Ok(""), 0),
-        (&[3, 0xc3, 0xa9, 0x6b, 7], 3, Ok("ék"), 1),
-        (&[0x80], 9, Err(short), 1),
-        (&[0x81, 0], 9, Err(CodecFault::LongSpelling { at: 0 }), 2),
-        (&[0xff, 0xff, 0xff, 0xff, 0x10], 9, Err(over), 5),
-        (&[3, 0xff], 2, Err(over), 2),
-        (&[2, 0xff, 0xff], 1, Err(over), 3),
-        (&[2, 0xff], 2, Err(short), 2),
-        (&[1, 0xff], 1, Err(CodecFault::NotUtf8 { at: 0 }), 2),
-        (
-            &[2, 0x61, 0xc3, 0xa9],
-            2,
-            Err(CodecFault::NotUtf8 { at: 0 }),
-            4,
-        ),
-    ];
-    for (bytes, max, want, left) in rows {
-        assert_eq!(rt; text_of(bytes, max), (want, left));
-    }
-    let bytes = written(rt.alloc())?;
-    assert!(rt;
-        bytes.as_slice() == WRITTEN.as_slice() && are_read(&bytes) && are_short(&[1, 2, 3])
-    );
+    assert!(rt; numbers_are_read(rt.alloc())? && are_short(&[1, 2, 3]) && are_texts());
     Ok(())
 }

@@ -5,37 +5,64 @@ ghost use Rattle.seg_postings.specs.Bytes.{AreRisingPlaces};
 use facet_codec::put_u32;
 use facet_model::{Counted, Document};
 use facet_names::Path;
-use seg_file::Entry;
+use seg_file::{Entry, Segment};
 use seg_postings::Places;
 use std::alloc::{AllocFailed, Global};
 use std::test::Fail;
+use test_keys::fixed_keys;
 
-/// A document with these labels and leaves, for which the first leaf is counted.
-pub fn entry(
-    alloc: Global,
-    id: &str,
-    text: &str,
-    labels: &[&[&str]],
-    leaves: &[u32],
-) -> Result<Entry, Fail> {
-    let mut facets = Vec::new(alloc);
+/// A document's id, text, labels and leaves, for which the first leaf is counted.
+pub type Row = (
+    &'static str,
+    &'static str,
+    &'static [&'static [&'static str]],
+    &'static [u32],
+);
+
+fn paths(alloc: Global, labels: &[&[&str]]) -> Result<Vec<Path>, Fail> {
+    let mut paths = Vec::new(alloc);
     for label in labels {
-        facets.push(Path::of(alloc, *label)?)?;
+        paths.push(Path::of(alloc, *label)?)?;
     }
-    let doc = Document::new(alloc, id, text, facets)?;
-    let leaves = leaves.to_vec(alloc)?;
+    Ok(paths)
+}
+
+fn counted(alloc: Global, leaves: &[u32]) -> Result<Counted, Fail> {
+    match leaves.first() {
+        Some(first) => Ok(Counted::new(vec![in alloc; *first]?)),
+        None => Ok(Counted::new(Vec::new(alloc))),
+    }
+}
+
+fn entry(alloc: Global, row: &Row) -> Result<Entry, Fail> {
+    let (id, text, labels, leaves) = *row;
+    let doc = Document::new(alloc, id, text, paths(alloc, labels)?)?;
     if leaves.len() != doc.facets().len() {
         return Err("as many leaves as labels".into());
     }
-    let counted = match leaves.first() {
-        Some(first) => Counted::new(vec![in alloc; *first]?),
-        None => Counted::new(Vec::new(alloc)),
-    };
     Ok(Entry {
         doc,
-        leaves,
-        counted,
+        leaves: leaves.to_vec(alloc)?,
+        counted: counted(alloc, leaves)?,
     })
+}
+
+/// The documents of these rows.
+pub fn entries(alloc: Global, rows: &[Row]) -> Result<Vec<Entry>, Fail> {
+    let mut entries = Vec::new(alloc);
+    for row in rows {
+        entries.push(entry(alloc, row)?)?;
+    }
+    Ok(entries)
+}
+
+/// The segment of the documents of these rows.
+pub fn segment(alloc: Global, rows: &[Row]) -> Result<Segment, Fail> {
+    let entries = entries(alloc, rows)?;
+    if entries.is_empty() || entries.len() > 1000000 {
+        return Err("no segment".into());
+    }
+    Ok(Segment::build(alloc, fixed_keys()?, &entries)?)
 }
 
 /// The bytes of those places that are above all before them.

@@ -24,13 +24,17 @@ fn are_sought(postings: &Postings) -> bool {
     sought(postings.cursor(), 2998) == (None, None)
 }
 
-// Whether a cursor over a thousand places finds the next ones that are asked for, near and far.
-pub fn far_ahead_are_sought(alloc: Global) -> Result<bool, Fail> {
+fn far(alloc: Global) -> Result<Vec<u32>, Fail> {
     let mut places = Vec::new(alloc);
     for place in (0..3000u32).step_by(3) {
         places.push(place)?;
     }
-    let bytes = spelled(alloc, &places)?;
+    Ok(places)
+}
+
+// Whether a cursor over a thousand places finds the next ones that are asked for, near and far.
+pub fn far_ahead_are_sought(alloc: Global) -> Result<bool, Fail> {
+    let bytes = spelled(alloc, &far(alloc)?)?;
     let postings = Postings::new(&bytes);
     Ok(postings.len() == 1000 && are_sought(&postings))
 }

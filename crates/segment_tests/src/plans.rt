@@ -1,6 +1,6 @@
 ghost use Rattle.std.specs.Prelude.{◌<◌, length, IfOk};
 
-use crate::bits::in_common;
+use crate::bits::are_in_common;
 use crate::making::{all, sought, spelled};
 use crate::places::far_ahead_are_sought;
 use plan_places::{PlanNode, PlanPlaces};
@@ -8,9 +8,10 @@ use seg_postings::{Places, Postings};
 use std::alloc::{AllocFailed, Global};
 use std::test::Fail;
 
-// All places of the node.
-fn walked(alloc: Global, node: PlanNode<'_>) -> Result<Vec<u32>, AllocFailed<u32>> {
-    all(alloc, PlanPlaces::new(node))
+// Whether these are all places of the node.
+fn has_all(alloc: Global, node: PlanNode<'_>, want: &[u32]) -> Result<bool, Fail> {
+    let walked = all(alloc, PlanPlaces::new(node))?;
+    Ok(walked.as_slice() == want)
 }
 
 // Two nodes.
@@ -27,26 +28,36 @@ fn pair<'a>(
     Ok(pair)
 }
 
-// The union, the intersection and the difference.
-fn sets<'a>(
+fn either<'a>(
     alloc: Global,
     left: &Postings<'a>,
     right: &Postings<'a>,
-) -> Result<[Vec<u32>; 3], Fail> {
+) -> Result<PlanNode<'a>, Fail> {
     let nodes = pair(alloc, PlanNode::list(left), PlanNode::list(right))?;
-    let any = walked(alloc, PlanNode::any(nodes))?;
+    Ok(PlanNode::any(nodes))
+}
+
+fn both<'a>(
+    alloc: Global,
+    left: &Postings<'a>,
+    right: &Postings<'a>,
+) -> Result<PlanNode<'a>, Fail> {
     let nodes = pair(alloc, PlanNode::list(left), PlanNode::list(right))?;
-    let all = walked(alloc, PlanNode::all(alloc, nodes, Vec::new(alloc))?)?;
+    Ok(PlanNode::all(alloc, nodes, Vec::new(alloc))?)
+}
+
+// The left without the right and without 0.
+fn lacking<'a>(
+    alloc: Global,
+    left: &Postings<'a>,
+    right: &Postings<'a>,
+) -> Result<PlanNode<'a>, Fail> {
     let nodes = pair(alloc, PlanNode::list(right), PlanNode::below(1))?;
-    let without = walked(
-        alloc,
-        PlanNode::without(alloc, PlanNode::list(left), nodes)?,
-    )?;
-    Ok([any, all, without])
+    Ok(PlanNode::without(alloc, PlanNode::list(left), nodes)?)
 }
 
 // left, right, their union and intersection, and the left without the right and without 0
-const SETS: [[&[u32]; 5]; 8] = [
+const SETS: &[[&[u32]; 5]] = &[
     [&[], &[], &[], &[], &[]],
     [&[], &[2], &[2], &[], &[]],
     [&[1, 2], &[1, 2], &[1, 2], &[1, 2], &[]],
@@ -75,37 +86,91 @@ const SETS: [[&[u32]; 5]; 8] = [
     ],
 ];
 
+fn are_combined(
+    alloc: Global,
+    left: &Postings<'_>,
+    right: &Postings<'_>,
+    wants: [&[u32]; 3],
+) -> Result<bool, Fail> {
+    let any = has_all(alloc, either(alloc, left, right)?, wants[0])?;
+    let all = has_all(alloc, both(alloc, left, right)?, wants[1])?;
+    let without = has_all(alloc, lacking(alloc, left, right)?, wants[2])?;
+    Ok(any && all && without)
+}
+
+fn is_row(alloc: Global, row: &[&[u32]; 5]) -> Result<bool, Fail> {
+    let [left, right, union, both, lacking] = *row;
+    let left = spelled(alloc, left)?;
+    let right = spelled(alloc, right)?;
+    let wants = [union, both, lacking];
+    are_combined(alloc, &Postings::new(&left), &Postings::new(&right), wants)
+}
+
+fn are_sets(alloc: Global) -> Result<bool, Fail> {
+    for row in SETS {
+        if !is_row(alloc, row)? {
+            return Ok(false);
+        }
+    }
+    Ok(true)
+}
+
 #[test]
 fn set_operations(rt: HostRuntime) -> Result<(), Fail> {
     let alloc = rt.alloc();
-    for [left, right, union, both, lacking] in SETS {
-        let left = spelled(alloc, left)?;
-        let right = spelled(alloc, right)?;
-        let got = sets(alloc, &Postings::new(&left), &Postings::new(&right))?;
-        assert!(rt; got[0].as_slice() == union);
-        assert!(rt; got[1].as_slice() == both);
-        assert!(rt; got[2].as_slice() == lacking);
-    }
-    assert!(rt; in_common(alloc)? == [Some(63), Some(64), Some(128), None]);
+    assert!(rt; are_sets(alloc)? && are_in_common(alloc)?);
     Ok(())
 }
 
-// What is found in the union, the intersection and the difference from a place on.
-fn found<'a>(
+// The left without the right.
+fn left_alone<'a>(
     alloc: Global,
     left: &Postings<'a>,
     right: &Postings<'a>,
-    place: u32,
-) -> Result<[(Option<u32>, Option<u32>); 3], Fail> {
-    let nodes = pair(alloc, PlanNode::list(left), PlanNode::list(right))?;
-    let any = sought(PlanPlaces::new(PlanNode::any(nodes)), place);
-    let nodes = pair(alloc, PlanNode::list(left), PlanNode::list(right))?;
-    let all = PlanNode::all(alloc, nodes, Vec::new(alloc))?;
-    let all = sought(PlanPlaces::new(all), place);
+) -> Result<PlanNode<'a>, Fail> {
     let nodes = vec![in alloc; PlanNode::list(right)]?;
-    let without = PlanNode::without(alloc, PlanNode::list(left), nodes)?;
-    let without = sought(PlanPlaces::new(without), place);
-    Ok([any, all, without])
+    Ok(PlanNode::without(alloc, PlanNode::list(left), nodes)?)
+}
+
+// What is found in the union, the intersection and the difference from a place on: the first place, and the next one.
+type Found = (u32, [(Option<u32>, Option<u32>); 3]);
+
+const FOUND: &[Found] = &[
+    (
+        0,
+        [(Some(1), Some(3)), (Some(3), Some(9)), (Some(1), Some(5))],
+    ),
+    (4, [(Some(4), Some(5)), (Some(9), None), (Some(5), None)]),
+    (9, [(Some(9), Some(12)), (Some(9), None), (None, None)]),
+    (13, [(None, None), (None, None), (None, None)]),
+];
+
+fn is_found(
+    alloc: Global,
+    left: &Postings<'_>,
+    right: &Postings<'_>,
+    row: &Found,
+) -> Result<bool, Fail> {
+    let (place, want) = *row;
+    let any = sought(PlanPlaces::new(either(alloc, left, right)?), place);
+    let all = sought(PlanPlaces::new(both(alloc, left, right)?), place);
+    let without = sought(PlanPlaces::new(left_alone(alloc, left, right)?), place);
+    Ok([any, all, without] == want)
+}
+
+fn are_found(alloc: Global, left: &Postings<'_>, right: &Postings<'_>) -> Result<bool, Fail> {
+    for row in FOUND {
+        if !is_found(alloc, left, right, row)? {
+            return Ok(false);
+        }
+    }
+    Ok(true)
+}
+
+fn sets_are_sought(alloc: Global) -> Result<bool, Fail> {
+    let left = spelled(alloc, &[1, 3, 5, 9])?;
+    let right = spelled(alloc, &[3, 4, 9, 12])?;
+    are_found(alloc, &Postings::new(&left), &Postings::new(&right))
 }
 
 // The places of the one node within so many levels of intersections.
@@ -118,45 +183,33 @@ fn nested<'a>(alloc: Global, node: PlanNode<'a>, levels: u32) -> Result<PlanNode
     Ok(node)
 }
 
+// Each place that is asked for among 3, 4 and 7, and whether it is left.
+const ASKED: &[(u32, bool)] = &[(1, false), (2, false), (3, true), (3, true), (5, false)];
+
+fn are_asked_for(places: &mut PlanPlaces<'_>) -> bool {
+    for (place, want) in ASKED {
+        if places.has(*place) != *want {
+            return false;
+        }
+    }
+    true
+}
+
 // Whether the places of a node within 32 levels of intersections are found as they are asked for.
 fn nested_are_sought(alloc: Global) -> Result<bool, Fail> {
     let bytes = spelled(alloc, &[1, 3, 4, 7, 9])?;
-    let postings = Postings::new(&bytes);
-    let mut places = PlanPlaces::new(nested(alloc, PlanNode::list(&postings), 32)?);
-    if places.next() != Some(1) {
-        return Ok(false);
-    }
-    // each place that is asked for, and whether it is left
-    for (place, want) in [(1, false), (2, false), (3, true), (3, true), (5, false)] {
-        if places.has(place) != want {
-            return Ok(false);
-        }
-    }
+    let node = nested(alloc, PlanNode::list(&Postings::new(&bytes)), 32)?;
+    let mut places = PlanPlaces::new(node);
+    let asked = places.next() == Some(1) && are_asked_for(&mut places);
     let ahead = places.seek(4) == Some(7) && places.seek(8).is_none();
-    Ok(ahead && !places.has(9))
+    Ok(asked && ahead && !places.has(9))
 }
 
 #[test]
 fn seeks(rt: HostRuntime) -> Result<(), Fail> {
     let alloc = rt.alloc();
-    let left = spelled(alloc, &[1, 3, 5, 9])?;
-    let right = spelled(alloc, &[3, 4, 9, 12])?;
-    let left = Postings::new(&left);
-    let right = Postings::new(&right);
-    let rows = [
-        (
-            0,
-            [(Some(1), Some(3)), (Some(3), Some(9)), (Some(1), Some(5))],
-        ),
-        (4, [(Some(4), Some(5)), (Some(9), None), (Some(5), None)]),
-        (9, [(Some(9), Some(12)), (Some(9), None), (None, None)]),
-        (13, [(None, None), (None, None), (None, None)]),
-    ];
-    for (place, want) in rows {
-        let got = found(alloc, &left, &right, place)?;
-        assert!(rt; got == want, "{place}");
-    }
-    assert!(rt; nested_are_sought(alloc)?);
-    assert!(rt; far_ahead_are_sought(alloc)?);
+    assert!(rt;
+        sets_are_sought(alloc)? && nested_are_sought(alloc)? && far_ahead_are_sought(alloc)?
+    );
     Ok(())
 }

@@ -1,4 +1,6 @@
-use crate::making::entry;
+ghost use Rattle.std.specs.Prelude.{◌≡◌, IfOk, length};
+
+use crate::making::{Row, segment};
 use facet_model::{Drill, Query};
 use facet_names::Path;
 use plan_places::PlanPlaces;
@@ -8,19 +10,15 @@ use seg_postings::Places;
 use std::alloc::Global;
 use std::test::Fail;
 
-// Three books.
-fn books(alloc: Global) -> Result<Segment, Fail> {
-    let mut entries = Vec::new(alloc);
-    entries.push(entry(alloc, "b", "Rust book", &[&["Author", "Bob"]], &[1])?)?;
-    entries.push(entry(alloc, "b", "Go book", &[&["Author", "Lisa"]], &[1])?)?;
-    entries.push(entry(alloc, "b", "rust\tGO", &[&["Year", "2012", "1"]], &[1])?)?;
-    Ok(Segment::build(alloc, &entries)?)
-}
+const BOOKS: &[Row] = &[
+    ("b", "Rust book", &[&["Author", "Bob"]], &[1]),
+    ("b", "Go book", &[&["Author", "Lisa"]], &[1]),
+    ("b", "rust\tGO", &[&["Year", "2012", "1"]], &[1]),
+];
 
-#[test]
-fn drilled_down(rt: HostRuntime) -> Result<(), Fail> {
-    let alloc = rt.alloc();
-    let segment = books(alloc)?;
+fn drill(alloc: Global) -> Result<Drill, Fail>
+    ensures { IfOk result (λ drill. length drill ≡ 3) }
+{
     let paths = vec![in alloc;
         Path::of(alloc, &["Author", "Lisa"])?,
         Path::of(alloc, &["Year"])?,
@@ -29,13 +27,37 @@ fn drilled_down(rt: HostRuntime) -> Result<(), Fail> {
     if paths.len() != 3 {
         return Err("three paths".into());
     }
-    let drill = Drill::new(alloc, paths)?;
-    let mut places = PlanPlaces::new(paths_node(alloc, &segment, &drill, "Author")?);
-    assert!(rt; places.next() == Some(1) && places.next().is_none());
-    let mut plan = Plan::new(alloc, &segment, &Query::All)?;
-    assert!(rt; plan.matches(2) && !plan.matches(3));
-    let year = has_path(alloc, &segment, drill.term(1))?;
-    let zoe = has_path(alloc, &segment, drill.term(2))?;
-    assert!(rt; year && !zoe);
+    Ok(Drill::new(alloc, paths)?)
+}
+
+fn author_is_found(alloc: Global, books: &Segment, drill: &Drill) -> Result<bool, Fail> {
+    let mut places = PlanPlaces::new(paths_node(alloc, books, drill, "Author")?);
+    Ok(places.next() == Some(1) && places.next().is_none())
+}
+
+fn all_are_matched(alloc: Global, books: &Segment) -> Result<bool, Fail> {
+    let mut plan = Plan::new(alloc, books, &Query::All)?;
+    Ok(plan.matches(2) && !plan.matches(3))
+}
+
+fn year_is_there(alloc: Global, books: &Segment, drill: &Drill) -> Result<bool, Fail>
+    requires { length drill.now ≡ 3 }
+{
+    Ok(has_path(alloc, books, drill.term(1))? && !has_path(alloc, books, drill.term(2))?)
+}
+
+fn are_drilled_down(alloc: Global, books: &Segment) -> Result<bool, Fail> {
+    let drill = drill(alloc)?;
+    Ok(author_is_found(alloc, books, &drill)? && year_is_there(alloc, books, &drill)?)
+}
+
+fn are_searched(alloc: Global) -> Result<bool, Fail> {
+    let books = segment(alloc, BOOKS)?;
+    Ok(are_drilled_down(alloc, &books)? && all_are_matched(alloc, &books)?)
+}
+
+#[test]
+fn drilled_down(rt: HostRuntime) -> Result<(), Fail> {
+    assert!(rt; are_searched(rt.alloc())?);
     Ok(())
 }

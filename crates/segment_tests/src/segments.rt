@@ -1,4 +1,6 @@
-use crate::making::entry;
+ghost use Rattle.std.specs.Prelude.{◌<◌};
+
+use crate::making::{Row, segment};
 use seg_file::{Ords, SegFault, Segment};
 use seg_postings::{Places, Postings};
 use std::alloc::{AllocError, AllocFailed, Global};
@@ -47,15 +49,10 @@ fn may_be_shared<T: Send + Sync>(_value: &T) -> bool {
     true
 }
 
-// The segment of the first of these documents, or of both.
-fn built(alloc: Global, both: bool) -> Result<Segment, Fail> {
-    let mut entries = Vec::new(alloc);
-    entries.push(entry(alloc, "b1", "Rust", &[&["Author", "Bob"]], &[2])?)?;
-    if both {
-        entries.push(entry(alloc, "b2", "", &[&["Tag", "b"], &["Tag", "a"]], &[5, 4])?)?;
-    }
-    Ok(Segment::build(alloc, &entries)?)
-}
+const ROWS: &[Row] = &[
+    ("b1", "Rust", &[&["Author", "Bob"]], &[2]),
+    ("b2", "", &[&["Tag", "b"], &["Tag", "a"]], &[5, 4]),
+];
 
 // Whether the segment has a second document, and the places of its terms.
 fn has_second(alloc: Global, segment: &Segment) -> Result<bool, Fail> {
@@ -69,11 +66,15 @@ fn has_second(alloc: Global, segment: &Segment) -> Result<bool, Fail> {
     Ok(leaves.as_slice() == [5, 4].as_slice() && texts && tag && none)
 }
 
-fn are_built(alloc: Global) -> Result<bool, Fail> {
-    let one = built(alloc, false)?;
-    let two = built(alloc, true)?;
+fn first_is_built(alloc: Global) -> Result<bool, Fail> {
+    let one = segment(alloc, &[ROWS[0]])?;
+    Ok(one.bytes() == ONE.as_slice())
+}
+
+fn both_are_built(alloc: Global) -> Result<bool, Fail> {
+    let two = segment(alloc, ROWS)?;
     let again = fault_of(alloc, two.bytes().to_vec(alloc)?).is_none();
-    Ok(one.bytes() == ONE.as_slice() && has_second(alloc, &two)? && again)
+    Ok(has_second(alloc, &two)? && again)
 }
 
 // Whether the segment has the one document.
@@ -87,43 +88,67 @@ fn has_one(alloc: Global, segment: &Segment) -> Result<bool, Fail> {
     Ok(ords && segment.id(0) == "b1" && segment.text(0) == "Rust")
 }
 
-// Whether a record that is left out is no longer live, and the one behind it is the first.
-fn is_thinned(alloc: Global) -> Result<bool, Fail> {
-    let both = built(alloc, true)?;
-    if both.docs() < 2 {
+// Whether the second of two records is the one that is live.
+fn second_is_live(one: &Segment) -> bool {
+    if one.docs() < 2 || one.live() != 1 {
+        return false;
+    }
+    !one.is_live(0) && one.is_live(1) && one.rank(1) == 0 && one.live_at(0) == 1
+}
+
+fn none_is_left(alloc: Global, one: &Segment) -> Result<bool, Fail> {
+    if one.docs() < 2 {
+        return Ok(false);
+    }
+    let none = one.without(alloc, &[1])?;
+    Ok(none.live() == 0)
+}
+
+fn is_without(alloc: Global, both: &Segment) -> Result<bool, Fail> {
+    if both.docs() < 2 || both.live() != 2 {
         return Ok(false);
     }
     let one = both.without(alloc, &[0])?;
-    let none = one.without(alloc, &[1])?;
-    let counts = both.live() == 2 && one.live() == 1 && none.live() == 0;
-    if one.docs() < 2 || one.live() == 0 {
-        return Ok(false);
+    let same = one.bytes() == both.bytes() && one.dead() == [0].as_slice();
+    Ok(same && second_is_live(&one) && none_is_left(alloc, &one)?)
+}
+
+// Whether a record that is left out is no longer live, and the one behind it is the first.
+fn is_thinned(alloc: Global) -> Result<bool, Fail> {
+    let both = segment(alloc, ROWS)?;
+    is_without(alloc, &both)
+}
+
+const TERMS: &[(&str, bool)] = &[
+    ("fAuthor", true),
+    ("fAuthor\u{1f}Bob", true),
+    ("wrust", true),
+    ("", false),
+    ("fAuthor\u{1f}Bo", false),
+    ("rust", false),
+    ("wrust ", false),
+];
+
+fn has_terms(segment: &Segment) -> bool {
+    for (term, there) in TERMS {
+        let want = if *there { Some((1, Some(0))) } else { None };
+        if first_place(segment.postings(*term)) != want {
+            return false;
+        }
     }
-    let second = !one.is_live(0) && one.is_live(1) && one.rank(1) == 0 && one.live_at(0) == 1;
-    Ok(counts && second && one.bytes() == both.bytes() && one.dead() == [0].as_slice())
+    true
+}
+
+fn is_opened(alloc: Global) -> Result<bool, Fail> {
+    let one = Segment::open(alloc, ONE.as_slice().to_vec(alloc)?)?;
+    Ok(may_be_shared(&one) && has_terms(&one) && has_one(alloc, &one)?)
 }
 
 #[test]
 fn built_and_opened_segments(rt: HostRuntime) -> Result<(), Fail> {
     let alloc = rt.alloc();
-    let Ok(segment) = Segment::open(alloc, ONE.as_slice().to_vec(alloc)?) else {
-        return Err("a segment".into());
-    };
-    assert!(rt; may_be_shared(&segment) && has_one(alloc, &segment)? && are_built(alloc)?);
-    assert!(rt; is_thinned(alloc)?);
-    let rows = [
-        ("fAuthor", true),
-        ("fAuthor\u{1f}Bob", true),
-        ("wrust", true),
-        ("", false),
-        ("fAuthor\u{1f}Bo", false),
-        ("rust", false),
-        ("wrust ", false),
-    ];
-    for (term, there) in rows {
-        let want = if there { Some((1, Some(0))) } else { None };
-        assert!(rt; first_place(segment.postings(term)) == want, "{term}");
-    }
+    let built = first_is_built(alloc)? && both_are_built(alloc)?;
+    assert!(rt; built && is_opened(alloc)? && is_thinned(alloc)?);
     Ok(())
 }
 
@@ -138,36 +163,50 @@ const FIRST_TWO: [u8; 36] = [
     7, 0x66, 0x41, 0x75, 0x74, 0x68, 0x6f, 0x72, 0, 0, 0, 1, 0, 0, 0, 0,
 ];
 
+// What stands between two places in the place of what did, and the fault.
+type Spliced = (usize, &'static [u8], usize, SegFault);
+
+const FAULTS: &[Spliced] = &[
+    (0, &[], 84, SegFault::BadMagic),
+    (3, &[0x46], 84, SegFault::BadMagic),
+    (4, &[0, 0, 0], 84, SegFault::Codec { at: 4 }),
+    (7, &[2], 84, SegFault::BadVersion { v: 2 }),
+    (8, &[], 84, SegFault::Codec { at: 8 }),
+    (8, &[0, 0, 0, 0], 12, SegFault::Disorder { at: 8 }),
+    (8, &[0, 15, 66, 65], 12, SegFault::Codec { at: 8 }),
+    (12, &[0], 15, SegFault::Disorder { at: 12 }),
+    (12, &[0x81, 2], 13, SegFault::Codec { at: 12 }),
+    (16, &[0xff], 17, SegFault::Codec { at: 15 }),
+    (20, &[0x81, 0], 21, SegFault::Codec { at: 20 }),
+    (20, &[0x81, 2], 21, SegFault::Codec { at: 20 }),
+    (25, &[0x81, 0x40], 26, SegFault::Codec { at: 25 }),
+    (25, &[2, 0, 0, 0, 2], 26, SegFault::Disorder { at: 30 }),
+    (42, &[0, 0, 0, 0], 46, SegFault::Disorder { at: 42 }),
+    (46, &[0, 0, 0, 1], 50, SegFault::Disorder { at: 46 }),
+    (50, &LAST_TWO, 84, SegFault::Disorder { at: 64 }),
+    (34, &FIRST_TWO, 70, SegFault::Disorder { at: 54 }),
+    (83, &[], 84, SegFault::Codec { at: 80 }),
+    (84, &[0], 84, SegFault::Disorder { at: 84 }),
+];
+
+fn is_first_fault(alloc: Global, row: &Spliced) -> Result<bool, Fail> {
+    let (from, middle, to, fault) = *row;
+    let bytes = spliced(alloc, from, middle, to)?;
+    Ok(fault_of(alloc, bytes) == Some(fault))
+}
+
+fn are_first_faults(alloc: Global) -> Result<bool, Fail> {
+    for row in FAULTS {
+        if !is_first_fault(alloc, row)? {
+            return Ok(false);
+        }
+    }
+    Ok(true)
+}
+
 #[test]
 fn first_faults(rt: HostRuntime) -> Result<(), Fail> {
-    let alloc = rt.alloc();
-    // what stands between two places in the place of what did, and the fault
-    let rows: [(usize, &[u8], usize, SegFault); 20] = [
-        (0, &[], 84, SegFault::BadMagic),
-        (3, &[0x46], 84, SegFault::BadMagic),
-        (4, &[0, 0, 0], 84, SegFault::Codec { at: 4 }),
-        (7, &[2], 84, SegFault::BadVersion { v: 2 }),
-        (8, &[], 84, SegFault::Codec { at: 8 }),
-        (8, &[0, 0, 0, 0], 12, SegFault::Disorder { at: 8 }),
-        (8, &[0, 15, 66, 65], 12, SegFault::Codec { at: 8 }),
-        (12, &[0], 15, SegFault::Disorder { at: 12 }),
-        (12, &[0x81, 2], 13, SegFault::Codec { at: 12 }),
-        (16, &[0xff], 17, SegFault::Codec { at: 15 }),
-        (20, &[0x81, 0], 21, SegFault::Codec { at: 20 }),
-        (20, &[0x81, 2], 21, SegFault::Codec { at: 20 }),
-        (25, &[0x81, 0x40], 26, SegFault::Codec { at: 25 }),
-        (25, &[2, 0, 0, 0, 2], 26, SegFault::Disorder { at: 30 }),
-        (42, &[0, 0, 0, 0], 46, SegFault::Disorder { at: 42 }),
-        (46, &[0, 0, 0, 1], 50, SegFault::Disorder { at: 46 }),
-        (50, &LAST_TWO, 84, SegFault::Disorder { at: 64 }),
-        (34, &FIRST_TWO, 70, SegFault::Disorder { at: 54 }),
-        (83, &[], 84, SegFault::Codec { at: 80 }),
-        (84, &[0], 84, SegFault::Disorder { at: 84 }),
-    ];
-    for (from, middle, to, fault) in rows {
-        let bytes = spliced(alloc, from, middle, to)?;
-        assert!(rt; fault_of(alloc, bytes) == Some(fault), "{from}");
-    }
+    assert!(rt; are_first_faults(rt.alloc())?);
     Ok(())
 }
 
@@ -180,16 +219,35 @@ fn is_consistent(alloc: Global, bytes: Vec<u8>) -> Result<bool, Fail> {
     Ok(segment.bytes() == copy.as_slice() && fault_of(alloc, copy).is_none())
 }
 
-#[test]
-fn cut_and_changed(rt: HostRuntime) -> Result<(), Fail> {
-    let alloc = rt.alloc();
-    for at in 0..84usize {
-        let cut = spliced(alloc, at, &[], 84)?;
-        assert!(rt; fault_of(alloc, cut).is_some(), "{at}");
-        for byte in 0..=255u8 {
-            let changed = spliced(alloc, at, &[byte], at + 1)?;
-            assert!(rt; is_consistent(alloc, changed)?, "{at} {byte}");
+fn is_cut(alloc: Global, at: usize) -> Result<bool, Fail> {
+    let cut = spliced(alloc, at, &[], 84)?;
+    Ok(fault_of(alloc, cut).is_some())
+}
+
+// Whether the bytes with any other at this place are consistent.
+fn is_changed(alloc: Global, at: usize) -> Result<bool, Fail>
+    requires { at < 84 }
+{
+    for byte in 0..=255u8 {
+        let changed = spliced(alloc, at, &[byte], at + 1)?;
+        if !is_consistent(alloc, changed)? {
+            return Ok(false);
         }
     }
+    Ok(true)
+}
+
+fn are_cut_and_changed(alloc: Global) -> Result<bool, Fail> {
+    for at in 0..84usize {
+        if !is_cut(alloc, at)? || !is_changed(alloc, at)? {
+            return Ok(false);
+        }
+    }
+    Ok(true)
+}
+
+#[test]
+fn cut_and_changed(rt: HostRuntime) -> Result<(), Fail> {
+    assert!(rt; are_cut_and_changed(rt.alloc())?);
     Ok(())
 }

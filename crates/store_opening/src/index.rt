@@ -26,6 +26,7 @@ use facet_names::NoMemory;
 use seg_decoding::open_stored;
 use seg_file::Segment;
 use std::alloc::Global;
+use std::hash::RandomState;
 use std::sync::Arc;
 use taxo_list::{Labelled, Taxonomy};
 
@@ -41,6 +42,7 @@ pub(crate) struct IndexRead {
 #[tactic(auto, unfolding(crate::specs::Files::segment_of))]
 fn read_document_part<D: Disk>(
     alloc: Global,
+    keys: RandomState,
     disk: &mut D,
     config: &FacetsConfig,
     labels: &Taxonomy,
@@ -62,7 +64,7 @@ fn read_document_part<D: Disk>(
         number: part.number,
     };
     let bytes = read_segment(alloc, disk, listed, name, part.digest)?;
-    match open_stored(alloc, config, labels, needs, part.documents, bytes) {
+    match open_stored(alloc, keys, config, labels, needs, part.documents, bytes) {
         Ok(segment) => Ok(segment),
         Err(fault) => Err(of_segment(name, fault)),
     }
@@ -80,6 +82,7 @@ fn keep(alloc: Global, segments: &mut Vec<Arc<Segment>>, segment: Segment) -> Re
 // Reads the segments of a commit.
 fn read_document_parts<D: Disk>(
     alloc: Global,
+    keys: RandomState,
     disk: &mut D,
     config: &FacetsConfig,
     labels: &Taxonomy,
@@ -98,7 +101,7 @@ fn read_document_parts<D: Disk>(
 {
     let mut segments = Vec::new(alloc);
     for part in parts {
-        let segment = read_document_part(alloc, disk, config, labels, needs, listed, *part)?;
+        let segment = read_document_part(alloc, keys, disk, config, labels, needs, listed, *part)?;
         keep(alloc, &mut segments, segment)?;
     }
     Ok(segments)
@@ -165,6 +168,7 @@ fn check_commit(
 /// The index: the segments of its newest commit, or none. It reads the commit file and each of its segments once.
 pub(crate) fn read_index<D: Disk>(
     alloc: Global,
+    keys: RandomState,
     disk: &mut D,
     config: &FacetsConfig,
     labels: &Taxonomy,
@@ -191,6 +195,7 @@ pub(crate) fn read_index<D: Disk>(
     check_commit(alloc, config, labels, &commit)?;
     let segments = read_document_parts(
         alloc,
+        keys,
         disk,
         config,
         labels,

@@ -24,6 +24,7 @@ use facet_config::FacetsConfig;
 use facet_disk::{Disk, FileName};
 use seg_file::Segment;
 use std::alloc::Global;
+use std::hash::RandomState;
 use std::sync::Arc;
 use taxo_list::Taxonomy;
 
@@ -42,9 +43,10 @@ pub struct Read {
 /// answered.
 ///
 /// It takes the time and the memory of adding all labels, and for each segment what `open_stored` takes beside its bytes. It keeps
-/// the labels, the segments, and the names of all files.
+/// the labels, the segments, and the names of all files. Labels and terms are hashed with `keys`, on which no answer depends.
 pub fn read_store<D: Disk>(
     alloc: Global,
+    keys: RandomState,
     disk: &mut D,
     config: &FacetsConfig,
 ) -> Result<Read, OpenFault>
@@ -77,8 +79,8 @@ pub fn read_store<D: Disk>(
 {
     let listed = list_all(alloc, disk)?;
     let next = next_number(listed.as_slice())?;
-    let taxonomy = read_taxonomy(alloc, disk, &listed)?;
-    let index = read_index(alloc, disk, config, &taxonomy.labels, &listed)?;
+    let taxonomy = read_taxonomy(alloc, keys, disk, &listed)?;
+    let index = read_index(alloc, keys, disk, config, &taxonomy.labels, &listed)?;
     let newest = Newest {
         next,
         listed: listed.into_vec(),

@@ -19,6 +19,7 @@ use commit_file::{LabelPart, TaxonomyCommit, read_taxonomy_commit};
 use facet_disk::{Dir, Disk, FileName, Kind};
 use label_file::read_labels;
 use std::alloc::Global;
+use std::hash::RandomState;
 use taxo_list::Taxonomy;
 
 /// A taxonomy that was read, and the commit that names its segments.
@@ -64,6 +65,7 @@ fn read_label_part<D: Disk>(
 // Reads so many labels: those of these segments behind the root.
 fn read_label_parts<D: Disk>(
     alloc: Global,
+    keys: RandomState,
     disk: &mut D,
     listed: &Names,
     total: u32,
@@ -79,7 +81,7 @@ fn read_label_parts<D: Disk>(
     ensures read { IsRead D.Disk disk.old disk.new result }
     ensures failed { FailsOnly D.Disk (λ c. AreListed c listed.now) disk.old disk.new result }
 {
-    let mut labels = Taxonomy::new(alloc)?;
+    let mut labels = Taxonomy::new(alloc, keys)?;
     for part in parts {
         read_label_part(alloc, disk, listed, *part, &mut labels)?;
     }
@@ -109,6 +111,7 @@ fn commit_of(alloc: Global, found: &CommitBytes) -> Result<TaxonomyCommit, OpenF
 /// The taxonomy: the labels of its newest commit, or the root alone. It reads the commit file and each of its segments once.
 pub(crate) fn read_taxonomy<D: Disk>(
     alloc: Global,
+    keys: RandomState,
     disk: &mut D,
     listed: &Names,
 ) -> Result<TaxonomyRead, OpenFault>
@@ -128,11 +131,11 @@ pub(crate) fn read_taxonomy<D: Disk>(
         return Ok(TaxonomyRead {
             number: None,
             parts: Vec::new(alloc),
-            labels: Taxonomy::new(alloc)?,
+            labels: Taxonomy::new(alloc, keys)?,
         });
     };
     let commit = commit_of(alloc, &found)?;
-    let labels = read_label_parts(alloc, disk, listed, commit.labels, &commit.parts)?;
+    let labels = read_label_parts(alloc, keys, disk, listed, commit.labels, &commit.parts)?;
     Ok(TaxonomyRead {
         number: Some(found.number),
         parts: commit.parts,

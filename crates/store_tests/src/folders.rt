@@ -2,9 +2,10 @@ use crate::steps::{
     COMMIT, Call, FAILED, HAS_COMMIT, HAS_PENDING, NO_COMMIT, NO_PENDING, OUTER, PENDING, SEGMENT,
     Step, make_all,
 };
-use facet_disk::{Dir, Disk, FileName, Kind, Names, StdDisk};
+use facet_disk::{Dir, Disk, FileName, Kind, Names, NoMemory, StdDisk};
 use std::alloc::Global;
 use std::fs;
+use std::rt::Files;
 use std::test::Fail;
 
 const FOLDER_CALLS: &[Call] = &[
@@ -56,32 +57,43 @@ const TAKEN: &[Call] = &[
     (Step::Remove(OUTER), Ok(0)),
 ];
 
-// Makes these calls of a disk while another has its folder, which has put a file there.
-fn make_held<D: Disk, E: Disk>(
-    alloc: Global,
-    mut first: D,
-    second: &mut E,
-    calls: &[Call],
-) -> Result<usize, Fail> {
+// Whether each of these calls of a disk is answered so, with so many faults counted.
+fn answers_all<D: Disk>(alloc: Global, disk: &mut D, calls: &[Call], faults: u64) -> bool {
+    make_all(alloc, disk, calls) == calls.len() && disk.fault_count() == faults
+}
+
+// Whether each call of a disk is refused while another has its folder, which has put a file there.
+fn is_refused<D: Disk>(alloc: Global, mut first: D, second: &mut D) -> Result<bool, Fail> {
     first.put(OUTER, b"one")?;
-    Ok(make_all(alloc, second, calls))
+    Ok(answers_all(alloc, second, REFUSED, 7))
+}
+
+// Whether it is, and then has the folder once the other is gone.
+fn waits_for<D: Disk>(alloc: Global, first: D, mut second: D) -> Result<bool, Fail> {
+    Ok(is_refused(alloc, first, &mut second)? && make_all(alloc, &mut second, TAKEN) == TAKEN.len())
+}
+
+// Of a disk alone in its folder, and of two in one, where there was memory to make them.
+fn are_folders<D: Disk>(
+    alloc: Global,
+    alone: Result<D, NoMemory>,
+    first: Result<D, NoMemory>,
+    second: Result<D, NoMemory>,
+) -> Result<bool, Fail> {
+    let mut alone = alone?;
+    Ok(answers_all(alloc, &mut alone, FOLDER_CALLS, 8) && waits_for(alloc, first?, second?)?)
 }
 
 #[test]
 fn a_folder(rt: HostRuntime) -> Result<(), Fail> {
     let alloc = rt.alloc();
-    let mut disk = StdDisk::new(alloc, &rt, "store")?;
-    assert_eq!(rt;
-        make_all(alloc, &mut disk, FOLDER_CALLS),
-        FOLDER_CALLS.len()
+    let are_right = are_folders(
+        alloc,
+        StdDisk::new(alloc, &rt, "store"),
+        StdDisk::new(alloc, &rt, "shared"),
+        StdDisk::new(alloc, &rt, "shared"),
     );
-    assert_eq!(rt; disk.fault_count(), 8);
-
-    let first = StdDisk::new(alloc, &rt, "shared")?;
-    let mut second = StdDisk::new(alloc, &rt, "shared")?;
-    assert_eq!(rt; make_held(alloc, first, &mut second, REFUSED)?, 7);
-    assert_eq!(rt; second.fault_count(), 7);
-    assert_eq!(rt; make_all(alloc, &mut second, TAKEN), 7);
+    assert!(rt; are_right?);
     Ok(())
 }
 
@@ -118,21 +130,43 @@ fn sorted_names<D: Disk>(alloc: Global, disk: &mut D) -> Result<Names, Fail> {
     Ok(Names::new(names))
 }
 
-#[test]
-fn entries(rt: HostRuntime) -> Result<(), Fail> {
-    let alloc = rt.alloc();
-    let mut disk = StdDisk::new(alloc, &rt, "store")?;
-    disk.put(OUTER, b"")?;
+// Whether each entry, which becomes a file, is read as it is to be.
+fn are_read<R: Files>(rt: &R, alloc: Global) -> Result<bool, Fail> {
     for (entry, is_name) in ENTRIES {
-        fs::write(&rt, format!(in alloc; "store/index/{entry}")?, "x")?;
-        assert!(rt; is_read(alloc, *entry, *is_name)?, "{entry}");
+        fs::write(rt, format!(in alloc; "store/index/{entry}")?, "x")?;
+        if !is_read(alloc, *entry, *is_name)? {
+            return Ok(false);
+        }
     }
-    let names = sorted_names(alloc, &mut disk)?;
+    Ok(true)
+}
+
+// Whether the disk lists the names, and no other entry.
+fn are_listed<D: Disk>(alloc: Global, disk: &mut D) -> Result<bool, Fail> {
+    let names = sorted_names(alloc, disk)?;
     let first = FileName {
         dir: Dir::Index,
         kind: Kind::Segment,
         number: 0,
     };
-    assert!(rt; names.as_slice().len() == 4 && names.as_slice().first() == Some(&first));
+    Ok(names.as_slice().len() == 4 && names.as_slice().first() == Some(&first))
+}
+
+// Of entries beside a file that the disk puts, where there was memory to make it.
+fn are_told_apart<R: Files, D: Disk>(
+    rt: &R,
+    alloc: Global,
+    disk: Result<D, NoMemory>,
+) -> Result<bool, Fail> {
+    let mut disk = disk?;
+    disk.put(OUTER, b"")?;
+    Ok(are_read(rt, alloc)? && are_listed(alloc, &mut disk)?)
+}
+
+#[test]
+fn entries(rt: HostRuntime) -> Result<(), Fail> {
+    let alloc = rt.alloc();
+    let are_right = are_told_apart(&rt, alloc, StdDisk::new(alloc, &rt, "store"));
+    assert!(rt; are_right?);
     Ok(())
 }

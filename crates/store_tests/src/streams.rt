@@ -157,33 +157,75 @@ fn is_read(alloc: Global, reading: &Reading) -> Result<bool, Fail> {
     Ok(answers(alloc, &mut source, limit, want))
 }
 
+// Whether each reading gives its answer.
+fn each_is_read(alloc: Global) -> Result<bool, Fail> {
+    for reading in READINGS {
+        if !is_read(alloc, reading)? {
+            return Ok(false);
+        }
+    }
+    Ok(true)
+}
+
+fn slice_is_read(alloc: Global) -> bool {
+    let mut outside = StdSource::new(TEXT);
+    answers(alloc, &mut outside, 17, Ok(17))
+}
+
+fn broken_fails(alloc: Global) -> bool {
+    let mut broken = StdSource::new(Broken { bytes: TEXT });
+    answers(alloc, &mut broken, 17, Err(ReadFault::Failed))
+}
+
+fn interrupted_is_read(alloc: Global) -> bool {
+    let mut interrupted = StdSource::new(Interrupted::new());
+    answers(alloc, &mut interrupted, 17, Ok(17))
+}
+
+// Whether the second write alone fails, and leaves what was written before it.
+fn second_write_fails(alloc: Global) -> Result<bool, Fail> {
+    let mut sink = MemorySink::new(alloc, Vec::from_slice(alloc, &[2u64])?);
+    let first = write_all(&mut sink, TEXT);
+    let second = write_all(&mut sink, TEXT);
+    let third = write_all(&mut sink, b"!");
+    Ok(
+        first == Ok(())
+            && second == Err(Failed)
+            && third == Ok(())
+            && sink.bytes() == b"facets and labels!".as_slice(),
+    )
+}
+
+fn vec_is_written(alloc: Global) -> bool {
+    let mut outside = StdSink::new(Vec::new(alloc));
+    write_all(&mut outside, TEXT) == Ok(())
+}
+
+// Whether a sink of five bytes takes two of them, and then not all of the text.
+fn small_fails() -> bool {
+    let mut small = StdSink::new(Small { room: 5 });
+    small.write(TEXT) == Ok(2) && write_all(&mut small, TEXT) == Err(Failed)
+}
+
+fn interrupted_is_written() -> bool {
+    let mut interrupted = StdSink::new(Interrupted::new());
+    write_all(&mut interrupted, TEXT) == Ok(())
+}
+
 #[test]
 fn sources_and_sinks(rt: HostRuntime) -> Result<(), Fail> {
     let alloc = rt.alloc();
-    for reading in READINGS {
-        assert!(rt; is_read(alloc, reading)?, "{reading:?}");
-    }
-    let mut outside = StdSource::new(TEXT);
-    assert!(rt; answers(alloc, &mut outside, 17, Ok(17)));
-    let mut broken = StdSource::new(Broken { bytes: TEXT });
-    assert!(rt; answers(alloc, &mut broken, 17, Err(ReadFault::Failed)));
-    let mut interrupted = StdSource::new(Interrupted::new());
-    assert!(rt; answers(alloc, &mut interrupted, 17, Ok(17)));
-    assert!(rt; reads_on());
-
-    let mut sink = MemorySink::new(alloc, Vec::from_slice(alloc, &[2u64])?);
-    assert!(rt; write_all(&mut sink, TEXT) == Ok(()));
-    assert!(rt; write_all(&mut sink, TEXT) == Err(Failed));
-    assert!(rt; write_all(&mut sink, b"!") == Ok(()));
-    assert!(rt; sink.bytes() == b"facets and labels!".as_slice());
-
-    let mut outside = StdSink::new(Vec::new(alloc));
-    assert!(rt; write_all(&mut outside, TEXT) == Ok(()));
-    let mut small = StdSink::new(Small { room: 5 });
-    assert!(rt; small.write(TEXT) == Ok(2));
-    assert!(rt; write_all(&mut small, TEXT) == Err(Failed));
-    let mut interrupted = StdSink::new(Interrupted::new());
-    assert!(rt; write_all(&mut interrupted, TEXT) == Ok(()));
-    assert!(rt; writes_on());
+    assert!(rt;
+        each_is_read(alloc)?
+            && slice_is_read(alloc)
+            && broken_fails(alloc)
+            && interrupted_is_read(alloc)
+            && reads_on()
+            && second_write_fails(alloc)?
+            && vec_is_written(alloc)
+            && small_fails()
+            && interrupted_is_written()
+            && writes_on()
+    );
     Ok(())
 }

@@ -14,7 +14,8 @@ use std::sync::{Mutex, Wait};
 /// Memos of paths, each behind a lock of its own. A token's number tells its memo, so sessions seldom wait for one another, and what a session uses stays
 /// with its processor. A path's entry has the ordinals of all its prefixes. Contracts see how many memos there are.
 ///
-/// A call locks one memo for as long as it takes to find or to keep one path, and takes no turn of the chronicle.
+/// A call locks one memo for as long as it takes to find or to keep one path, and takes no turn of the chronicle. The hash has a fixed seed, so paths can be
+/// picked that collide: a look-up then compares at worst all paths of a memo, of which there are few.
 #[derive(Drop)]
 pub struct Memos<N: Name> {
     memos: Vec<Mutex<Memo<N>>>,

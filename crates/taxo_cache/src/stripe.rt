@@ -16,6 +16,7 @@ use chronicle::{Chronicle, Standing, Token};
 use facet_names::{NoMemory, Path};
 use lru::LruCache;
 use std::alloc::Global;
+use std::hash::RandomState;
 use std::marker::{Model, PhantomData};
 use std::num::NonZeroUsize;
 
@@ -25,7 +26,7 @@ use std::num::NonZeroUsize;
 #[derive(Drop)]
 pub struct Stripe<N: Name> {
     alloc: Global,
-    cache: LruCache<Path, u32>,
+    cache: LruCache<Path, u32, RandomState>,
     note: Token<Path>,
     of: PhantomData<N>,
 }
@@ -44,6 +45,7 @@ impl<N: Name> Stripe<N> {
     // A stripe with room for so many entries, and none. It takes memory with each of them.
     pub(crate) fn new<V: Standing<Entry = Path>>(
         alloc: Global,
+        keys: RandomState,
         labels: &Chronicle<V>,
         token: &mut Token<Path>,
         room: u32,
@@ -54,7 +56,9 @@ impl<N: Name> Stripe<N> {
         ensures token { token.new ≡ token.old }
         ensures empty { IfOk result (λ s. s ≡ record { entries = []; room = room; seen = token.old.seen }) }
     {
-        let cache = LruCache::sparse(alloc, NonZeroUsize::new(room as usize).unwrap())?;
+        // Room for one entry is reserved, and for none that may come.
+        let mut cache = LruCache::with_hasher(alloc, NonZeroUsize::MIN, keys)?;
+        cache.resize(NonZeroUsize::new(room as usize).unwrap());
         Ok(Stripe {
             alloc,
             cache,

@@ -10,15 +10,16 @@ use crate::stripe::Stripe;
 use chronicle::{Chronicle, Standing, Token};
 use facet_names::{NoMemory, Path};
 use std::alloc::Global;
-use std::hash::{BuildHasher, BuildHasherDefault, FoldHasher};
+use std::hash::{BuildHasher, RandomState};
 use std::marker::Model;
 use std::sync::{Mutex, Wait};
 
-/// The ordinals of labels, by stripes, each behind a lock of its own. A path's hash tells its stripe. Contracts see how many stripes there are.
+/// The ordinals of labels, by stripes, each behind a lock of its own. A path's hash, which whoever picks the paths cannot foresee, tells its stripe. Contracts see how many stripes there are.
 ///
 /// A call locks one stripe for as long as it takes to find or to keep one path, and takes no turn of the chronicle.
 #[derive(Drop)]
 pub struct Stripes<N: Name> {
+    keys: RandomState,
     stripes: Vec<Mutex<Stripe<N>>>,
 }
 
@@ -37,6 +38,7 @@ impl<N: Name> Stripes<N> {
     /// So many stripes, each with room for `cache` entries, and with none. They take memory for an entry as it is kept, and none for one that may come.
     pub fn new<V: Standing<Entry = Path>>(
         alloc: Global,
+        keys: RandomState,
         labels: &Chronicle<V>,
         token: &mut Token<Path>,
         stripes: u32,
@@ -50,15 +52,15 @@ impl<N: Name> Stripes<N> {
     {
         let mut all = Vec::new(alloc);
         for _ in 0..stripes {
-            let stripe = Stripe::new(alloc, labels, token, cache)?;
+            let stripe = Stripe::new(alloc, keys, labels, token, cache)?;
             all.push(Mutex::new(stripe))?;
         }
-        Ok(Stripes { stripes: all })
+        Ok(Stripes { keys, stripes: all })
     }
 
     // A path's stripe, by the upper half of its hash, since the map inside a stripe goes by the lower bits.
     fn stripe_of(&self, path: &Path) -> &Mutex<Stripe<N>> {
-        let hash = BuildHasherDefault::<FoldHasher>::new().hash_one(path);
+        let hash = self.keys.hash_one(path);
         let at = (hash >> 32) as usize % self.stripes.len();
         &self.stripes[at]
     }

@@ -5,9 +5,10 @@ ghost use Rattle.facet_names.specs.Labels.{IsLabelList, place, stands};
 use facet_names::{NoMemory, Path};
 use indexmap::IndexSet;
 use std::alloc::Global;
+use std::hash::RandomState;
 
 /// The ordinal of a path.
-pub fn ordinal_in(labels: &IndexSet<Path>, path: &Path) -> Option<u32>
+pub fn ordinal_in(labels: &IndexSet<Path, RandomState>, path: &Path) -> Option<u32>
     requires { length labels.now.keys < 1000000 }
     ensures ordinal { result ≡ place ([] ∷ labels.now.keys) path.now }
     ensures there { is_some result ≡ stands ([] ∷ labels.now.keys) path.now }
@@ -20,12 +21,15 @@ pub fn ordinal_in(labels: &IndexSet<Path>, path: &Path) -> Option<u32>
     }
 }
 
-/// The same labels with memory of their own.
-pub fn copied(alloc: Global, labels: &IndexSet<Path>) -> Result<IndexSet<Path>, NoMemory>
+/// The same labels with memory of their own, hashed with the same keys.
+pub fn copied(
+    alloc: Global,
+    labels: &IndexSet<Path, RandomState>,
+) -> Result<IndexSet<Path, RandomState>, NoMemory>
     requires { IsLabelList ([] ∷ labels.now.keys) }
     ensures { IfOk result (λ copy. copy.keys ≡ labels.now.keys) }
 {
-    let mut copy = IndexSet::with_capacity(alloc, labels.len())?;
+    let mut copy = IndexSet::with_capacity_and_hasher(alloc, labels.len(), *labels.hasher())?;
     for label in labels.as_slice() {
         copy.insert(label.dup(alloc)?)?;
     }

@@ -8,6 +8,7 @@ use crate::view::TaxoView;
 use facet_names::{NoMemory, Path};
 use indexmap::IndexSet;
 use std::alloc::Global;
+use std::hash::RandomState;
 use std::marker::Model;
 
 /// The list of labels, as Lucene's `DirectoryTaxonomyWriter` keeps it. A label's ordinal is its place in the list. The root has ordinal 0,
@@ -16,7 +17,7 @@ use std::marker::Model;
 pub struct Taxonomy {
     alloc: Global,
     // Without the root, so that an ordinal is one more than a label's index.
-    labels: IndexSet<Path>,
+    labels: IndexSet<Path, RandomState>,
     // With the root.
     parents: Vec<i32>,
 }
@@ -43,13 +44,13 @@ impl Labelled for Taxonomy {
 impl Taxonomy {
     ghost use Rattle.taxo_list.specs.declared.fault.TaxoFault.TheVariants.{LabelsFull, NoMemory as Memory};
 
-    /// The list of the root alone.
-    pub fn new(alloc: Global) -> Result<Taxonomy, NoMemory>
+    /// The list of the root alone. Its look-ups hash labels with `keys`, on which no answer depends.
+    pub fn new(alloc: Global, keys: RandomState) -> Result<Taxonomy, NoMemory>
         ensures { IfOk result (λ t. t ≡ [] ∷ []) }
     {
         let mut parents = Vec::new(alloc);
         parents.push(-1)?;
-        let labels = IndexSet::new(alloc);
+        let labels = IndexSet::with_hasher(alloc, keys);
         Ok(Taxonomy {
             alloc,
             labels,

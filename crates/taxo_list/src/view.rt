@@ -10,6 +10,7 @@ use crate::stored::{copied, ordinal_in};
 use facet_names::{NoMemory, Path};
 use indexmap::IndexSet;
 use std::alloc::Global;
+use std::hash::RandomState;
 use std::marker::Model;
 
 /// The list of labels as it stood when the view was made, as Lucene's `TaxonomyReader`. It owns a copy of the labels, their arrays,
@@ -18,7 +19,7 @@ use std::marker::Model;
 /// It never changes, so threads may share it. No call of it takes memory.
 #[derive(Drop)]
 pub struct TaxoView {
-    labels: IndexSet<Path>,
+    labels: IndexSet<Path, RandomState>,
     arrays: Arrays,
     dims: Dims,
 }
@@ -46,7 +47,7 @@ impl TaxoView {
     // The view of these labels, whose parents these are.
     pub(crate) fn of(
         alloc: Global,
-        labels: &IndexSet<Path>,
+        labels: &IndexSet<Path, RandomState>,
         parents: &[i32],
     ) -> Result<TaxoView, NoMemory>
         requires list { IsLabelList ([] ∷ labels.now.keys) }

@@ -16,6 +16,7 @@ use chronicle::{Chronicle, Token};
 use facet_model::Resolved;
 use facet_names::{NoMemory, Path};
 use std::alloc::Global;
+use std::hash::RandomState;
 use std::marker::Model;
 use std::sync::{Arc, Wait};
 use taxo_adding::{LabelList, add_behind_each, add_each};
@@ -69,6 +70,7 @@ impl<N: Name> TaxoWriter<N> {
     /// limit counts the root too. Where there are more labels than that, they stay, and there is room for none.
     pub fn open(
         alloc: Global,
+        keys: RandomState,
         labels: Chronicle<LabelList>,
         first: &mut Token<Path>,
         stripes: u32,
@@ -84,7 +86,7 @@ impl<N: Name> TaxoWriter<N> {
         ensures writer { IfOk result (λ w. w ≡ record { labels = labels; limit = limit }) }
     {
         let memos = Memos::new(alloc, &labels, first, stripes, cache.min(LATELY))?;
-        let cache = Stripes::new(alloc, &labels, first, stripes, cache)?;
+        let cache = Stripes::new(alloc, keys, &labels, first, stripes, cache)?;
         Ok(TaxoWriter {
             alloc,
             labels,

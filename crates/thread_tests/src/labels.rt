@@ -46,12 +46,16 @@ fn ordinals_of<N: Name, R: Wait>(
 ) -> Option<(u32, u32, u32)>
     requires { opened.labels ≡ N.labels }
 {
-    let Opened { labels, mut first } = opened;
+    let Opened {
+        keys,
+        labels,
+        mut first,
+    } = opened;
     let (stripes, cache) = room;
     if stripes == 0 || cache == 0 {
         return None;
     }
-    let writer = TaxoWriter::<N>::open(alloc, labels, &mut first, stripes, cache, 1_000_000).ok()?;
+    let writer = TaxoWriter::<N>::open(alloc, keys, labels, &mut first, stripes, cache, 1_000_000).ok()?;
     let before = ordinal_of(rt, &writer, &mut first, one)?;
     let beside = ordinal_of(rt, &writer, &mut first, two)?;
     let after = ordinal_of(rt, &writer, &mut first, one)?;
@@ -112,8 +116,12 @@ fn known_beside<N: Name + Send + Sync, R: Threads + Wait + Clock + Sync>(
 ) -> Option<u32>
     requires { opened.labels ≡ N.labels }
 {
-    let Opened { labels, mut first } = opened;
-    let writer = TaxoWriter::<N>::open(alloc, labels, &mut first, 16, 4096, 1_000_000).ok()?;
+    let Opened {
+        keys,
+        labels,
+        mut first,
+    } = opened;
+    let writer = TaxoWriter::<N>::open(alloc, keys, labels, &mut first, 16, 4096, 1_000_000).ok()?;
     let second = writer.token(&mut first);
     ordinal_of(rt, &writer, &mut first, paths)?;
     let answered = AtomicBool::new(false);
@@ -143,11 +151,16 @@ fn while_held<R: Threads + Wait + Clock + Sync>(rt: &R, alloc: Global) -> Option
     known_beside::<Brand, R>(rt, alloc, opened, &paths)
 }
 
+// Whether a label keeps its ordinal, with much room in the cache and with little, and needs no turn once it is known.
+fn keeps_its_ordinal<R: Threads + Wait + Clock + Sync>(rt: &R, alloc: Global) -> bool {
+    let much = in_room_for(rt, alloc, (16, 4096));
+    let little = in_room_for(rt, alloc, (1, 1));
+    let held = while_held(rt, alloc);
+    much == Some((2, 4, 2)) && little == Some((2, 4, 2)) && held == Some(2)
+}
+
 #[test]
 fn a_known_label_keeps_its_ordinal_and_needs_no_turn(rt: HostRuntime) -> Result<(), Fail> {
-    for room in [(16, 4096), (1, 1)] {
-        assert!(rt; in_room_for(&rt, rt.alloc(), room) == Some((2, 4, 2)));
-    }
-    assert!(rt; while_held(&rt, rt.alloc()) == Some(2));
+    assert!(rt; keeps_its_ordinal(&rt, rt.alloc()));
     Ok(())
 }

@@ -4,7 +4,6 @@ ghost use Rattle.chronicle.specs.Shown.{mine, MayTake};
 
 use chronicle::{Chronicle, Standing, Token};
 use std::alloc::{AllocError, Global};
-use std::process::Abort;
 use std::sync::Wait;
 use std::test::Fail;
 use std::thread::{Threads, join};
@@ -78,44 +77,74 @@ fn numbers_from(alloc: Global, start: u64) -> Result<Vec<u64>, AllocError>
     Ok(numbers)
 }
 
-fn two_threads<R: Threads + Wait + Abort + Sync>(rt: &R, alloc: Global) -> Result<(), Fail> {
-    let Ok((log, mut first)) = Chronicle::open(
-        alloc,
-        Log {
-            items: Vec::new(alloc),
-        },
-    ) else {
+// Each list in a thread of its own, by one of two tokens, which the first one then meets.
+fn enter_both<R: Threads + Wait + Sync>(
+    rt: &R,
+    log: &Chronicle<Log>,
+    first: &mut Token<u64>,
+    tokens: (Token<u64>, Token<u64>),
+    low: &[u64],
+    high: &[u64],
+) -> Result<(), AllocError>
+    requires first { (first.old.identity ≡ log.now) × MayTake first.old }
+    requires one { (tokens.0.identity ≡ log.now) × MayTake tokens.0 × (mine tokens.0 ≡ []) }
+    requires two { (tokens.1.identity ≡ log.now) × MayTake tokens.1 × (mine tokens.1 ≡ []) }
+    ensures first { (first.new.identity ≡ log.now) × MayTake first.new }
+{
+    let (one, two) = tokens;
+    let (one, two) = join(
+        rt,
+        || -> Result<Token<u64>, AllocError>
+            requires { (one.identity ≡ log.now) × MayTake one × (mine one ≡ []) }
+            ensures { IfOk result (λ t. (t.identity ≡ log.entry.now) × MayTake t × (entries (mine t) ≡ low.entry.now)) }
+        { enter_all(rt, log, one, low) },
+        || -> Result<Token<u64>, AllocError>
+            requires { (two.identity ≡ log.now) × MayTake two × (mine two ≡ []) }
+            ensures { IfOk result (λ t. (t.identity ≡ log.entry.now) × MayTake t × (entries (mine t) ≡ high.entry.now)) }
+        { enter_all(rt, log, two, high) },
+    );
+    log.meet(first, one?);
+    log.meet(first, two?);
+    Ok(())
+}
+
+// Whether these are the numbers of both lists, those of each list in order.
+fn has_both(items: &[u64], low: &[u64], high: &[u64]) -> bool {
+    let mut lows = items.iter().filter(|&&n| n < 1000);
+    let mut highs = items.iter().filter(|&&n| n >= 1000);
+    items.len() == 200
+        && low.iter().all(|n| lows.next() == Some(n))
+        && high.iter().all(|n| highs.next() == Some(n))
+}
+
+// Whether a log has what two threads entered, and its tokens are numbered in order.
+fn two_threads<R: Threads + Wait + Sync>(
+    rt: &R,
+    alloc: Global,
+    low: &[u64],
+    high: &[u64],
+) -> Result<bool, Fail> {
+    let items = Vec::new(alloc);
+    let Ok((log, mut first)) = Chronicle::open(alloc, Log { items }) else {
         return Err("open".into());
     };
     let one = log.token(&mut first);
     let two = log.token(&mut first);
-    assert!(rt; first.number() == 0 && one.number() == 1 && two.number() == 2);
-    let low = numbers_from(alloc, 0)?;
-    let high = numbers_from(alloc, 1000)?;
-    let (one, two) = join(
-        rt,
-        || -> Result<Token<u64>, AllocError>
-            requires { (one.identity ≡ log) × MayTake one × (mine one ≡ []) }
-            ensures { IfOk result (λ t. (t.identity ≡ log) × MayTake t × (entries (mine t) ≡ low.items)) }
-        { enter_all(rt, &log, one, &low) },
-        || -> Result<Token<u64>, AllocError>
-            requires { (two.identity ≡ log) × MayTake two × (mine two ≡ []) }
-            ensures { IfOk result (λ t. (t.identity ≡ log) × MayTake t × (entries (mine t) ≡ high.items)) }
-        { enter_all(rt, &log, two, &high) },
-    );
-    log.meet(&mut first, one?);
-    log.meet(&mut first, two?);
+    let are_numbered = first.number() == 0 && one.number() == 1 && two.number() == 2;
+    enter_both(rt, &log, &mut first, (one, two), low, high)?;
     let value = log.end(rt, &mut first);
     let _note = log.note(&mut first);
-    assert!(rt; value.items.len() == 200);
-    let mut lows = value.items.iter().filter(|&&n| n < 1000);
-    assert!(rt; low.iter().all(|n| lows.next() == Some(n)));
-    let mut highs = value.items.iter().filter(|&&n| n >= 1000);
-    assert!(rt; high.iter().all(|n| highs.next() == Some(n)));
-    Ok(())
+    Ok(are_numbered && has_both(&value.items, low, high))
+}
+
+fn enter_a_hundred_each<R: Threads + Wait + Sync>(rt: &R, alloc: Global) -> Result<bool, Fail> {
+    let low = numbers_from(alloc, 0)?;
+    let high = numbers_from(alloc, 1000)?;
+    two_threads(rt, alloc, &low, &high)
 }
 
 #[test]
 fn two_threads_enter_a_hundred_each(rt: HostRuntime) -> Result<(), Fail> {
-    two_threads(&rt, rt.alloc())
+    assert!(rt; enter_a_hundred_each(&rt, rt.alloc())?);
+    Ok(())
 }

@@ -1,0 +1,46 @@
+use crate::holding::HoldsOne;
+use crate::setup::{Setup, empty_disk};
+use facet_disk::MemoryDisk;
+use facet_io::{MemorySink, MemorySource};
+use facet_shell::{Status, run};
+use std::alloc::{AllocGlobal, Global};
+use std::mem;
+use std::sync::Wait;
+use std::thread::Threads;
+
+/// How a run ended.
+#[derive(Drop)]
+pub struct Ran {
+    pub status: Status,
+    pub sink: MemorySink,
+    /// Whether the held session went on though no other was answered.
+    pub gave_up: bool,
+}
+
+// The script and its failing reads, which the next run starts without.
+fn take_source(alloc: Global, setup: &mut Setup) -> MemorySource {
+    let script = mem::replace(&mut setup.script, Vec::new(alloc));
+    let reads = mem::replace(&mut setup.reads, Vec::new(alloc));
+    MemorySource::new(script, setup.piece.max(1), reads)
+}
+
+fn take_sink(alloc: Global, setup: &mut Setup) -> MemorySink {
+    let writes = mem::replace(&mut setup.writes, Vec::new(alloc));
+    MemorySink::new(alloc, writes)
+}
+
+/// Runs the script over the disk, and leaves there what the run left.
+pub fn run_script<R: AllocGlobal + Threads + Wait + Sync>(rt: &R, setup: &mut Setup) -> Ran {
+    let alloc = rt.alloc();
+    let mut source = take_source(alloc, setup);
+    let mut sink = take_sink(alloc, setup);
+    let disk: MemoryDisk = mem::replace(&mut setup.disk, empty_disk(alloc));
+    let gate = HoldsOne::new(setup.held);
+    let ended = run(rt, setup.keys, &setup.words, &mut source, &mut sink, disk, &gate);
+    setup.disk = ended.disk;
+    Ran {
+        status: ended.status,
+        sink,
+        gave_up: gate.gave_up(),
+    }
+}

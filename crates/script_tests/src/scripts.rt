@@ -1,0 +1,107 @@
+use crate::lines::are_written;
+use facet_model::Query;
+use facet_words::Settings;
+use facet_words::sessions::{Command, Order, Script, read_script};
+use std::alloc::Global;
+use std::test::Fail;
+
+// What is read of a script that sets all that may be set.
+const SHOP: &[u8] =
+    b"{\"cmd\":\"config\",\"max_docs\":7,\"max_labels\":8,\"stripes\":9,\"cache\":10,\"dims\":[{\"dim\":\"Tag\",\"multi_valued\":true}]}\n{\"s\":1,\"cmd\":\"search\",\"query\":{\"bool\":{\"must_not\":[{\"term\":\"a\"}]}},\"drill\":[[\"Tag\"]],\"sideways\":true,\"ask\":[{\"all\":3},{\"specific\":[\"Tag\",\"x\"]}]}\n{\"s\":1,\"cmd\":\"search\"}\n{\"cmd\":\"phase\"}\n{\"s\":1,\"cmd\":\"document\",\"at\":7}\n{\"s\":1,\"cmd\":\"stats\"}\n{\"s\":1,\"cmd\":\"commit\"}";
+
+// How many queries each list of a boolean query has.
+fn lists(query: &Query) -> Option<(usize, usize, usize)> {
+    match query {
+        Query::Bool {
+            must,
+            should,
+            must_not,
+        } => Some((must.len(), should.len(), must_not.len())),
+        _ => None,
+    }
+}
+
+// What a command is, in short.
+type Summary = (Option<(usize, usize, usize)>, usize, bool, usize, u32);
+
+fn summary(command: &Command) -> Summary {
+    match command {
+        Command::Search { on: _, line } => (
+            lists(&line.query),
+            line.drill.paths().len(),
+            line.sideways,
+            line.asks.len(),
+            line.hits,
+        ),
+        Command::Document { on: _, at } => (None, 0, false, 0, *at),
+        Command::Stats { on: _ } => (None, 1, false, 0, 0),
+        Command::Commit => (None, 2, false, 0, 0),
+        _ => (None, 0, false, 0, 0),
+    }
+}
+
+// The limits, the stripes and the places of the cache.
+fn numbers(settings: &Settings) -> (u32, u32, u32, u32) {
+    let Settings {
+        max_docs,
+        max_labels,
+        stripes,
+        cache,
+        ..
+    } = settings;
+    (*max_docs, *max_labels, *stripes, *cache)
+}
+
+// Whether the one phase has no order.
+fn has_no_order(script: &Script) -> bool {
+    script.phases.len() == 1 && script.phases[0].is_empty()
+}
+
+// Whether these are the settings of a script without a key, which has no order.
+fn has_defaults(alloc: Global) -> Result<bool, Fail> {
+    let script = read_script(alloc, b"{\"cmd\":\"config\"}\n")?;
+    Ok(has_no_order(&script) && numbers(&script.settings) == (1_000_000, 1_000_000, 16, 4_096))
+}
+
+fn has_settings(script: &Script) -> bool {
+    let tag = script.settings.config.flags("Tag");
+    let flags = tag.multi_valued && !tag.hierarchical && !tag.require_dim_count;
+    flags && numbers(&script.settings) == (7, 8, 9, 10)
+}
+
+// The orders of the two phases.
+const SUMMARIES: &[&[Summary]] = &[
+    &[(Some((0, 0, 1)), 1, true, 2, 10), (None, 0, false, 0, 10)],
+    &[
+        (None, 0, false, 0, 7),
+        (None, 1, false, 0, 0),
+        (None, 2, false, 0, 0),
+    ],
+];
+
+// Whether the orders of a phase are of session 1, and so in short.
+fn are_as_told(orders: &[Order], expected: &[Summary]) -> bool {
+    let same = |(order, expected): (&Order, &Summary)| -> bool {
+        order.session == 1 && summary(&order.command) == *expected
+    };
+    orders.len() == expected.len() && orders.iter().zip(expected).all(same)
+}
+
+// Whether the orders of all phases are as told.
+fn has_orders(script: &Script) -> bool {
+    let same = |(orders, expected): (&Vec<Order>, &&[Summary])| -> bool { are_as_told(orders, *expected) };
+    script.phases.len() == SUMMARIES.len() && script.phases.iter().zip(SUMMARIES).all(same)
+}
+
+// Whether the script is read as it should be.
+fn is_read(alloc: Global) -> Result<bool, Fail> {
+    let script = read_script(alloc, SHOP)?;
+    Ok(has_settings(&script) && has_orders(&script))
+}
+
+#[test]
+fn what_is_read_and_what_is_written(rt: HostRuntime) -> Result<(), Fail> {
+    let alloc = rt.alloc();
+    assert!(rt; are_written(alloc)? && is_read(alloc)? && has_defaults(alloc)?);
+    Ok(())
+}
