@@ -13,15 +13,15 @@ use Rattle.commit_calls.specs.Plans.{Leads}
 use Rattle.store_opening.specs.Newest.{AreListed}
 use Rattle.store_opening.specs.Settled.{IsSettled}
 use Rattle.store_opening.proofs.Held.{stands_settled}
-use Rattle.commit_store.specs.Committed.{Committed}
+use Rattle.commit_plan.specs.Committed.{Committed}
 use Rattle.commit_store.specs.Committers.{CommitterView}
 use Rattle.commit_store.specs.Committing.{HasOneOfThree}
-use Rattle.commit_store.specs.Plannings.{IsPlanOf, IsCommittedAt, AreLed, LeadsOn}
+use Rattle.commit_plan.specs.Plannings.{IsPlanOf, IsCommittedAt, AreLed, LeadsOn}
 use Rattle.commit_store.specs.Promised.{AreAmong, HasNamed}
-use Rattle.commit_store.specs.Results.{committed_told, IsCutShort}
-use Rattle.commit_store.proofs.Cleaning.{carried_is, cut_short_is, left_named}
+use Rattle.commit_plan.specs.Results.{committed_told, IsCutShort}
+use Rattle.commit_plan.proofs.Cleaning.{carried_is, cut_short_is, left_named}
 use Rattle.commit_store.proofs.Listed.{are_listed}
-use Rattle.commit_store.proofs.Remaining.{named_stays}
+use Rattle.commit_plan.proofs.Remaining.{named_stays}
 use Rattle.commit_store.proofs.Promises.{leaves_weaker, led, one_of_three}
 use Rattle.std.proofs.lemmas.Option.{same_Some}
 use Rattle.facet_names.proofs.LabelLists.{Labels}

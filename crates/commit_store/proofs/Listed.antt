@@ -14,15 +14,15 @@ use Rattle.commit_calls.specs.Held.{Held, Holds, file, newest, newest_file}
 use Rattle.store_opening.specs.Files.{Segments, segments_in}
 use Rattle.store_opening.specs.Newest.{AreListed}
 use Rattle.store_opening.specs.Settled.{before, named, there, held_in}
-use Rattle.commit_store.specs.Committed.{Committed}
-use Rattle.commit_store.specs.Drafts.{commit_names, committed_after}
-use Rattle.commit_store.specs.Plannings.{IsKnown}
+use Rattle.commit_plan.specs.Committed.{Committed}
+use Rattle.commit_plan.specs.Drafts.{commit_names, committed_after}
+use Rattle.commit_plan.specs.Plannings.{IsKnown}
 use Rattle.commit_store.specs.Promised.{HasNamed}
-use Rattle.commit_store.specs.Results.{committed_told}
-use Rattle.commit_store.proofs.Cleaning.{named_after, left_named}
-use Rattle.commit_store.proofs.InOrder.{in_order_only, in_order_once}
-use Rattle.commit_store.proofs.Keeping.{all_mapped, document_numbers}
-use Rattle.commit_store.proofs.Remaining.{named_stays}
+use Rattle.commit_plan.specs.Results.{committed_told}
+use Rattle.commit_plan.proofs.Cleaning.{named_after, left_named}
+use Rattle.commit_plan.proofs.InOrder.{in_order_only, in_order_once}
+use Rattle.commit_plan.proofs.Keeping.{all_mapped, document_numbers}
+use Rattle.commit_plan.proofs.Remaining.{named_stays}
 use Rattle.std.proofs.lemmas.Option.{same_Some}
 use Rattle.facet_names.proofs.LabelLists.{Labels}
 

@@ -9,10 +9,10 @@ use Rattle.facet_names.specs.Labels.{GoesOn}
 use Rattle.commit_calls.specs.declared.plan.Plan.{Plan}
 use Rattle.commit_calls.specs.Moments.{LeavesOnly, IsOneOfThree}
 use Rattle.store_opening.proofs.Held.{files_stand}
-use Rattle.commit_store.specs.Committed.{Committed}
+use Rattle.commit_plan.specs.Committed.{Committed}
 use Rattle.commit_store.specs.Committing.{HasOneOfThree}
-use Rattle.commit_store.specs.Plannings.{IsCommittedAt, AreLed, LeadsOn}
-use Rattle.commit_store.proofs.Standing.{index_first}
+use Rattle.commit_plan.specs.Plannings.{IsCommittedAt, AreLed, LeadsOn}
+use Rattle.commit_plan.proofs.Standing.{index_first}
 use Rattle.facet_names.proofs.LabelLists.{Labels}
 
 pub on_ok : {T E : Type 0} (r : Result T E) (X : Type 0) → OnOk r X → is_err r ≡ false → X

@@ -1,7 +1,7 @@
 -- A disk to which commits go.
 use Rattle.std.specs.Prelude.{ℕ, Option}
 use Rattle.facet_model.specs.Flags.{Config}
-use Rattle.commit_store.specs.Committed.{Committed}
+use Rattle.commit_plan.specs.Committed.{Committed}
 
 -- the disk, what is known of its newest commits, and the count of faults with which a commit ended
 pub record CommitterView (D : Type 0) : Type 0 where

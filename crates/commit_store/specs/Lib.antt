@@ -1,9 +1,3 @@
-pub mod Committed
-pub mod Strays
-pub mod Drafts
-pub mod Plannings
 pub mod Committing
-pub mod Openings
 pub mod Committers
 pub mod Promised
-pub mod Results

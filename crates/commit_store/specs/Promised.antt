@@ -11,14 +11,14 @@ use Rattle.commit_calls.specs.Held.{Below}
 use Rattle.commit_calls.specs.Moments.{LeavesOnly}
 use Rattle.store_opening.specs.Newest.{AreListed}
 use Rattle.store_opening.specs.Settled.{IsSettled}
-use Rattle.commit_store.specs.declared.fault.CommitFault.{CommitFault}
-use Rattle.commit_store.specs.declared.fault.CommitFault.TheVariants.{NumbersSpent, NoMemory}
-use Rattle.commit_store.specs.Committed.{Committed}
+use Rattle.commit_plan.specs.declared.fault.CommitFault.{CommitFault}
+use Rattle.commit_plan.specs.declared.fault.CommitFault.TheVariants.{NumbersSpent, NoMemory}
+use Rattle.commit_plan.specs.Committed.{Committed}
 use Rattle.commit_store.specs.Committers.{CommitterView}
 use Rattle.commit_store.specs.Committing.{HasOneOfThree}
-use Rattle.commit_store.specs.Drafts.{last_number, named_files}
-use Rattle.commit_store.specs.Plannings.{IsCommittedAt}
-use Rattle.commit_store.specs.Results.{committed_told, IsCutShort}
+use Rattle.commit_plan.specs.Drafts.{last_number, named_files}
+use Rattle.commit_plan.specs.Plannings.{IsCommittedAt}
+use Rattle.commit_plan.specs.Results.{committed_told, IsCutShort}
 
 -- ---- what a commit goes out from
 

@@ -2,18 +2,8 @@
 #![tactic(auto)]
 
 mod committer;
-mod documents;
-mod draft;
-mod fault;
-mod labels;
-mod matching;
-mod names;
 mod opening;
-mod placing;
-mod planning;
-mod state;
 
+pub use commit_plan::{CommitFault, CommitState};
 pub use committer::Committer;
-pub use fault::CommitFault;
 pub use opening::{NotOpened, Opened};
-pub use state::CommitState;

@@ -16,7 +16,7 @@ use Rattle.seg_documents.proofs.Prefixes.{stays}
 use Rattle.commit_calls.specs.Held.{Below as NamedBelow}
 use Rattle.commit_calls.specs.Moments.{LeavesOnly}
 use Rattle.commit_calls.proofs.Runs.{leaves_on, leaves_more}
-use Rattle.commit_store.specs.Committed.{Committed}
+use Rattle.commit_plan.specs.Committed.{Committed}
 use Rattle.commit_store.specs.Committers.{CommitterView}
 use Rattle.commit_store.specs.Committing.{HasOneOfThree}
 use Rattle.commit_store.specs.Promised.{IsHere, OfBoth, PassesThree, LeavesThree, Acknowledges, HasNamed, StaysListed, FailsDevice}

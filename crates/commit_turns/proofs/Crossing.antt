@@ -5,8 +5,8 @@ use Rattle.std.proofs.Crossing.{crosses as owned}
 use Rattle.chronicle.proofs.Crossing.{crosses as tokens}
 use Rattle.facet_disk.specs.declared.disk.Disk.{Ghosts as Disks}
 use Rattle.index_state.proofs.Crossing.{segment_send, segment_sync, config_send}
-use Rattle.commit_store.specs.contracts.state.CommitState as state
-use Rattle.commit_store.specs.contracts.state.StoredSegment as stored
+use Rattle.commit_plan.specs.contracts.state.CommitState as state
+use Rattle.commit_plan.specs.contracts.state.StoredSegment as stored
 use Rattle.commit_turns.specs.contracts.turn.CommitTurn as turn
 use Rattle.commit_turns.specs.declared.start.Start.{Ghosts as Starts}
 

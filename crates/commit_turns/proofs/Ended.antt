@@ -6,7 +6,7 @@ use Rattle.facet_disk.specs.Images.{Image, Told}
 use Rattle.facet_disk.specs.declared.disk.Disk.{Ghosts}
 use Rattle.facet_model.specs.Documents.{Doc}
 use Rattle.facet_names.proofs.LabelLists.{Labels}
-use Rattle.commit_store.specs.Committed.{Committed}
+use Rattle.commit_plan.specs.Committed.{Committed}
 use Rattle.commit_store.specs.Committers.{CommitterView}
 use Rattle.store_opening.specs.Settled.{IsSettled}
 use Rattle.store_opening.proofs.Held.{stands_settled}

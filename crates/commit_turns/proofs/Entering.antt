@@ -2,8 +2,8 @@
 use Rattle.std.proofs.Common.{◌≡◌, ◌↔◌, ℕ, List, [], ◌∷◌, ◌++◌, Option, Some, Result, Err, sym, ap, subst, ◌∙◌, append-nil}
 use Rattle.chronicle.specs.History.{entries, numbered}
 use Rattle.chronicle.specs.Shown.{Shown, SeesOn, mine}
-use Rattle.commit_store.specs.declared.fault.CommitFault.{CommitFault}
-use Rattle.commit_store.specs.declared.fault.CommitFault.TheVariants.{Closed}
+use Rattle.commit_plan.specs.declared.fault.CommitFault.{CommitFault}
+use Rattle.commit_plan.specs.declared.fault.CommitFault.TheVariants.{Closed}
 use Rattle.commit_turns.specs.Answers.{Enters}
 use Rattle.commit_turns.specs.Commits.{ArePoints}
 use Rattle.commit_turns.specs.Points.{last_of, entered}

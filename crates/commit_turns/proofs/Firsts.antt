@@ -5,7 +5,7 @@ use Rattle.std.specs.List.{AllByRecursion}
 use Rattle.facet_model.specs.Stored.{Records}
 use Rattle.seg_documents.specs.Decoding.{doc_in, docs_in, records_in}
 use Rattle.seg_documents.proofs.Live.{records_first_live}
-use Rattle.commit_store.specs.Committed.{IsOwn}
+use Rattle.commit_plan.specs.Committed.{IsOwn}
 
 pub own_some : (labels : List (List (List ℕ))) (segments : List Records) → AllByRecursion IsOwn segments → docs_in labels segments ≡ [] → segments ≡ []
 own_some labels [] own none = refl

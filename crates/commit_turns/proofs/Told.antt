@@ -8,7 +8,7 @@ use Rattle.chronicle.specs.History.{entries}
 use Rattle.chronicle.specs.Shown.{Shown}
 use Rattle.chronicle.proofs.Entries.{entries-prefix}
 use Rattle.chronicle.proofs.Prefixes.{prefix_trans}
-use Rattle.commit_store.specs.declared.fault.CommitFault.{CommitFault}
+use Rattle.commit_plan.specs.declared.fault.CommitFault.{CommitFault}
 use Rattle.commit_turns.specs.Answers.{Enters}
 use Rattle.commit_turns.specs.Points.{made, first_of}
 use Rattle.pair_manager.specs.declared.point.CommitPoint.{CommitPoint}

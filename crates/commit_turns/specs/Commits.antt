@@ -10,7 +10,7 @@ use Rattle.seg_documents.specs.Decoding.{docs_in}
 use Rattle.commit_calls.specs.Held.{Below}
 use Rattle.commit_calls.specs.Moments.{LeavesOnly}
 use Rattle.store_opening.specs.Newest.{AreListed}
-use Rattle.commit_store.specs.Committed.{Committed}
+use Rattle.commit_plan.specs.Committed.{Committed}
 use Rattle.commit_store.specs.Committers.{CommitterView}
 use Rattle.commit_store.specs.Promised.{HasNamed, IsHere}
 use Rattle.commit_turns.specs.Points.{count_after, first_of}

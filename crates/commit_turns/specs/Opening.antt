@@ -8,7 +8,7 @@ use Rattle.facet_model.specs.Flags.{Config}
 use Rattle.facet_model.specs.Stored.{Records, Decodes}
 use Rattle.facet_names.specs.Labels.{IsLabelList}
 use Rattle.seg_documents.specs.Decoding.{docs_in}
-use Rattle.commit_store.specs.Committed.{IsOwn}
+use Rattle.commit_plan.specs.Committed.{IsOwn}
 use Rattle.commit_store.specs.Committers.{CommitterView}
 use Rattle.commit_store.specs.Committing.{HasFiles}
 use Rattle.commit_store.specs.Promised.{IsHere}

@@ -8,7 +8,7 @@ ghost use Rattle.facet_model.specs.Flags.{Config};
 ghost use Rattle.facet_model.specs.Stored.{Decodes};
 ghost use Rattle.facet_names.specs.Labels.{IsLabelList};
 ghost use Rattle.seg_documents.specs.Decoding.{records_in};
-ghost use Rattle.commit_store.specs.declared.fault.CommitFault.TheVariants.{Disk as OfDisk, Closed, NumbersSpent};
+ghost use Rattle.commit_plan.specs.declared.fault.CommitFault.TheVariants.{Disk as OfDisk, Closed, NumbersSpent};
 ghost use Rattle.index_state.specs.Index.{AreOwn};
 ghost use Rattle.taxo_cache.specs.Seen.{labels_of, SeesLabels};
 ghost use Rattle.commit_turns.specs.Answers.{Enters};

@@ -35,17 +35,18 @@ use Rattle.taxo_list.specs.declared.fault.TaxoFault.{TaxoFault}
 use Rattle.taxo_list.specs.declared.fault.TaxoFault.TheVariants.{LabelsFull as ListFull, NoMemory as ListNoMemory}
 use Rattle.taxo_adding.specs.Several.{AddsInTurn, IsFullForOne}
 use Rattle.pair_manager.specs.Appended.{HasNoRoom, IsPlaced}
-use Rattle.facet_engine.specs.Adding.{HasTried}
+use Rattle.facet_adding.specs.Adding.{HasTried}
 use Rattle.facet_engine.specs.Replies.{add_reply}
 use Rattle.facet_engine.specs.Sessions.{HaveOneNumber, NamesSession}
 use Rattle.facet_engine.specs.Steps.{seen_of, added}
-use Rattle.facet_engine.specs.declared.adding.AddFault.{AddFault}
-use Rattle.facet_engine.specs.declared.adding.AddFault.TheVariants as adds
+use Rattle.facet_adding.specs.declared.adding.AddFault.{AddFault}
+use Rattle.facet_adding.specs.declared.adding.AddFault.TheVariants as adds
 use Rattle.pair_manager.proofs.Appended.{only_one}
 use Rattle.facet_engine.proofs.Committed.{one_own}
 use Rattle.facet_engine.proofs.Refreshed.{many_operations, many_in_history}
 use Rattle.facet_engine.proofs.SeenPairs.{still_named}
-use Rattle.facet_engine.proofs.Seeing.{enters_behind, told, told_behind, labels_none, operations_none, pairs_none, commits_none, same_sees_on}
+use Rattle.facet_engine.proofs.Seeing.{enters_behind, told, told_behind, labels_none, operations_none, pairs_none, commits_none}
+use Rattle.facet_adding.proofs.Tried.{same_sees_on}
 
 -- ---- labels that are lacking
 
@@ -59,26 +60,6 @@ lacks_one labels doc path within lacks = by (knows labels doc) refl
     by : (b : Bool) → knows labels doc ≡ b → knows labels doc ≡ false
     by false e = e
     by true e = absurd (both_ways (has_all path) lacks (All-contains (λ p. has_all p ≡ true) doc.labels path (AllPass-from_list_all has_all doc.labels e) within))
-
--- a fault that tells a size tells of a full list
-pub full_for : (size limit : ℕ) (labels paths : Labels) (fault : TaxoFault) → fault ≡ ListFull size → (fault ≢ ListNoMemory → IsFullForOne fault limit labels paths) → IsFullForOne (ListFull size) limit labels paths
-full_for size limit labels paths fault is full = subst (λ (f : TaxoFault). IsFullForOne f limit labels paths) is (full (λ e. apart (sym is ∙ e)))
-  where
-    apart : ListFull size ≡ ListNoMemory → ⊥
-    apart e = cc
-
--- ---- from the resolved labels on
-
-module _ (limit session : ℕ) (doc : Doc) (old mid new : Pass) (entered : Doc) (is : entered ≡ doc) (operations : mid.operations ≡ old.operations) (labels : new.labels ≡ mid.labels)
-    (known : knows (labels_of mid.labels.seen) doc ≡ true) where
-  still_known : knows (labels_of new.labels.seen) doc ≡ true
-  still_known = subst (λ (t : Shown (List (List ℕ))). knows (labels_of t.seen) doc ≡ true) (sym labels) known
-
-  pub tried_placed : (at : ℕ) → IsPlaced at (record { session = session; doc = entered }) mid.operations new.operations → HasTried limit (record { session = session; doc = doc }) old new (Ok at)
-  tried_placed at there = (still_known, subst (λ (T : Type 0). T) (λ i. IsPlaced at (record { session = session; doc = is i }) (operations i) new.operations) there)
-
-  pub tried_full : (count : ℕ) → SeesOn mid.operations new.operations → HasNoRoom count new.operations → HasTried limit (record { session = session; doc = doc }) old new (Err (adds.DocsFull count))
-  tried_full count on full = (subst (λ (t : Shown Operation). SeesOn t new.operations) operations on, still_known, full)
 
 -- ---- what the token of the operations has entered
 

@@ -8,8 +8,8 @@ use Rattle.std.proofs.lemmas.List.Elements.{filter-append, filter_map-append}
 use mathlib.Core.List.{IsPrefix}
 use Rattle.chronicle.specs.History.{entries, own_of}
 use Rattle.chronicle.specs.Shown.{Shown, mine, SameToken, SeesOn}
-use Rattle.commit_store.specs.declared.fault.CommitFault.{CommitFault}
-use Rattle.commit_store.specs.declared.fault.CommitFault.TheVariants as faults
+use Rattle.commit_plan.specs.declared.fault.CommitFault.{CommitFault}
+use Rattle.commit_plan.specs.declared.fault.CommitFault.TheVariants as faults
 use Rattle.commit_turns.specs.Answers.{Enters}
 use Rattle.commit_turns.specs.Points.{last_of, made, failed_after}
 use Rattle.facet_words.specs.Commands.{Settings}
@@ -25,7 +25,8 @@ use Rattle.chronicle.proofs.Prefixes.{prefix_trans}
 use Rattle.facet_engine.specs.Sessions.{HaveOneNumber}
 use Rattle.facet_engine.specs.Replies.{commit_reply}
 use Rattle.facet_engine.specs.Steps.{seen_of, point_of, committed}
-use Rattle.facet_engine.proofs.Seeing.{told, told_begins, told_none, told_behind, labels_none, operations_none, pairs_none, same_sees_on}
+use Rattle.facet_engine.proofs.Seeing.{told, told_begins, told_none, told_behind, labels_none, operations_none, pairs_none}
+use Rattle.facet_adding.proofs.Tried.{same_sees_on}
 use Rattle.facet_engine.proofs.Refreshed.{many_operations, many_in_history, more_labels}
 
 -- ---- failures among points

@@ -9,10 +9,6 @@ pub mod Opened
 pub mod Sharing
 pub mod Taking
 pub mod PairReplies
-pub mod Found
-pub mod Searched
-pub mod Stored
-pub mod Entered
 pub mod Added
 pub mod Spent
 pub mod Carried

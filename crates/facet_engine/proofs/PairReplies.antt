@@ -24,17 +24,18 @@ use Rattle.facet_output.specs.Seen.{EntersNone, history_of, labels_of as plain_l
 use Rattle.facet_output.specs.Steps.{IsStep, EntersPoints}
 use Rattle.facet_output.specs.Telling.{placed_by, refreshed_by, stood_by}
 use Rattle.facet_engine.specs.declared.holding.HoldFault.TheVariants as holds
-use Rattle.facet_engine.specs.declared.searching.SearchAnswer.{SearchAnswer}
-use Rattle.facet_engine.specs.declared.searching.SearchFault.{SearchFault}
-use Rattle.facet_engine.specs.declared.searching.SearchFault.TheVariants as searches
-use Rattle.facet_engine.specs.declared.showing.DocumentFault.{DocumentFault}
-use Rattle.facet_engine.specs.declared.showing.DocumentFault.TheVariants as documents
-use Rattle.facet_engine.specs.declared.showing.Shown.{Shown as ShownDocument}
+use Rattle.pair_search.specs.declared.searching.SearchAnswer.{SearchAnswer}
+use Rattle.pair_search.specs.declared.searching.SearchFault.{SearchFault}
+use Rattle.pair_search.specs.declared.searching.SearchFault.TheVariants as searches
+use Rattle.pair_search.specs.declared.showing.DocumentFault.{DocumentFault}
+use Rattle.pair_search.specs.declared.showing.DocumentFault.TheVariants as documents
+use Rattle.pair_search.specs.declared.showing.Shown.{Shown as ShownDocument}
 use Rattle.facet_engine.specs.HeldPairs.{HeldPair, pair_under, numbers_of, numbers_held}
-use Rattle.facet_engine.specs.Replies.{release_reply, search_reply, document_reply, stats_reply}
-use Rattle.facet_engine.specs.Searches.{IsFoundIn}
+use Rattle.facet_engine.specs.Replies.{release_reply, stats_reply}
+use Rattle.pair_search.specs.Replies.{search_reply, document_reply}
+use Rattle.pair_search.specs.Searches.{IsFoundIn}
 use Rattle.facet_engine.specs.Sessions.{HaveOneNumber, HasSeen}
-use Rattle.facet_engine.specs.Showing.{IsShownIn}
+use Rattle.pair_search.specs.Showing.{IsShownIn}
 use Rattle.facet_engine.specs.Steps.{seen_of, taking, last_pair, pair_held, searched, documented, counted}
 use Rattle.facet_engine.proofs.Naming.{numbers_under}
 use Rattle.facet_engine.proofs.Seeing.{told}

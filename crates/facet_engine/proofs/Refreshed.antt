@@ -18,7 +18,8 @@ use Rattle.facet_output.specs.Steps.{IsStep}
 use Rattle.facet_output.proofs.TwoRan.{no_new}
 use Rattle.facet_engine.specs.Sessions.{HaveOneNumber}
 use Rattle.facet_engine.specs.Steps.{seen_of, refreshed}
-use Rattle.facet_engine.proofs.Seeing.{enters_behind, told, told_begins, told_behind, labels_none, operations_none, pairs_none, commits_none, same_sees_on}
+use Rattle.facet_engine.proofs.Seeing.{enters_behind, told, told_begins, told_behind, labels_none, operations_none, pairs_none, commits_none}
+use Rattle.facet_adding.proofs.Tried.{same_sees_on}
 
 pub many_operations : (seen : List (ℕ × Operation)) → length (told (λ (o : Operation). o.doc) seen) ≡ length seen
 many_operations seen = let doc : ℕ × Operation → ℕ × Doc = λ e. (e.0, e.1.doc) in length-map seen doc

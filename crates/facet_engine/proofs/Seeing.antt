@@ -62,7 +62,3 @@ module _ (number : ℕ) (old new : Pass) (have : HaveOneNumber number old) (same
 
   pub commits_none : SeesOn old.commits new.commits → EntersNone n (seen_of old).commits (seen_of new).commits
   commits_none on = told_none point_of n old.commits.seen new.commits.seen (enters_none old.commits new.commits n old.commits_rest.0 (have.3 ∙ sym have.0) same.commits on)
-
--- a token that is the same has seen on
-pub same_sees_on : {A : Type 0} (old new : Shown A) → new ≡ old → SeesOn old new
-same_sees_on old new is = subst (λ t. SeesOn old t) (sym is) (prefix_self old.seen, refl)

@@ -2,8 +2,8 @@
 use Rattle.std.proofs.Common.{◌≡◌, ℕ, ◌+◌, ◌*◌, ◌<◌, length, refl, arith, Result, Ok, Err}
 use Rattle.std.specs.Prelude.{IfErr}
 use Rattle.std.proofs.lemmas.List.{length-map}
-use Rattle.commit_store.specs.declared.fault.CommitFault.{CommitFault}
-use Rattle.commit_store.specs.declared.fault.CommitFault.TheVariants as commits
+use Rattle.commit_plan.specs.declared.fault.CommitFault.{CommitFault}
+use Rattle.commit_plan.specs.declared.fault.CommitFault.TheVariants as commits
 use Rattle.commit_turns.specs.Frames.{HasNumbers}
 use Rattle.pair_manager.specs.declared.manager.Stats.{Stats}
 use Rattle.pair_manager.specs.declared.pass.Pass.{Pass}
@@ -11,18 +11,19 @@ use Rattle.pair_manager.specs.declared.point.CommitPoint.{CommitPoint as Point}
 use Rattle.facet_output.specs.Replies.{Reply, refused, numbers_spent}
 use Rattle.facet_output.specs.Seen.{CommitPoint}
 use Rattle.facet_engine.specs.Calls.{SpendsWithin}
-use Rattle.facet_engine.specs.Replies.{add_reply, refresh_reply, hold_reply, release_reply, search_reply, document_reply, stats_reply, commit_reply}
+use Rattle.facet_engine.specs.Replies.{add_reply, refresh_reply, hold_reply, release_reply, stats_reply, commit_reply}
+use Rattle.pair_search.specs.Replies.{search_reply, document_reply}
 use Rattle.facet_engine.specs.Steps.{seen_of, point_of}
-use Rattle.facet_engine.specs.declared.adding.AddFault.{AddFault}
-use Rattle.facet_engine.specs.declared.adding.AddFault.TheVariants as adds
+use Rattle.facet_adding.specs.declared.adding.AddFault.{AddFault}
+use Rattle.facet_adding.specs.declared.adding.AddFault.TheVariants as adds
 use Rattle.facet_engine.specs.declared.holding.HoldFault.{HoldFault}
 use Rattle.facet_engine.specs.declared.holding.HoldFault.TheVariants as holds
-use Rattle.facet_engine.specs.declared.searching.SearchAnswer.{SearchAnswer}
-use Rattle.facet_engine.specs.declared.searching.SearchFault.{SearchFault}
-use Rattle.facet_engine.specs.declared.searching.SearchFault.TheVariants as searches
-use Rattle.facet_engine.specs.declared.showing.DocumentFault.{DocumentFault}
-use Rattle.facet_engine.specs.declared.showing.DocumentFault.TheVariants as documents
-use Rattle.facet_engine.specs.declared.showing.Shown.{Shown}
+use Rattle.pair_search.specs.declared.searching.SearchAnswer.{SearchAnswer}
+use Rattle.pair_search.specs.declared.searching.SearchFault.{SearchFault}
+use Rattle.pair_search.specs.declared.searching.SearchFault.TheVariants as searches
+use Rattle.pair_search.specs.declared.showing.DocumentFault.{DocumentFault}
+use Rattle.pair_search.specs.declared.showing.DocumentFault.TheVariants as documents
+use Rattle.pair_search.specs.declared.showing.Shown.{Shown}
 
 -- a reply that tells of no file numbers
 abbrev pub TellsOfNone : Reply → Type 0

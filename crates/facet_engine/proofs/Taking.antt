@@ -26,7 +26,8 @@ use Rattle.facet_engine.specs.Sessions.{HaveOneNumber, HasSeen}
 use Rattle.facet_engine.specs.Steps.{seen_of, taking, last_pair, last_place}
 use Rattle.facet_engine.proofs.Refreshed.{many_operations}
 use Rattle.facet_engine.proofs.SeenPairs.{begins}
-use Rattle.facet_engine.proofs.Seeing.{told, labels_none, operations_none, pairs_none, commits_none, same_sees_on}
+use Rattle.facet_engine.proofs.Seeing.{told, labels_none, operations_none, pairs_none, commits_none}
+use Rattle.facet_adding.proofs.Tried.{same_sees_on}
 
 -- ---- the last pair
 

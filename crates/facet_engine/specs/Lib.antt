@@ -2,13 +2,10 @@ pub mod HeldPairs
 pub mod Leases
 pub mod Sessions
 pub mod Systems
-pub mod Adding
 pub mod Steps
 pub mod Notes
 pub mod Telling
 pub mod Ending
 pub mod Opening
 pub mod Calls
-pub mod Searches
-pub mod Showing
 pub mod Replies

@@ -1,7 +1,7 @@
 -- What a session has seen, as plain data, and the steps that its calls are.
 use Rattle.std.specs.Prelude.{◌-◌, ℕ, List, length, map, slice_get, Option, Some, None, option_map, Result, Ok, Err}
 use Rattle.chronicle.specs.History.{entries}
-use Rattle.commit_store.specs.declared.fault.CommitFault.{CommitFault}
+use Rattle.commit_plan.specs.declared.fault.CommitFault.{CommitFault}
 use Rattle.facet_model.specs.Documents.{Doc}
 use Rattle.facet_output.specs.Commands.{Command, add, refresh, hold, release, search, document, stats, commit}
 use Rattle.facet_output.specs.Replies.{Reply, refused, no_memory}
@@ -12,13 +12,14 @@ use Rattle.pair_manager.specs.declared.manager.Stats.{Stats}
 use Rattle.pair_manager.specs.declared.pass.Pass.{Pass}
 use Rattle.pair_manager.specs.declared.point.CommitPoint.{CommitPoint as Point}
 use Rattle.pair_manager.specs.Published.{numbers}
-use Rattle.facet_engine.specs.declared.adding.AddFault.{AddFault}
+use Rattle.facet_adding.specs.declared.adding.AddFault.{AddFault}
 use Rattle.facet_engine.specs.declared.holding.HoldFault.{HoldFault}
-use Rattle.facet_engine.specs.declared.searching.SearchAnswer.{SearchAnswer}
-use Rattle.facet_engine.specs.declared.searching.SearchFault.{SearchFault}
-use Rattle.facet_engine.specs.declared.showing.DocumentFault.{DocumentFault}
-use Rattle.facet_engine.specs.declared.showing.Shown.{Shown}
-use Rattle.facet_engine.specs.Replies.{add_reply, refresh_reply, hold_reply, release_reply, search_reply, document_reply, stats_reply, commit_reply}
+use Rattle.pair_search.specs.declared.searching.SearchAnswer.{SearchAnswer}
+use Rattle.pair_search.specs.declared.searching.SearchFault.{SearchFault}
+use Rattle.pair_search.specs.declared.showing.DocumentFault.{DocumentFault}
+use Rattle.pair_search.specs.declared.showing.Shown.{Shown}
+use Rattle.facet_engine.specs.Replies.{add_reply, refresh_reply, hold_reply, release_reply, stats_reply, commit_reply}
+use Rattle.pair_search.specs.Replies.{search_reply, document_reply}
 
 -- a point as the output's definitions have it
 abbrev pub point_of : Point → CommitPoint

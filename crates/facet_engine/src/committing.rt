@@ -1,6 +1,6 @@
 ghost use Rattle.std.specs.Prelude.{◌≡◌, IfErr, ℕ};
 ghost use Rattle.facet_disk.specs.Calls.{Rose};
-ghost use Rattle.commit_store.specs.declared.fault.CommitFault.TheVariants.{Disk as OfDisk};
+ghost use Rattle.commit_plan.specs.declared.fault.CommitFault.TheVariants.{Disk as OfDisk};
 ghost use Rattle.commit_turns.specs.Frames.{HasNumbers};
 ghost use Rattle.facet_engine.specs.Systems.{BelongsTo};
 ghost use Rattle.facet_engine.specs.Calls.{IsCall, SameSession, SpendsWithin};

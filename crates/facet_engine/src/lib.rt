@@ -17,14 +17,13 @@ mod stats;
 mod system;
 mod telling;
 
-pub use adding::AddFault;
 pub use carrying::carry_out;
 pub use ending::{EndedSystem, Trace};
+pub use facet_adding::AddFault;
 pub use held::{Held, HeldPairs};
 pub use holding::{HoldFault, NotHeld};
 pub use notes::Notes;
 pub use opening::Store;
-pub use searching::{SearchAnswer, SearchFault, search_pair};
+pub use pair_search::{DocumentFault, SearchAnswer, SearchFault, Shown, search_pair};
 pub use session::Session;
-pub use showing::{DocumentFault, Shown};
 pub use system::System;

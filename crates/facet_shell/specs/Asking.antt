@@ -2,7 +2,7 @@
 use Rattle.std.specs.Prelude.{◌≡◌, ◌≤◌, true, false, Option, Some, None}
 use Rattle.command_line.specs.Words.{Words, reads_script}
 use Rattle.generator.specs.Generated.{generated}
-use Rattle.facet_shell.specs.Generating.{generated_by}
+use Rattle.facet_serving.specs.Generating.{generated_by}
 use Rattle.facet_shell.specs.declared.program.Asked.{Asked}
 use Rattle.facet_shell.specs.declared.program.Asked.TheVariants as asked
 

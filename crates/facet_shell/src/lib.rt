@@ -2,18 +2,11 @@
 //! replies are written to a sink.
 #![tactic(auto)]
 
-mod closing;
-mod counting;
-mod generating;
-mod laws;
 mod program;
-mod serving;
-mod status;
-mod tallying;
-mod telling;
 
 pub use facet_engine::Trace;
 pub use facet_phases::{Gate, OpenGate};
-pub use laws::{adds_stand, commits_stay, equal_stores_reply_alike, runs_go_on};
+pub use facet_serving::{
+    Ended, Status, adds_stand, commits_stay, equal_stores_reply_alike, runs_go_on,
+};
 pub use program::{place, run};
-pub use status::{Ended, Status};

@@ -5,7 +5,7 @@ use Rattle.chronicle.specs.Frame.{Frame}
 use Rattle.pair_manager.proofs.Publishing.{still_right}
 use Rattle.chronicle.specs.History.{entries, numbered}
 use Rattle.chronicle.specs.Shown.{mine}
-use Rattle.commit_store.specs.declared.fault.CommitFault.TheVariants.{Disk as OfDisk, Closed, NoMemory, NumbersSpent}
+use Rattle.commit_plan.specs.declared.fault.CommitFault.TheVariants.{Disk as OfDisk, Closed, NoMemory, NumbersSpent}
 use Rattle.commit_turns.specs.Points.{made, failed_after}
 use Rattle.taxo_cache.specs.Seen.{labels_of}
 use Rattle.commit_turns.specs.Seen.{docs_of}

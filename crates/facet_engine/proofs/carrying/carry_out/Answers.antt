@@ -8,8 +8,9 @@ use Rattle.facet_words.specs.Sessions.CommandViews.{command_view}
 use Rattle.facet_words.specs.declared.parts.SearchLine.{SearchLine}
 use Rattle.facet_engine.specs.Calls.{IsCall, IsCarriedOut}
 use Rattle.facet_names.specs.Texts.{text_in}
-use Rattle.facet_engine.specs.Searches.{search_view}
-use Rattle.facet_engine.specs.Replies.{add_reply, refresh_reply, hold_reply, release_reply, search_reply, document_reply, stats_reply, commit_reply}
+use Rattle.pair_search.specs.Searches.{search_view}
+use Rattle.facet_engine.specs.Replies.{add_reply, refresh_reply, hold_reply, release_reply, stats_reply, commit_reply}
+use Rattle.pair_search.specs.Replies.{search_reply, document_reply}
 use Rattle.facet_engine.specs.Steps.{step_of, last_place, refresh_place, hold_took, pair_taken}
 use Rattle.facet_engine.proofs.Carried.{carried, holds_still}
 use Rattle.facet_engine.proofs.Spent.{spends_none, add_tells, refresh_tells, hold_tells, release_tells, search_tells, document_tells, stats_tells}

@@ -1,6 +1,6 @@
 use Rattle.std.proofs.Common.{arith}
 use Rattle.facet_words.specs.Sessions.CommandViews.{script_view}
-use Rattle.facet_shell.proofs.Ending.{read_whole, done, write_fault, no_memory, quiet, not_opened, told, write_failed, disk_failed, sink_still, disk_still}
+use Rattle.facet_serving.proofs.Ending.{read_whole, done, write_fault, no_memory, quiet, not_opened, told, write_failed, disk_failed, sink_still, disk_still}
 use Rattle.facet_shell.proofs.program.run_read.Goals as goal
 
 pub returns-clause-done : goal.returns-clause-done

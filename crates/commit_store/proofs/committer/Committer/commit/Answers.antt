@@ -8,7 +8,7 @@ use Rattle.commit_store.specs.Committers.{CommitterView}
 use Rattle.commit_store.specs.Committing.{HasOneOfThree}
 use Rattle.commit_store.specs.Promised.{OfBoth, PassesThree, LeavesThree, Acknowledges, Settles, TellsCommit, AreAmong, HasNamed, StaysListed, CutsShort, FailsDevice}
 use Rattle.commit_store.proofs.Carried.{left, passes, ends, acknowledged, settles, stays_listed, named_still, tells, tells_still, cleaned, cut_short, fresh}
-use Rattle.commit_store.proofs.Fitting.{plan_fits}
+use Rattle.commit_plan.proofs.Fitting.{plan_fits}
 use Rattle.commit_store.proofs.Promises.{on_ok, on_fault, leaves_same, here_now}
 use Rattle.commit_store.proofs.committer.Committer.commit.Goals as goal
 

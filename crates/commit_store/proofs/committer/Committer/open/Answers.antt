@@ -4,11 +4,11 @@ use Rattle.facet_disk.specs.declared.name.Dir.TheVariants.{Taxonomy, Index}
 use Rattle.commit_calls.specs.Held.{Below}
 use Rattle.store_opening.specs.Settled.{held_in}
 use Rattle.store_opening.proofs.Held.{settled_stands}
-use Rattle.commit_store.specs.Committed.{Committed, segments_in}
-use Rattle.commit_store.specs.Openings.{committed_read}
-use Rattle.commit_store.specs.Plannings.{IsCommittedAt}
+use Rattle.commit_plan.specs.Committed.{Committed, segments_in}
+use Rattle.commit_plan.specs.Openings.{committed_read}
+use Rattle.commit_plan.specs.Plannings.{IsCommittedAt}
 use Rattle.commit_store.specs.Promised.{HasNamed}
-use Rattle.commit_store.proofs.FromDisk.{all_segments, all_own, none_left, read_known, at_unchanged}
+use Rattle.commit_plan.proofs.FromDisk.{all_segments, all_own, none_left, read_known, at_unchanged}
 use Rattle.commit_store.proofs.Listed.{read_named}
 use Rattle.commit_store.proofs.committer.Committer.open.Goals as goal
 

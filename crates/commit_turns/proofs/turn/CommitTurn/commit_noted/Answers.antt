@@ -6,7 +6,7 @@ use Rattle.facet_model.specs.Stored.{Decodes}
 use Rattle.facet_names.proofs.LabelLists.{Labels}
 use Rattle.seg_documents.specs.Decoding.{docs_in}
 use Rattle.seg_documents.proofs.Decoded.{decoded}
-use Rattle.commit_store.specs.declared.fault.CommitFault.TheVariants.{Closed}
+use Rattle.commit_plan.specs.declared.fault.CommitFault.TheVariants.{Closed}
 use Rattle.taxo_cache.specs.Seen.{labels_of}
 use Rattle.commit_turns.specs.Points.{made, failed_after}
 use Rattle.commit_turns.specs.Seen.{docs_of}

@@ -1,12 +1,12 @@
 use Rattle.std.proofs.Common.{ℕ, List, Option, None, Err, refl, sym, ap, subst}
 use Rattle.pair_manager.specs.Published.{Published}
-use Rattle.facet_engine.specs.Replies.{document_reply}
-use Rattle.facet_engine.specs.Showing.{IsShownIn}
+use Rattle.pair_search.specs.Replies.{document_reply}
+use Rattle.pair_search.specs.Showing.{IsShownIn}
 use Rattle.facet_engine.specs.Sessions.{HasSeen}
 use Rattle.facet_output.specs.Steps.{IsStep}
 use Rattle.facet_engine.specs.HeldPairs.{numbers_held}
 use Rattle.facet_names.specs.Texts.{text_in}
-use Rattle.facet_engine.specs.declared.showing.DocumentFault.TheVariants as documents
+use Rattle.pair_search.specs.declared.showing.DocumentFault.TheVariants as documents
 use Rattle.facet_engine.specs.Steps.{documented}
 use Rattle.facet_engine.proofs.Naming.{all_under}
 use Rattle.facet_engine.proofs.PairReplies.{document_last, document_under, document_not_held, document_without_memory}

@@ -1,13 +1,13 @@
 use Rattle.std.proofs.Common.{◌∙◌, ℕ, List, Option, None, Err, refl, sym, ap, subst}
 use Rattle.pair_manager.specs.Published.{Published}
 use Rattle.chronicle.specs.Frame.{Frame}
-use Rattle.facet_engine.specs.Replies.{search_reply}
-use Rattle.facet_engine.specs.Searches.{IsFoundIn, search_view}
+use Rattle.pair_search.specs.Replies.{search_reply}
+use Rattle.pair_search.specs.Searches.{IsFoundIn, search_view}
 use Rattle.facet_engine.specs.Sessions.{HasSeen}
 use Rattle.facet_output.specs.Steps.{IsStep}
 use Rattle.facet_engine.specs.HeldPairs.{numbers_held}
 use Rattle.facet_names.specs.Texts.{text_in}
-use Rattle.facet_engine.specs.declared.searching.SearchFault.TheVariants as searches
+use Rattle.pair_search.specs.declared.searching.SearchFault.TheVariants as searches
 use Rattle.facet_engine.specs.Steps.{searched}
 use Rattle.facet_engine.proofs.Naming.{all_under}
 use Rattle.facet_engine.proofs.PairReplies.{search_last, search_under, search_not_held, search_without_memory}

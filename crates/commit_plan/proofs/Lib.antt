@@ -1,0 +1,17 @@
+pub mod SameBytes
+pub mod Rising
+pub mod Held
+pub mod Keeping
+pub mod Ordering
+pub mod Counting
+pub mod Numbers
+pub mod LeadingLabels
+pub mod LeadingIndex
+pub mod Standing
+pub mod Named
+pub mod FromDisk
+pub mod InOrder
+pub mod Cleaning
+pub mod Remaining
+pub mod Fitting
+pub mod Leading

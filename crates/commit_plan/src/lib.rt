@@ -1,0 +1,18 @@
+//! What a commit does to the files of a disk, planned in memory, and what is known of the files before it and after it. Nothing here calls the disk.
+#![tactic(auto)]
+
+mod documents;
+mod draft;
+mod fault;
+mod labels;
+mod matching;
+mod names;
+mod placing;
+mod planning;
+mod reading;
+mod state;
+
+pub use fault::CommitFault;
+pub use planning::{Planned, plan_commit};
+pub use reading::state_of;
+pub use state::CommitState;

@@ -1,6 +1,0 @@
-use Rattle.std.proofs.Common.{◌≡◌, map, take}
-use Rattle.commit_store.specs.Committed.{kept_view}
-use Rattle.commit_store.proofs.documents.kept_again.Given as goal
-
-abbrev pub invariant-loop-segment : goal.invariant-loop-segment
-invariant-loop-segment l = map kept_view l.again.items ≡ map kept_view (take l.segment-index l.stored)

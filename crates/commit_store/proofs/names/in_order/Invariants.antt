@@ -1,6 +1,0 @@
-use Rattle.std.proofs.Common.{◌≡◌, take}
-use Rattle.commit_store.specs.Strays.{in_order}
-use Rattle.commit_store.proofs.names.in_order.Given as goal
-
-abbrev pub invariant-loop-name : goal.invariant-loop-name
-invariant-loop-name l = l.ordered.keys ≡ in_order (take l.name-index l.names)

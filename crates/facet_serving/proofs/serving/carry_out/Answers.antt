@@ -1,0 +1,7 @@
+use Rattle.facet_serving.proofs.serving.carry_out.Goals as goal
+
+pub carry_out_over-requires-clause-told : goal.carry_out_over-requires-clause-told
+carry_out_over-requires-clause-told g c κs within = ((λ t. t), (λ t tells. (t, tells)))
+
+pub carry_out_over-requires-clause-settled : goal.carry_out_over-requires-clause-settled
+carry_out_over-requires-clause-settled g c κs within = ((λ w. w), (λ t tells settled. record { told = t; tells = tells; settled = settled }))

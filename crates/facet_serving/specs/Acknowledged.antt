@@ -1,0 +1,71 @@
+-- What becomes of commits.
+use Rattle.std.specs.Prelude.{◌≡◌, ◌≤◌, ◌⊎◌, ◌^◌, ℕ, List, length, slice_get, Some, Ok, All, IsTrue}
+use Rattle.commit_turns.specs.Recovery.{Recovers, docs_found}
+use Rattle.facet_disk.specs.Images.{Image, Told}
+use Rattle.facet_disk.specs.declared.disk.Disk.{Ghosts}
+use Rattle.facet_engine.specs.declared.ending.Trace.{Trace}
+use Rattle.facet_io.specs.Faults.{Rose}
+use Rattle.facet_model.specs.Documents.{Doc}
+use Rattle.facet_model.specs.Histories.{docs}
+use Rattle.facet_output.specs.Answered.{Answered, comes_after, in_writing_order}
+use Rattle.facet_output.specs.Output.{has_shown}
+use Rattle.facet_output.specs.Seen.{Seen, history_of, labels_of}
+use Rattle.facet_replies.specs.Replies.{no_memory, numbered, placed, refused}
+use Rattle.facet_words.specs.Commands.{Settings}
+use Rattle.facet_words.specs.Sessions.Commands.{Order, Script, add, commit}
+use Rattle.facet_words.specs.Sessions.Laws.{orders_in}
+use Rattle.facet_words.specs.Sessions.Scripts.{script}
+use Rattle.generator.specs.Generated.{generated}
+use Rattle.store_opening.specs.Files.{greatest_number}
+use Rattle.store_opening.specs.Newest.{next_after}
+use Rattle.store_opening.specs.Settled.{IsSettled}
+use Rattle.facet_serving.specs.Runs.{Ran, script_limit}
+
+-- ---- what was acknowledged stays
+
+-- of an add that came before a commit, of its session or of an earlier phase, and was answered with a place: of these documents its own stands there
+abbrev pub HasAdd : Answered → List Doc → Answered → Type 0
+HasAdd a documents b = (doc : Doc) (place : ℕ) → IsTrue (comes_after a b) → b.order.command ≡ add doc → b.reply ≡ placed place
+    → slice_get documents place ≡ Some doc
+
+-- An image opens as the first of the labels and the first of the documents at the end, with all that a commit acknowledged which was answered this number.
+pub record Holds (settings : Settings) (last : Seen) (answered : List Answered) (a : Answered) (n : ℕ) (c : Image) : Type 0 where
+  pub recovers : Recovers settings.config (labels_of last) (docs (history_of last)) c
+  -- so many documents, or more
+  pub many : n ≤ length (docs_found recovers.found)
+  -- all labels that its session had been shown
+  pub labels : (m : ℕ) × (m ≤ length recovers.found.labels) × IsTrue (has_shown (labels_of last) last.pairs answered a m)
+  pub adds : All (HasAdd a (docs_found recovers.found)) answered
+
+-- of a commit that was acknowledged: the image holds that
+abbrev pub IsHeld : Settings → Seen → List Answered → Image → Answered → Type 0
+IsHeld settings last answered c a = (n : ℕ) → a.order.command ≡ commit → a.reply ≡ numbered n → Holds settings last answered a n c
+
+-- Over a disk that tells its files and was settled, whatever a crash leaves at the end holds all that each acknowledged commit has acknowledged.
+abbrev pub AcknowledgedStays : {D : Type 0} → Ghosts D → Type 0
+AcknowledgedStays {D} ghosts = (settings : Settings) (phases : List (List Order)) (trace : Trace) (old new : D) (t : Told) → ghosts.told old ≡ Some t
+    → IsSettled ghosts settings.config t old
+    → (ran : Ran ghosts settings phases trace old new) → (c : Image) → ghosts.may_leave new c → All (IsHeld settings ran.last ran.answered c) ran.answered
+
+-- ---- commits are acknowledged
+
+-- of a commit: it tells a number, or of want of memory
+abbrev pub IsAcknowledged : Answered → Type 0
+IsAcknowledged a = a.order.command ≡ commit → ((n : ℕ) × (a.reply ≡ numbered n)) ⊎ (a.reply ≡ refused no_memory)
+
+-- it has at most so many orders as a script may have bytes
+abbrev pub HasFewOrders : Script → Type 0
+HasFewOrders s = length (orders_in s.phases) ≤ script_limit
+
+-- So has each script that is read, and each one of generated documents.
+abbrev pub HaveFewOrders : Type 0
+HaveFewOrders = ((input : List ℕ) (s : Script) → script input ≡ Ok s → length input ≤ script_limit → HasFewOrders s)
+    × ((documents sessions : ℕ) → documents ≤ 1000000 → HasFewOrders (generated documents sessions))
+
+-- Each commit of such a script is acknowledged, where the disk tells files whose numbers are below 2^62 and its count of faults does not rise.
+-- So it is of the script's phases, and of the first of them.
+abbrev pub CommitsAreAcknowledged : {D : Type 0} → Ghosts D → Type 0
+CommitsAreAcknowledged {D} ghosts = (s : Script) (phases : List (List Order)) (trace : Trace) (old new : D) (t : Told) → HasFewOrders s
+    → length (in_writing_order phases) ≤ length (in_writing_order s.phases) → ghosts.told old ≡ Some t → next_after (greatest_number t.files) ≤ 2 ^ 62
+    → ¬ Rose (ghosts.faults old) (ghosts.faults new)
+    → (ran : Ran ghosts s.settings phases trace old new) → All IsAcknowledged ran.answered

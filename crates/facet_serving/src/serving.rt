@@ -1,0 +1,149 @@
+ghost use Rattle.std.specs.Prelude.{◌≡◌, ◌⊎◌, Some, IfErr, IfOk, OnErr};
+ghost use Rattle.commit_turns.specs.Opening.{WasSettled};
+ghost use Rattle.facet_disk.specs.Calls.{Rose};
+ghost use Rattle.facet_disk.specs.Images.{Told};
+ghost use Rattle.facet_engine.specs.Opening.{IsReady};
+ghost use Rattle.facet_words.specs.Sessions.CommandViews.{script_view};
+ghost use Rattle.facet_words.specs.Sessions.Laws.{AreInOrder};
+ghost use Rattle.store_opening.specs.Quiet.{IsQuiet};
+ghost use Rattle.store_opening.specs.Settled.{IsSettled};
+ghost use Rattle.facet_serving.specs.Serving.{GoesOnBehind, IsCarried, Serves, StaysShut};
+
+use crate::closing::close;
+use crate::counting::count_sessions;
+use crate::status::{Ended, Status};
+use crate::telling::{tell, tell_of_store};
+use commit_store::NotOpened;
+use commit_turns::Start;
+use facet_disk::Disk;
+use facet_engine::{Store, System};
+use facet_io::Sink;
+use facet_phases::{Collector, Gate, Lines, Output, RanToEnd, run_to_end};
+use facet_words::sessions::Script;
+use std::alloc::Global;
+use std::hash::RandomState;
+use std::marker::Brand;
+use std::sync::Wait;
+use std::thread::Threads;
+use taxo_cache::Name;
+
+/// What the sessions of a script came to, and how many documents and labels there were when they began.
+#[derive(Drop)]
+pub(crate) struct Carried<D: Disk> {
+    pub ran: RanToEnd<D>,
+    pub opened: (u64, u32),
+}
+
+// Carries out a script on a store, whose labels the name names. Without memory for the system it gives the disk back.
+fn carry_out_over<
+    N: Name + Start + Send + Sync,
+    R: Threads + Wait + Sync,
+    O: Output<C>,
+    D: Disk,
+    G: Gate + Sync,
+    C: Collector,
+>(
+    rt: &R,
+    alloc: Global,
+    store: Store<D>,
+    script: Script,
+    out: &mut O,
+    gate: &G,
+) -> Result<Carried<D>, D>
+    requires ready { IsReady D.Disk script.settings.config store }
+    requires order { AreInOrder (script_view script).phases }
+    requires next { GoesOnBehind D.Disk store }
+    requires name { store.labels ≡ N.labels }
+    requires told { (N.told → (t : Told) × (D.told store.start.value ≡ Some t)) × ((t : Told) → D.told store.start.value ≡ Some t → N.told) }
+    requires settled { (N.settled → WasSettled D.Disk script.settings.config store.start.value)
+        × ((t : Told) → D.told store.start.value ≡ Some t → IsSettled D.Disk script.settings.config t store.start.value → N.settled) }
+    ensures carried { IfOk result (λ c. IsCarried D.Disk (script_view script) store.start.value (O.flushes out.old out.new) (O.breaks out.old out.new)
+        c.opened c.ran) }
+    ensures quiet { IfErr result (λ disk. IsQuiet D.Disk store.start.value disk) }
+    ensures still { OnErr result (out.new ≡ out.old) }
+{
+    let Script { settings, phases } = script;
+    match System::<D, N>::open(alloc, store, settings) {
+        Ok((system, first)) => {
+            let sessions = count_sessions(&phases);
+            let ran = run_to_end::<D, N, R, G, O, C>(
+                rt, alloc, &system, gate, first, sessions, phases, out,
+            );
+            let opened = system.opened();
+            Ok(Carried { ran, opened })
+        }
+        Err(NotOpened { fault: _, disk }) => Err(disk),
+    }
+}
+
+/// Carries out a script on a store, and hands over what is kept of the replies behind each phase. Without memory for the system it gives the disk back.
+pub(crate) fn carry_out<
+    R: Threads + Wait + Sync,
+    O: Output<C>,
+    D: Disk,
+    G: Gate + Sync,
+    C: Collector,
+>(
+    rt: &R,
+    alloc: Global,
+    store: Store<D>,
+    script: Script,
+    out: &mut O,
+    gate: &G,
+) -> Result<Carried<D>, D>
+    requires ready { IsReady D.Disk script.settings.config store }
+    requires order { AreInOrder (script_view script).phases }
+    requires next { GoesOnBehind D.Disk store }
+    ensures carried { IfOk result (λ c. IsCarried D.Disk (script_view script) store.start.value (O.flushes out.old out.new) (O.breaks out.old out.new)
+        c.opened c.ran) }
+    ensures quiet { IfErr result (λ disk. IsQuiet D.Disk store.start.value disk) }
+    ensures still { OnErr result (out.new ≡ out.old) }
+{
+    carry_out_over::<Brand, R, O, D, G, C>(rt, alloc, store, script, out, gate)
+}
+
+// Carries out a script on a store, and writes the replies after each phase.
+fn serve<R: Threads + Wait + Sync, K: Sink, D: Disk, G: Gate + Sync>(
+    rt: &R,
+    alloc: Global,
+    store: Store<D>,
+    script: Script,
+    sink: &mut K,
+    gate: &G,
+) -> Ended<D>
+    requires ready { IsReady D.Disk script.settings.config store }
+    requires order { AreInOrder (script_view script).phases }
+    requires next { GoesOnBehind D.Disk store }
+    ensures { Serves D.Disk (script_view script) store.start.value result.disk K.Sink sink.old sink.new result.trace result.status
+        ⊎ ((result.status ≡ Status.NoMemory)
+        × StaysShut D.Disk (script_view script) store.start.value result.disk K.Sink sink.old sink.new result.trace result.status) }
+{
+    match carry_out::<R, K, D, G, Lines>(rt, alloc, store, script, sink, gate) {
+        Ok(carried) => close(alloc, sink, carried.opened, carried.ran),
+        Err(disk) => tell(sink, Status::NoMemory, disk),
+    }
+}
+
+/// Carries out a script on the store of a disk: the sessions at once, phase after phase, and writes the replies after each phase.
+pub fn run_script<R: Threads + Wait + Sync, K: Sink, D: Disk, G: Gate + Sync>(
+    rt: &R,
+    alloc: Global,
+    keys: RandomState,
+    sink: &mut K,
+    disk: D,
+    gate: &G,
+    script: Script,
+) -> Ended<D>
+    requires { AreInOrder (script_view script).phases }
+    ensures served { Serves D.Disk (script_view script) disk result.disk K.Sink sink.old sink.new result.trace result.status
+        ⊎ StaysShut D.Disk (script_view script) disk result.disk K.Sink sink.old sink.new result.trace result.status }
+    ensures failed { result.status ≡ Status.DiskFault → (t : Told) → D.told disk ≡ Some t → Rose (D.failures disk) (D.failures result.disk) }
+{
+    let Ok(config) = script.settings.config.dup() else {
+        return tell(sink, Status::NoMemory, disk);
+    };
+    match Store::open(alloc, keys, disk, config) {
+        Ok(store) => serve(rt, alloc, store, script, sink, gate),
+        Err(NotOpened { fault, disk }) => tell_of_store(alloc, sink, fault, disk),
+    }
+}

@@ -1,0 +1,3 @@
+pub mod Searches
+pub mod Showing
+pub mod Replies
