@@ -1,5 +1,5 @@
 -- An add that was tried.
-use Rattle.std.proofs.Common.{◌≡◌, ◌≢◌, ◌∙◌, ℕ, true, List, Ok, Err, sym, subst}
+use Rattle.std.proofs.Common.{◌≡◌, ◌≢◌, ◌∙◌, ℕ, true, List, Ok, Err, refl, sym, subst}
 use Rattle.chronicle.specs.Shown.{Shown, SeesOn}
 use Rattle.chronicle.proofs.Prefixes.{prefix_self}
 use Rattle.facet_model.specs.Documents.{Doc}

@@ -1,5 +1,5 @@
 -- An add is a step.
-use Rattle.std.proofs.Common.{◌≡◌, ◌≢◌, ◌∙◌, inl, inr, eqb, ◌<◌, ◌≤◌, ℕ, Bool, true, false, List, [], ◌∷◌, ◌++◌, length, map, slice_get, Option, Some, None, Result, Ok, Err, refl, sym, ap, subst, arith}
+use Rattle.std.proofs.Common.{◌≡◌, ◌∙◌, inl, inr, eqb, ◌<◌, ◌≤◌, ℕ, Bool, true, false, List, [], ◌∷◌, ◌++◌, length, map, slice_get, Option, Some, None, Result, Ok, Err, refl, sym, ap, subst, arith}
 use Rattle.std.specs.Prelude.{All, Contains, IfSome, flat_map, is_none}
 use Rattle.std.specs.List.{list_all}
 use Rattle.std.proofs.lemmas.Bool.{and_from, both_ways}
@@ -9,7 +9,7 @@ use Rattle.std.proofs.lemmas.List.Sums.{AllPass-from_list_all}
 use mathlib.Core.List.{IsPrefix}
 use Rattle.chronicle.specs.Frame.{Frame}
 use Rattle.chronicle.specs.History.{own_of}
-use Rattle.chronicle.specs.Shown.{Shown, mine, SeesOn, EntersBehind}
+use Rattle.chronicle.specs.Shown.{mine, SeesOn, EntersBehind}
 use Rattle.chronicle.proofs.Prefixes.{prefix_length, prefix_trans}
 use Rattle.facet_config.specs.Faults.{fault_view}
 use Rattle.facet_config.specs.declared.fault.DocFault.{DocFault}
@@ -31,10 +31,9 @@ use Rattle.facet_words.specs.Commands.{Settings}
 use Rattle.pair_manager.specs.declared.pass.Pass.{Pass}
 use Rattle.pair_manager.specs.Passes.{SamePass}
 use Rattle.taxo_cache.specs.Seen.{labels_of}
-use Rattle.taxo_list.specs.declared.fault.TaxoFault.{TaxoFault}
-use Rattle.taxo_list.specs.declared.fault.TaxoFault.TheVariants.{LabelsFull as ListFull, NoMemory as ListNoMemory}
-use Rattle.taxo_adding.specs.Several.{AddsInTurn, IsFullForOne}
-use Rattle.pair_manager.specs.Appended.{HasNoRoom, IsPlaced}
+use Rattle.taxo_list.specs.declared.fault.TaxoFault.TheVariants.{LabelsFull as ListFull}
+use Rattle.taxo_adding.specs.Several.{AddsInTurn}
+use Rattle.pair_manager.specs.Appended.{IsPlaced}
 use Rattle.facet_adding.specs.Adding.{HasTried}
 use Rattle.facet_engine.specs.Replies.{add_reply}
 use Rattle.facet_engine.specs.Sessions.{HaveOneNumber, NamesSession}

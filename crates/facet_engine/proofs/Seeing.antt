@@ -1,9 +1,8 @@
 -- What tokens have seen and entered, as plain data.
-use Rattle.std.proofs.Common.{◌≡◌, ◌∙◌, ℕ, eqb, Bool, true, false, cond, [], ◌∷◌, ◌++◌, map, refl, sym, ap, subst}
+use Rattle.std.proofs.Common.{◌≡◌, ◌∙◌, ℕ, eqb, Bool, true, false, cond, [], ◌∷◌, ◌++◌, map, refl, sym, ap}
 use Rattle.std.proofs.lemmas.List.{map-append}
 use mathlib.Core.List.{IsPrefix}
 use Rattle.chronicle.specs.History.{own_of}
-use Rattle.chronicle.proofs.Prefixes.{prefix_self}
 use Rattle.chronicle.specs.Shown.{Shown, SameToken, SeesOn, EntersBehind as Enters}
 use Rattle.facet_model.specs.Histories.{Operation}
 use Rattle.pair_manager.specs.declared.pass.Pass.{Pass}

@@ -36,7 +36,15 @@ pub fn run_script<R: AllocGlobal + Threads + Wait + Sync>(rt: &R, setup: &mut Se
     let mut sink = take_sink(alloc, setup);
     let disk: MemoryDisk = mem::replace(&mut setup.disk, empty_disk(alloc));
     let gate = HoldsOne::new(setup.held);
-    let ended = run(rt, setup.keys, &setup.words, &mut source, &mut sink, disk, &gate);
+    let ended = run(
+        rt,
+        setup.keys,
+        &setup.words,
+        &mut source,
+        &mut sink,
+        disk,
+        &gate,
+    );
     setup.disk = ended.disk;
     Ran {
         status: ended.status,

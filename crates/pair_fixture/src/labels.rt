@@ -30,5 +30,9 @@ pub fn open_labels(alloc: Global) -> Option<Opened> {
     let keys = fixed_keys().ok()?;
     let list = Taxonomy::new(alloc, keys).ok()?;
     let (labels, first) = Chronicle::open(alloc, LabelList::new(list)).ok()?;
-    Some(Opened { keys, labels, first })
+    Some(Opened {
+        keys,
+        labels,
+        first,
+    })
 }

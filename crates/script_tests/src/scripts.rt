@@ -89,7 +89,9 @@ fn are_as_told(orders: &[Order], expected: &[Summary]) -> bool {
 
 // Whether the orders of all phases are as told.
 fn has_orders(script: &Script) -> bool {
-    let same = |(orders, expected): (&Vec<Order>, &&[Summary])| -> bool { are_as_told(orders, *expected) };
+    let same = |(orders, expected): (&Vec<Order>, &&[Summary])| -> bool {
+        are_as_told(orders, *expected)
+    };
     script.phases.len() == SUMMARIES.len() && script.phases.iter().zip(SUMMARIES).all(same)
 }
 

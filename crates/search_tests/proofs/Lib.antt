@@ -1,2 +1,2 @@
+mod Alike
 mod Stored
-mod Thinned

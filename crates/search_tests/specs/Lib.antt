@@ -1,1 +1,1 @@
-pub mod Thinned
+pub mod Alike

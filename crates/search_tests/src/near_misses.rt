@@ -1,6 +1,6 @@
 //! Generated searches over stored segments, a quarter of them over segments in which some records are no longer live: one pass for all dimensions answers as a
 //! pass for each does.
-ghost use Rattle.std.specs.Prelude.{◌≡◌, ◌≤◌, List, length, map};
+ghost use Rattle.std.specs.Prelude.{◌≡◌, ◌<◌, ◌≤◌, List, length, map};
 ghost use Rattle.std.specs.Arc.{arc_value};
 ghost use Rattle.facet_model.specs.Documents.{Doc};
 ghost use Rattle.facet_model.specs.Stored.{Decodes};

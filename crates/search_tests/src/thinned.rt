@@ -1,7 +1,7 @@
 ghost use Rattle.std.specs.Prelude.{map, IfOk};
 ghost use Rattle.std.specs.Arc.{arc_value};
 ghost use Rattle.std.specs.List.{AllZip};
-ghost use Rattle.search_tests.specs.Thinned.{IsStoredAlike};
+ghost use Rattle.search_tests.specs.Alike.{IsStoredAlike};
 
 use crate::draws::Draws;
 use seg_file::Segment;

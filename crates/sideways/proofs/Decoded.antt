@@ -20,7 +20,8 @@ use Rattle.query_eval.specs.Segments.{HasTermsOf}
 use Rattle.query_eval.proofs.Marks.{places_from}
 use Rattle.live_records.proofs.Alive.{is_in-is_dead, length_alive, live_places}
 use Rattle.seg_postings.specs.Sets.{picked, without}
-use Rattle.sideways.specs.Counted.{AreCountable, ArePartsOf, IsPartOf, PartLeft, lists_at, lists_of, live_in, placed, ranks_from}
+use Rattle.seg_drill.specs.Counting.{AreCountable, lists_at}
+use Rattle.sideways.specs.Counted.{ArePartsOf, IsPartOf, PartLeft, lists_of, live_in, placed, ranks_from}
 use Rattle.sideways.proofs.Placed.{alive_in}
 use Rattle.facet_names.proofs.LabelLists.{label_stands}
 use Rattle.seg_grammar.proofs.Marks.{no_record}

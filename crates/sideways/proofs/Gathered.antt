@@ -13,7 +13,8 @@ use Rattle.facet_model.specs.Documents.{Doc}
 use Rattle.facet_model.specs.Queries.{QueryTree}
 use Rattle.facet_model.specs.Stored.{Records}
 use Rattle.facet_counts.specs.Tallies.{Tally, HasAdded}
-use Rattle.sideways.specs.Counted.{ArePartsOf, IsPartOf, PartLeft, is_again, is_drilled, is_first, is_near, passes_all}
+use Rattle.seg_drill.specs.Passing.{is_again, is_first, passes_all}
+use Rattle.sideways.specs.Counted.{ArePartsOf, IsPartOf, PartLeft, is_drilled, is_near}
 use Rattle.sideways.specs.Kept.{AreDistinct, HasNear, HasNears, HasPart, HasParts, IsLiftedOf, IsPassOf, dim_in}
 use Rattle.sideways.specs.Questions.{Question}
 use Rattle.sideways.specs.declared.pass.LiftedPass.{LiftedPass}

@@ -1,5 +1,5 @@
-pub mod Narrowed
-pub mod Walked
+pub mod Passed
+pub mod Taken
 pub mod Refused
 pub mod Placed
 pub mod Decoded

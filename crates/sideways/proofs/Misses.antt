@@ -10,7 +10,8 @@ use Rattle.std.proofs.lemmas.List.Sums.{sum_by-cons}
 use Rattle.facet_model.specs.Documents.{Doc, dim_of}
 use Rattle.facet_model.specs.Hits.{passes}
 use Rattle.facet_model.specs.Queries.{QueryTree, matches}
-use Rattle.sideways.specs.Counted.{fails_alone, is_drilled, is_near, passes_all}
+use Rattle.seg_drill.specs.Passing.{passes_all}
+use Rattle.sideways.specs.Counted.{fails_alone, is_drilled, is_near}
 use Rattle.sideways.specs.Kept.{AreDistinct, dim_in}
 use Rattle.sideways.specs.declared.pass.LiftedPass.{LiftedPass}
 use Rattle.std.specs.Cmp.{both_ways}

@@ -8,8 +8,9 @@ use Rattle.seg_grammar.specs.Lookups.{record_of}
 use Rattle.std.proofs.lemmas.List.Sums.{sum_by-cons}
 use Rattle.facet_counts.specs.Tallies.{Tally}
 use Rattle.facet_model.specs.Stored.{is_dead, live_before}
-use Rattle.sideways.specs.Counted.{PartLeft, AreCountable, IsGrown, IsNoting, IsReady, IsTaking, lists_at, lists_of, live_in, placed, ranks_from}
-use Rattle.sideways.proofs.Walked.{grown_more}
+use Rattle.seg_drill.specs.Counting.{AreCountable, IsGrown, lists_at}
+use Rattle.sideways.specs.Counted.{PartLeft, IsNoting, IsReady, IsTaking, lists_of, live_in, placed, ranks_from}
+use Rattle.seg_drill.proofs.Walked.{grown_more}
 use Rattle.std.proofs.lemmas.List.Elements.{All-from_recursion}
 
 sum_to : {A : Type 0} (f : A → ℕ) (xs : List A) (i : ℕ) (d : A) → i < length xs → sum_by f (take i xs) + f (get_or xs i d) ≤ sum_by f xs

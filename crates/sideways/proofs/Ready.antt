@@ -19,7 +19,9 @@ use Rattle.query_eval.specs.Segments.{HasTermsOf}
 use Rattle.query_eval.proofs.Living.{live_number}
 use Rattle.live_records.proofs.Alive.{length_alive}
 use Rattle.facet_counts.specs.Lists.{counts_for}
-use Rattle.sideways.specs.Counted.{AreCountable, ArePartsOf, HasRoomFor, IsReady, PartLeft, is_near, lists_of, live_in, passes_all, placed}
+use Rattle.seg_drill.specs.Counting.{AreCountable}
+use Rattle.seg_drill.specs.Passing.{passes_all}
+use Rattle.sideways.specs.Counted.{ArePartsOf, HasRoomFor, IsReady, PartLeft, is_near, lists_of, live_in, placed}
 use Rattle.sideways.specs.Kept.{AreCountsOf, AreHitsIn, IsLiftedOf, IsPassOf}
 use Rattle.sideways.specs.Questions.{Question, HasDocs, counted_of, docs_of}
 use Rattle.sideways.specs.declared.pass.Pass.{Pass}

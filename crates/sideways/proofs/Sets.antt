@@ -21,11 +21,12 @@ use Rattle.query_eval.specs.Segments.{HasTermsOf, passes_tests}
 use Rattle.seg_postings.specs.Rising.{IsRising, is_in}
 use Rattle.seg_postings.specs.Sets.{without}
 use Rattle.seg_postings.proofs.Members.{is_in-without}
-use Rattle.sideways.specs.Counted.{AreNodesFor, IsMarkedBy, IsSetWithin, fails_alone, is_drilled, is_near}
+use Rattle.seg_drill.specs.Counting.{IsSetWithin}
+use Rattle.sideways.specs.Counted.{AreNodesFor, IsMarkedBy, fails_alone, is_drilled, is_near}
 use Rattle.sideways.specs.Kept.{AreDistinct, HasNear, IsGivenSet, IsGivenSets, dim_in}
 use Rattle.sideways.specs.declared.pass.LiftedPass.{LiftedPass}
 use Rattle.sideways.proofs.Misses.{near_test, test_of}
-use Rattle.sideways.proofs.Narrowed.{within_docs}
+use Rattle.sideways.proofs.Passed.{within_docs}
 
 pub have_words : (docs : ℕ) (nodes : List Planned) (sets : List Marked) → AllZip (IsMarkedBy docs) nodes sets → HaveWords ((docs + 63) / 64) sets
 have_words docs [] [] are = tt

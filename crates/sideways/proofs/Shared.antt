@@ -15,9 +15,10 @@ use Rattle.seg_postings.specs.Rising.{IsRising, is_in}
 use Rattle.seg_postings.specs.Sets.{without}
 use Rattle.seg_postings.proofs.Members.{is_in-without, one_rising}
 use Rattle.seg_postings.proofs.Sets.{rising_without}
-use Rattle.sideways.specs.Counted.{AreAllOf, AreNodesFor, IsAmong, IsMarkedBy}
+use Rattle.seg_drill.specs.Passing.{AreAllOf}
+use Rattle.sideways.specs.Counted.{AreNodesFor, IsAmong, IsMarkedBy}
 use Rattle.sideways.proofs.Gathered.{all_front, all_last}
-use Rattle.sideways.proofs.Narrowed.{all_have_more}
+use Rattle.seg_drill.proofs.Narrowed.{all_have_more}
 use Rattle.std.proofs.Math.Bool.{and-true}
 use Rattle.live_records.proofs.Added.{below_in}
 use Rattle.std.proofs.lemmas.List.{nil_from_length}

@@ -1,36 +1,22 @@
 -- What a pass finds and counts, segment by segment.
-use Rattle.std.specs.Prelude.{◌≡◌, ℕ, ◌+◌, ◌<◌, ◌≤◌, ◌++◌, ◌/◌, ◌&&◌, ◌||◌, Bool, nat_le, filter, true, false, not, List, [], ◌∷◌, length, take, map, flat_map, Option, Some, None, slice_get, slice_index_or, sum_by}
-use Rattle.std.specs.List.{list_any, list_all, AllZip, AllByRecursion}
+use Rattle.std.specs.Prelude.{◌≡◌, ℕ, ◌+◌, ◌<◌, ◌≤◌, ◌++◌, ◌/◌, ◌&&◌, Bool, nat_le, filter, true, not, List, [], ◌∷◌, length, take, map, flat_map, Some, sum_by}
+use Rattle.std.specs.List.{list_any, AllZip, AllByRecursion}
 use Rattle.std.specs.Str.{bytes_eq}
 use Rattle.facet_model.specs.CountedPaths.{places}
 use Rattle.facet_model.specs.Documents.{Doc, dim_of}
-use Rattle.facet_model.specs.Flags.{Config}
 use Rattle.facet_model.specs.Hits.{passes}
-use Rattle.facet_model.specs.Queries.{QueryTree, matches}
+use Rattle.facet_model.specs.Queries.{QueryTree}
 use Rattle.facet_model.specs.Stored.{Records, live_before}
-use Rattle.facet_counts.specs.Lists.{IsCounted}
 use Rattle.facet_counts.specs.Tallies.{Tally, HasAdded}
 use Rattle.place_bits.specs.Words.{Marked}
-use Rattle.plan_places.specs.Planned.{Planned, all_have}
+use Rattle.plan_places.specs.Planned.{Planned}
 use Rattle.query_eval.specs.Segments.{HasTermsOf}
-use Rattle.seg_grammar.specs.Lookups.{record_of}
-use Rattle.seg_postings.specs.Rising.{IsRising, is_in}
+use Rattle.seg_drill.specs.Counting.{AreCountable, IsGrown, lists_at}
+use Rattle.seg_drill.specs.Passing.{passes_all}
+use Rattle.seg_postings.specs.Rising.{is_in}
 use Rattle.seg_postings.specs.Sets.{without}
 
 -- ---- the documents of a pass
-
--- the dimension is the one that is lifted
-abbrev pub is_lifted : Option (List ℕ) → List ℕ → Bool
-is_lifted None dim = false
-is_lifted (Some other) dim = bytes_eq dim other
-
--- it passes the dimensions of these paths of a drill, but for the one that is lifted
-abbrev pub passes_each : List (List (List ℕ)) → Option (List ℕ) → List (List (List ℕ)) → Doc → Bool
-passes_each drill lift paths doc = list_all (λ path. is_lifted lift (dim_of path) || passes doc drill (dim_of path)) paths
-
--- it matches the query, and passes all dimensions of the drill but for the one that is lifted
-abbrev pub passes_all : QueryTree → List (List (List ℕ)) → Option (List ℕ) → Doc → Bool
-passes_all query drill lift doc = matches query doc && passes_each drill lift drill doc
 
 -- the dimension is one of the drill
 abbrev pub is_drilled : List (List (List ℕ)) → List ℕ → Bool
@@ -39,19 +25,6 @@ is_drilled drill dim = list_any (λ path. bytes_eq (dim_of path) dim) drill
 -- it matches the query, and of the dimensions of the drill it fails this one alone
 abbrev pub is_near : QueryTree → List (List (List ℕ)) → List ℕ → Doc → Bool
 is_near query drill dim doc = passes_all query drill (Some dim) doc && not (passes doc drill dim)
-
--- a path of the dimension is before the place
-abbrev pub is_again : List (List (List ℕ)) → ℕ → List ℕ → Bool
-is_again drill at dim = list_any (λ path. bytes_eq (dim_of path) dim) (take at drill)
-
--- the path at the place is the first of its dimension, and that is not lifted
-abbrev pub is_first : List (List (List ℕ)) → ℕ → Option (List ℕ) → Bool
-is_first drill at lift = not (is_again drill at (dim_of (slice_index_or drill at []))) && not (is_lifted lift (dim_of (slice_index_or drill at [])))
-
--- Each node has places of documents alone. Where a document stands all have its place exactly where it passes the test.
-pub record AreAllOf (docs : List Doc) (test : Doc → Bool) (nodes : List Planned) : Type 0 where
-  pub each : AllByRecursion (λ p. (other : Doc → Bool) × (p.left ≡ places other docs)) nodes
-  pub have : (n : ℕ) (doc : Doc) → slice_get docs n ≡ Some doc → all_have n nodes ≡ test doc
 
 -- Each node has the places of the documents that pass the test beside it.
 abbrev pub AreNodesFor : List Doc → List (Doc → Bool) → List Planned → Type 0
@@ -76,16 +49,6 @@ pub record PartLeft : Type 0 where
   pub segment : Records
   pub left : List ℕ
 
--- The places rise, and at each there is a record.
-pub record AreWithin (segment : Records) (places : List ℕ) : Type 0 where
-  pub rising : IsRising places
-  pub within : (n : ℕ) → is_in n places ≡ true → n < length segment.records
-
--- The set has room for the documents of the segment, and at each of its places there is a record.
-pub record IsSetWithin (segment : Records) (set : Marked) : Type 0 where
-  pub words : set.words ≡ (length segment.records + 63) / 64
-  pub within : AreWithin segment set.places
-
 -- the part is of this segment, and has the live records of the documents that pass
 pub record IsPartOf (test : Doc → Bool) (segment : Records) (part : PartLeft) : Type 0 where
   pub same : part.segment ≡ segment
@@ -93,23 +56,9 @@ pub record IsPartOf (test : Doc → Bool) (segment : Records) (part : PartLeft) 
 
 -- ---- counting
 
--- the counted ordinals of each record may be counted
-abbrev pub AreCountable : Config → List (List (List ℕ)) → Records → Type 0
-AreCountable config labels segment = (doc : ℕ) → doc < length segment.records → IsCounted config labels (record_of segment doc).counted
-
--- the counted ordinals of the records at the places
-abbrev pub lists_at : Records → List ℕ → List (List ℕ)
-lists_at segment places = map (λ place. (record_of segment place).counted) places
-
+-- the counted ordinals of the records of all parts
 abbrev pub lists_of : List PartLeft → List (List ℕ)
 lists_of parts = flat_map (λ p. lists_at p.segment p.left) parts
-
--- These lists were added to the counter.
-pub record IsGrown (old new : Tally) (lists : List (List ℕ)) : Type 0 where
-  pub added : (before : List (List ℕ)) → HasAdded old before → HasAdded new (before ++ lists)
-  pub number : new.added ≡ old.added + length lists
-  pub labels : new.labels ≡ old.labels
-  pub config : new.config ≡ old.config
 
 -- how many of the records are live
 abbrev pub live_in : Records → ℕ

@@ -13,7 +13,8 @@ use Rattle.facet_model.specs.Queries.{QueryTree}
 use Rattle.facet_model.specs.Stored.{Records}
 use Rattle.facet_counts.specs.Tallies.{Tally, Totals, AreCounts, HasAdded}
 use Rattle.place_bits.specs.Words.{Marked}
-use Rattle.sideways.specs.Counted.{ArePartsOf, IsPartOf, PartLeft, is_drilled, is_near, passes_all}
+use Rattle.seg_drill.specs.Passing.{passes_all}
+use Rattle.sideways.specs.Counted.{ArePartsOf, IsPartOf, PartLeft, is_drilled, is_near}
 use Rattle.sideways.specs.Questions.{Question, HasDocs, counted_of}
 use Rattle.sideways.specs.Refusals.{first_refused}
 use Rattle.sideways.specs.declared.pass.Pass.{Pass}

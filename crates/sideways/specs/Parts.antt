@@ -1,7 +1,7 @@
 -- The records of a segment that a part has left.
 use Rattle.std.specs.Prelude.{ℕ, List, []}
 use Rattle.facet_model.specs.Stored.{Records}
-use Rattle.sideways.specs.Counted.{AreWithin, IsSetWithin}
+use Rattle.seg_drill.specs.Counting.{AreWithin, IsSetWithin}
 use Rattle.sideways.specs.declared.part.Left.{Left}
 use Rattle.sideways.specs.declared.part.Left.TheVariants.{At, Marked, Nothing}
 

@@ -6,47 +6,13 @@ ghost use Rattle.facet_model.specs.Documents.{Doc};
 ghost use Rattle.facet_codec.specs.Laws.{IsBelow};
 ghost use Rattle.seg_postings.specs.Rising.{IsRising};
 ghost use Rattle.seg_postings.specs.Sets.{without};
-ghost use Rattle.sideways.specs.Counted.{AreAllOf, IsAmong, IsMarkedBy};
+ghost use Rattle.seg_drill.specs.Passing.{AreAllOf};
+ghost use Rattle.sideways.specs.Counted.{IsAmong, IsMarkedBy};
 
 use facet_names::NoMemory;
 use place_bits::Bits;
 use plan_places::PlanNode;
 use std::alloc::Global;
-
-// A walk asks every node at each place of the one that has the fewest. Bits mark all places of all nodes, and cost a word for 64 documents.
-const MORE_THAN_MARKED: u64 = 8;
-
-/// Whether bits are the quicker way to what the nodes have in common.
-pub(crate) fn are_many(nodes: &[PlanNode<'_>], docs: u32) -> bool {
-    let mut fewest = docs as u64;
-    let mut all: u64 = 0;
-    for node in nodes {
-        fewest = fewest.min(node.at_most());
-        all = all.saturating_add(node.at_most());
-    }
-    let marks = nodes.len() > 1 || nodes.iter().all(|node| node.is_of_lists());
-    marks && fewest >= docs as u64 / 64 && all / MORE_THAN_MARKED <= fewest
-}
-
-/// Whether bits are the quicker way to the near misses of some dimensions among what the base has. Without bits each dimension has a walk of its own,
-/// whose lead is the fewest of the base and of the other dimensions: that of the dimension with the fewest places is the longest.
-pub(crate) fn are_near_many(base: &[PlanNode<'_>], dims: &[PlanNode<'_>], docs: u32) -> bool {
-    let mut lead = docs as u64;
-    let mut all: u64 = 0;
-    for node in base {
-        lead = lead.min(node.at_most());
-        all = all.saturating_add(node.at_most());
-    }
-    let mut fewest = docs as u64;
-    let mut second = docs as u64;
-    for node in dims {
-        second = second.min(fewest.max(node.at_most()));
-        fewest = fewest.min(node.at_most());
-        all = all.saturating_add(node.at_most());
-    }
-    lead = lead.min(second);
-    lead >= docs as u64 / 64 && all / MORE_THAN_MARKED <= lead
-}
 
 /// The places that each node has, as bits.
 pub(crate) fn marked_each(

@@ -8,7 +8,8 @@ ghost use Rattle.facet_model.specs.QueryViews.{query_view};
 ghost use Rattle.facet_model.specs.Stored.{Decodes};
 ghost use Rattle.facet_names.specs.Labels.{IsLabelList};
 ghost use Rattle.query_eval.specs.Segments.{HasTermsOf};
-ghost use Rattle.sideways.specs.Counted.{is_drilled, passes_all};
+ghost use Rattle.seg_drill.specs.Passing.{passes_all};
+ghost use Rattle.sideways.specs.Counted.{is_drilled};
 ghost use Rattle.facet_names.specs.Texts.{text_in};
 ghost use Rattle.sideways.specs.Kept.{AreCountsOf, IsPassOf};
 ghost use Rattle.sideways.specs.Refusals.{first_refused};
@@ -18,13 +19,13 @@ ghost use Rattle.sideways.specs.declared.ask.AskRefused.TheVariants.{NoMemory as
 
 use crate::answer::SidewaysAnswer;
 use crate::ask::{AskRefused, SearchAsk, first_refusal};
-use crate::node::is_first;
 use crate::part::Part;
 use crate::pass::{Found, Hits, LiftedCounts, Pass};
 use crate::plan::limit_of;
 use facet_config::FacetsConfig;
 use facet_counts::Counts;
 use facet_names::NoMemory;
+use seg_drill::is_first;
 use seg_file::Segment;
 use std::alloc::Global;
 use std::sync::Arc;
@@ -47,7 +48,7 @@ fn pass_over<'a>(
     let mut pass = Pass::new(alloc, view, config, segments.len())?;
     for segment in segments {
         let part = Part::new(alloc, segment, &ask.query, &ask.drill, lifted)?;
-        pass.parts.push(part)?;
+        pass.add(part)?;
     }
     Ok(pass)
 }

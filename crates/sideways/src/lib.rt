@@ -5,10 +5,9 @@
 mod answer;
 mod ask;
 mod common;
-mod count;
+mod costs;
 pub mod laws;
 mod near;
-mod node;
 mod part;
 mod pass;
 mod plan;

@@ -1,28 +1,30 @@
 //! The parts of one segment: the hits, and for each drilled dimension the documents that it alone leaves out. Records that are not live are in none.
-ghost use Rattle.std.specs.Prelude.{◌≡◌, ◌+◌, ◌/◌, ◌&&◌, ◌∷◌, ◌++◌, [], Bool, ℕ, List, None, IfOk, OnOk, length, map, slice_index_or};
+ghost use Rattle.std.specs.Prelude.{◌≡◌, ◌==◌, ◌+◌, ◌/◌, ◌&&◌, ◌∷◌, ◌++◌, [], Bool, ℕ, List, None, IfOk, OnOk, length, map, slice_index_or};
 ghost use Rattle.std.specs.List.{AllByRecursion, AllZip, list_any};
 ghost use Rattle.std.specs.Str.{bytes_eq};
 ghost use Rattle.facet_model.specs.CountedPaths.{places};
 ghost use Rattle.facet_model.specs.Documents.{Doc};
 ghost use Rattle.facet_model.specs.Hits.{passes};
 ghost use Rattle.facet_model.specs.QueryViews.{query_view};
-ghost use Rattle.place_bits.specs.Misses.{HaveWords};
+ghost use Rattle.place_bits.specs.Misses.{HaveWords, IsNear, fails};
 ghost use Rattle.query_eval.specs.Segments.{HasTermsOf, passes_tests};
 ghost use Rattle.facet_codec.specs.Laws.{IsBelow};
-ghost use Rattle.seg_postings.specs.Rising.{IsRising};
+ghost use Rattle.seg_postings.specs.Rising.{IsRising, is_in};
 ghost use Rattle.seg_postings.specs.Sets.{without};
-ghost use Rattle.sideways.specs.Counted.{AreAllOf, AreNodesFor, IsSetWithin, fails_alone, is_drilled, passes_all};
+ghost use Rattle.seg_drill.specs.Counting.{IsSetWithin};
+ghost use Rattle.seg_drill.specs.Passing.{AreAllOf, passes_all};
+ghost use Rattle.sideways.specs.Counted.{AreNodesFor, fails_alone, is_drilled};
 ghost use Rattle.sideways.specs.Kept.{AreDistinct, HasNear, HasPart, IsGivenSet, IsGivenSets, dim_in};
 
-use crate::common::{are_near_many, in_common, marked_each};
-use crate::node::base_nodes;
+use crate::common::{in_common, marked_each};
+use crate::costs::{are_near_many, lists_of};
 use crate::part::Part;
 use crate::pass::{LiftedPass, Pass};
 use facet_model::{Drill, Query};
 use facet_names::NoMemory;
 use place_bits::{Bits, near_misses};
 use plan_places::PlanNode;
-use query_eval::paths_node;
+use seg_drill::{base_nodes, push_paths};
 use seg_file::Segment;
 use std::alloc::Global;
 
@@ -45,10 +47,24 @@ fn dim_nodes<'a>(
 {
     let mut nodes = Vec::with_capacity(alloc, lifted.len())?;
     for one in lifted {
-        let node = paths_node(alloc, segment, drill, one.dim)?;
-        nodes.push(node)?;
+        push_paths(alloc, segment, drill, one.dim, &mut nodes)?;
     }
     Ok(nodes)
+}
+
+// Leaves of the base the hits, and of each dimension the places that it alone leaves out.
+fn leave_near(alloc: Global, docs: u32, base: &mut Bits, dims: &mut [Bits]) -> Result<(), NoMemory>
+    requires words { base.old.words ≡ (docs + 63) / 64 }
+    requires dims { HaveWords base.old.words dims.old }
+    ensures words { OnOk result (base.new.words ≡ base.old.words) }
+    ensures hits { OnOk result ((n : ℕ) → is_in n base.new.places ≡ (is_in n base.old.places && fails dims.old n == 0)) }
+    ensures rising { OnOk result (IsRising base.new.places) }
+    ensures near { OnOk result (AllZip (IsNear base.old.places dims.old) dims.old dims.new) }
+{
+    let mut ones = Bits::none(alloc, docs)?;
+    let mut twos = Bits::none(alloc, docs)?;
+    near_misses(base, dims, &mut ones, &mut twos);
+    Ok(())
 }
 
 // What all nodes have, and what each dimension alone leaves out, a word for 64 documents at a time. Both are without the dead.
@@ -74,9 +90,7 @@ fn near_sets(
 {
     let mut hits = in_common(alloc, base, docs, dead)?;
     let mut near = marked_each(alloc, dims, docs)?;
-    let mut ones = Bits::none(alloc, docs)?;
-    let mut twos = Bits::none(alloc, docs)?;
-    near_misses(&mut hits, &mut near, &mut ones, &mut twos);
+    leave_near(alloc, docs, &mut hits, &mut near)?;
     Ok(NearSets { hits, near })
 }
 
@@ -92,7 +106,7 @@ fn add_sets<'a>(
 {
     let mut k = 0;
     for set in sets {
-        lifted[k].pass.parts.push(Part::marked(segment, set))?;
+        lifted[k].pass.add(Part::marked(segment, set))?;
         k += 1;
     }
     Ok(())
@@ -111,7 +125,7 @@ fn add_walks<'a>(
 {
     for one in lifted.iter_mut() {
         let part = Part::near(alloc, segment, query, drill, one.dim)?;
-        one.pass.parts.push(part)?;
+        one.pass.add(part)?;
     }
     Ok(())
 }
@@ -133,19 +147,19 @@ pub(crate) fn add_segment<'a>(
 {
     if lifted.is_empty() {
         let part = Part::new(alloc, segment, query, drill, None)?;
-        hits.parts.push(part)?;
+        hits.add(part)?;
         return Ok(());
     }
     let mut base = base_nodes(alloc, segment, query)?;
     let mut dims = dim_nodes(alloc, segment, drill, lifted)?;
-    if are_near_many(&base, &dims, segment.docs()) {
+    let lists = lists_of(query, drill);
+    if are_near_many(&base, &dims, lists, segment.docs()) {
         let sets = near_sets(alloc, segment.docs(), segment.dead(), base, dims)?;
-        hits.parts.push(Part::marked(segment, sets.hits))?;
-        add_sets(segment, sets.near, lifted)?;
-        return Ok(());
+        hits.add(Part::marked(segment, sets.hits))?;
+        return add_sets(segment, sets.near, lifted);
     }
     base.append(&mut dims)?;
-    let part = Part::of_nodes(alloc, segment, base)?;
-    hits.parts.push(part)?;
+    let part = Part::of_nodes(alloc, segment, base, lists)?;
+    hits.add(part)?;
     add_walks(alloc, segment, query, drill, lifted)
 }

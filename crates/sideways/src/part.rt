@@ -4,19 +4,21 @@ ghost use Rattle.facet_model.specs.QueryViews.{query_view};
 ghost use Rattle.facet_model.specs.Stored.{live_before};
 ghost use Rattle.query_eval.specs.Segments.{HasTermsOf};
 ghost use Rattle.seg_postings.specs.Rising.{IsNext};
-ghost use Rattle.sideways.specs.Counted.{AreAllOf, AreCountable, IsGrown, IsPartOf, IsSetWithin, is_near, lists_at, live_in, passes_all};
+ghost use Rattle.seg_drill.specs.Counting.{AreCountable, IsGrown, IsSetWithin, lists_at};
+ghost use Rattle.seg_drill.specs.Passing.{AreAllOf, passes_all};
+ghost use Rattle.sideways.specs.Counted.{IsPartOf, is_near, live_in};
 ghost use Rattle.facet_names.specs.Texts.{text_in};
 ghost use Rattle.sideways.specs.Parts.{IsLeft, left_of};
 
-use crate::common::{are_many, in_common};
-use crate::count::{count_marked, count_places};
-use crate::node::{joined, nodes_of, without_one};
+use crate::common::in_common;
+use crate::costs::{are_many, lists_of};
 use facet_counts::Counter;
 use facet_model::{Drill, Query};
 use facet_names::NoMemory;
 use place_bits::{BitPlaces, Bits};
 use plan_places::{PlanNode, PlanPlaces};
 use query_eval::{live_node, paths_node};
+use seg_drill::{count_marked, count_places, count_record, joined, nodes_of, without_one};
 use seg_file::Segment;
 use seg_postings::Places;
 use std::alloc::Global;
@@ -80,20 +82,21 @@ impl<'a> Part<'a> {
         ensures { IfOk result (λ p. IsPartOf (passes_all (query_view query.now) drill.now (text_in lifted.entry)) segment.now p) }
     {
         let nodes = nodes_of(alloc, segment, query, drill, lifted)?;
-        Part::of_nodes(alloc, segment, nodes)
+        Part::of_nodes(alloc, segment, nodes, lists_of(query, drill))
     }
 
-    /// The live records of the documents that all nodes have.
+    /// The live records of the documents that all nodes have, which are made of about so many lists.
     pub(crate) fn of_nodes(
         alloc: Global,
         segment: &'a Segment,
         nodes: Vec<PlanNode<'a>>,
+        lists: u64,
     ) -> Result<Part<'a>, NoMemory>
         requires { (docs : List Doc) × (test : Doc → Bool) × AreAllOf docs test nodes.items × HasTermsOf segment.now docs }
         ensures { IfOk result (λ p. (test : Doc → Bool) → ((docs : List Doc) → HasTermsOf segment.now docs → AreAllOf docs test nodes.entry.items)
             → IsPartOf test segment.now p) }
     {
-        if nodes.is_empty() || are_many(&nodes, segment.docs()) {
+        if nodes.is_empty() || are_many(&nodes, lists, segment.docs()) {
             let common = in_common(alloc, nodes, segment.docs(), segment.dead())?;
             return Ok(Part::marked(segment, common));
         }
@@ -152,7 +155,7 @@ impl<'a> Part<'a> {
         requires room { counter.old.added < 1000000 }
         ensures { IsGrown counter.old counter.new (lists_at self.now.segment (place ∷ [])) }
     {
-        counter.add_doc(self.segment.counted(place));
+        count_record(self.segment, place, counter);
     }
 
     /// Counts all records left, and says how many they are.

@@ -1,8 +1,9 @@
-ghost use Rattle.std.specs.Prelude.{◌≡◌, ◌+◌, ◌≤◌, ◌<◌, ◌⊎◌, ◌++◌, ◌∷◌, [], ℕ, List, IfOk, length, take};
+ghost use Rattle.std.specs.Prelude.{◌≡◌, ◌+◌, ◌≤◌, ◌<◌, ◌⊎◌, ◌++◌, ◌∷◌, [], ℕ, List, IfOk, OnOk, length, take};
 ghost use Rattle.std.specs.Vec.{vec_capacity, vec_len};
 ghost use Rattle.facet_names.specs.Labels.{IsLabelList};
 ghost use Rattle.facet_counts.specs.Tallies.{AreCounts, HasAdded};
-ghost use Rattle.sideways.specs.Counted.{AreCountable, HasRoomFor, IsGrown, IsNoting, IsTaking, IsReady, lists_at, lists_of, live_in, placed};
+ghost use Rattle.seg_drill.specs.Counting.{AreCountable, IsGrown, lists_at};
+ghost use Rattle.sideways.specs.Counted.{HasRoomFor, IsNoting, IsTaking, IsReady, lists_of, live_in, placed};
 
 use crate::part::Part;
 use facet_config::FacetsConfig;
@@ -125,6 +126,15 @@ impl<'a> Pass<'a> {
         let parts = Vec::with_capacity(alloc, segments)?;
         let counter = Counter::new(alloc, view, config)?;
         Ok(Pass { parts, counter })
+    }
+
+    /// Adds a part behind the others.
+    pub(crate) fn add(&mut self, part: Part<'a>) -> Result<(), NoMemory>
+        ensures parts { OnOk result (self.new.parts.items ≡ self.old.parts.items ++ part.entry ∷ []) }
+        ensures counter { OnOk result (self.new.counter ≡ self.old.counter) }
+    {
+        self.parts.push(part)?;
+        Ok(())
     }
 
     /// Counts all documents that are found, and those that the hits' counter has counted. It takes no memory.

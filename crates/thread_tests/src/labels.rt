@@ -55,7 +55,9 @@ fn ordinals_of<N: Name, R: Wait>(
     if stripes == 0 || cache == 0 {
         return None;
     }
-    let writer = TaxoWriter::<N>::open(alloc, keys, labels, &mut first, stripes, cache, 1_000_000).ok()?;
+    let writer = TaxoWriter::<N>::open(
+        alloc, keys, labels, &mut first, stripes, cache, 1_000_000,
+    ).ok()?;
     let before = ordinal_of(rt, &writer, &mut first, one)?;
     let beside = ordinal_of(rt, &writer, &mut first, two)?;
     let after = ordinal_of(rt, &writer, &mut first, one)?;

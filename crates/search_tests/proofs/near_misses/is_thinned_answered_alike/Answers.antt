@@ -2,8 +2,8 @@ use Rattle.std.proofs.Common.{◌∙◌, ◌≡◌, ◌≤◌, List, ap, arith, 
 use Rattle.std.specs.Arc.{arc_value}
 use Rattle.std.specs.List.{AllZip, sum_by}
 use Rattle.facet_model.specs.Stored.{Decodes, Records}
-use Rattle.search_tests.specs.Thinned.{IsStoredAlike}
-use Rattle.search_tests.proofs.Thinned.{decodes_alike}
+use Rattle.search_tests.specs.Alike.{IsStoredAlike}
+use Rattle.search_tests.proofs.Alike.{decodes_alike}
 use Rattle.search_tests.proofs.near_misses.is_thinned_answered_alike.Goals as goal
 
 pub are_answered_alike-requires : goal.are_answered_alike-requires

@@ -2,7 +2,7 @@ use Rattle.std.proofs.Common.{◌∙◌, ◌≤◌, arith, map, subst, sym, leng
 use Rattle.std.specs.Arc.{arc_value}
 use Rattle.std.specs.List.{sum_by}
 use Rattle.facet_model.specs.Stored.{Decodes}
-use Rattle.search_tests.proofs.Thinned.{few_docs}
+use Rattle.search_tests.proofs.Alike.{few_docs}
 use Rattle.search_tests.proofs.sideways_counts.are_both_counted.Goals as goal
 
 pub counted-requires : goal.counted-requires

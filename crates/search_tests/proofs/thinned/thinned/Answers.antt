@@ -2,8 +2,8 @@ use Rattle.std.proofs.Common.{◌+◌, ◌∙◌, ap, arith, map, subst, sym, ta
 use Rattle.std.specs.Arc.{arc_value}
 use Rattle.std.specs.List.{AllZip}
 use Rattle.facet_model.specs.Stored.{Records}
-use Rattle.search_tests.specs.Thinned.{IsStoredAlike}
-use Rattle.search_tests.proofs.Thinned.{zip_more}
+use Rattle.search_tests.specs.Alike.{IsStoredAlike}
+use Rattle.search_tests.proofs.Alike.{zip_more}
 use Rattle.search_tests.proofs.thinned.thinned.Goals as goal
 
 pub loop-segment-preserved : goal.loop-segment-preserved

@@ -2,7 +2,7 @@ use Rattle.std.proofs.Common.{length, map, take}
 use Rattle.std.specs.Arc.{arc_value}
 use Rattle.std.specs.List.{AllByRecursion, AllZip}
 use Rattle.facet_codec.specs.Laws.{IsBelow}
-use Rattle.search_tests.specs.Thinned.{IsStoredAlike}
+use Rattle.search_tests.specs.Alike.{IsStoredAlike}
 use Rattle.search_tests.proofs.thinned.thinned.Given as goal
 
 abbrev pub invariant-loop-doc : goal.invariant-loop-doc

@@ -3,7 +3,7 @@ use Rattle.std.specs.Prelude.{filter}
 use Rattle.facet_names.specs.Labels.{IsLabelList}
 use Rattle.facet_counts.specs.Tallies.{HasAdded}
 use Rattle.facet_counts.proofs.Documents.{list_counted}
-use Rattle.sideways.specs.Counted.{passes_all}
+use Rattle.seg_drill.specs.Passing.{passes_all}
 use Rattle.sideways.specs.Questions.{counted_of}
 use Rattle.sideways.specs.Searches.{question_of, records_of}
 use Rattle.sideways.proofs.Ready.{each_has, lists_found, ready}

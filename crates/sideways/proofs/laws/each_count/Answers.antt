@@ -6,7 +6,7 @@ use Rattle.sideways.specs.Kept.{AreCountsOf}
 use Rattle.sideways.specs.Searches.{question_of}
 use Rattle.sideways.specs.declared.pass.LiftedCounts.{LiftedCounts}
 use Rattle.sideways.proofs.Gathered.{any_push, covers_more, covers_same}
-use Rattle.sideways.proofs.Narrowed.{dim_at}
+use Rattle.seg_drill.proofs.Narrowed.{dim_at}
 use Rattle.sideways.proofs.laws.each_count.Goals as goal
 use Rattle.sideways.proofs.laws.each_count.Goals.{then-is_first+in_ok-counts+in_ok-push, else-is_first}
 use Rattle.facet_codec.proofs.Lists.{each_push}

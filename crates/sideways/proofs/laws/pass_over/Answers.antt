@@ -4,7 +4,10 @@ use Rattle.std.proofs.lemmas.List.{take_all}
 use Rattle.facet_model.specs.Documents.{Doc}
 use Rattle.facet_model.specs.QueryViews.{query_view}
 use Rattle.query_eval.specs.Segments.{HasTermsOf}
-use Rattle.sideways.specs.Counted.{IsPartOf, passes_all}
+use Rattle.seg_drill.specs.Passing.{passes_all}
+use Rattle.sideways.specs.Counted.{IsPartOf}
+use Rattle.facet_counts.specs.Tallies.{Tally}
+use Rattle.facet_names.specs.Labels.{IsLabelList}
 use Rattle.facet_names.specs.Texts.{text_in}
 use Rattle.sideways.specs.Kept.{IsPassOf}
 use Rattle.sideways.specs.Searches.{question_of, records_of}
@@ -32,8 +35,8 @@ loop-segment-preserved c =
     let part : IsPartOf test (arc_value c.segment-item.result) c.in_ok-part.part =
     subst (λ s. IsPartOf test s c.in_ok-part.part) c.deref.ensures c.in_ok-part.ensures in
     record {
-      pass = pass_more q test arc_value c.args.segments.now c.loop-segment.segment-index c.segment-item.result c.loop-segment.pass _ c.in_ok-part.part (omega arith) c.segment-item.is c.loop-segment.invariant.pass part c.in_ok-push.ensures.items refl;
-      list = c.loop-segment.invariant.list;
+      pass = pass_more q test arc_value c.args.segments.now c.loop-segment.segment-index c.segment-item.result c.loop-segment.pass _ c.in_ok-part.part (omega arith) c.segment-item.is c.loop-segment.invariant.pass part c.in_ok-add.ensures.parts c.in_ok-add.ensures.counter;
+      list = subst (λ (t : Tally). IsLabelList t.labels) (sym c.in_ok-add.ensures.counter) c.loop-segment.invariant.list;
     }
 
 pub returns-clause-pass : goal.returns-clause-pass

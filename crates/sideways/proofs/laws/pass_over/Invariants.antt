@@ -1,7 +1,7 @@
 use Rattle.std.proofs.Common.{take}
 use Rattle.facet_model.specs.QueryViews.{query_view}
 use Rattle.facet_names.specs.Labels.{IsLabelList}
-use Rattle.sideways.specs.Counted.{passes_all}
+use Rattle.seg_drill.specs.Passing.{passes_all}
 use Rattle.facet_names.specs.Texts.{text_in}
 use Rattle.sideways.specs.Kept.{IsPassOf}
 use Rattle.sideways.specs.Searches.{question_of, records_of}

@@ -5,7 +5,8 @@ use Rattle.facet_model.specs.CountedPaths.{counted_ordinals}
 use Rattle.facet_model.specs.Documents.{Doc}
 use Rattle.facet_names.specs.Labels.{IsLabelList}
 use Rattle.facet_counts.proofs.Documents.{list_counted}
-use Rattle.sideways.specs.Counted.{passes_all, placed}
+use Rattle.seg_drill.specs.Passing.{passes_all}
+use Rattle.sideways.specs.Counted.{placed}
 use Rattle.sideways.proofs.Placed.{placed_length, take_few}
 use Rattle.sideways.specs.Searches.{question_of, records_of}
 use Rattle.sideways.proofs.Ready.{counts_found, each_has, hits_counted, lists_found, places_found, ready}

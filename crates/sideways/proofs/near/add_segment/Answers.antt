@@ -15,10 +15,12 @@ use Rattle.query_eval.proofs.Words.{some_left}
 use Rattle.facet_codec.specs.Laws.{IsBelow}
 use Rattle.seg_postings.specs.Rising.{IsRising}
 use Rattle.seg_postings.specs.Sets.{without}
-use Rattle.sideways.specs.Counted.{AreAllOf, fails_alone, is_drilled, passes_all}
+use Rattle.seg_drill.specs.Passing.{AreAllOf, passes_all}
+use Rattle.sideways.specs.Counted.{fails_alone, is_drilled}
 use Rattle.sideways.specs.declared.pass.LiftedPass.{LiftedPass}
 use Rattle.sideways.proofs.Misses.{covers_all, hit_test, test_of}
-use Rattle.sideways.proofs.Narrowed.{append_all, same_all, within_docs}
+use Rattle.seg_drill.proofs.Narrowed.{same_all}
+use Rattle.sideways.proofs.Passed.{append_all, within_docs}
 use Rattle.sideways.proofs.Sets.{each_in, each_within, given_all}
 use Rattle.sideways.proofs.near.add_segment.Goals as goal
 use Rattle.query_eval.specs.Segments.{passes_tests}
@@ -73,7 +75,7 @@ returns-then-are_near_many-clause-hits c =
     let tests = map (test_of query drill) c.deref.result.now in
     let some : 0 < length all = omega (arith, some_left c.args.lifted.now.len (sym (sym c.is_empty.ensures ∙ c.if-is_empty.false)), c.args.lifted.now.ok.0) in
     let covers : (dim : List ℕ) → list_any (λ l. bytes_eq l.dim.now dim) all ≡ is_drilled drill dim = covers_all c.requires.covers.0 drill all some c.requires.covers.1 in
-    record {
+    on_ok_weaker c.add_sets.result (λ given. record {
       part = record { segment = c.args.segment.now; left = c.in_ok-sets.sets.hits.places };
       is = record {
         same = refl;
@@ -83,9 +85,9 @@ returns-then-are_near_many-clause-hits c =
             ∙ (λ i. without (same_places (λ doc. matches query doc && passes_tests tests doc) (passes_all query drill None) docs
             (λ doc. ap (λ (ls : List LiftedPass). matches query doc && passes_tests (map (test_of query drill) ls) doc) c.deref.ensures.value ∙ hit_test query drill all covers doc) i) (c.dead.ensures.dead i));
       };
-      parts = c.in_ok-push-2.ensures.items ∙ (λ i. c.args.hits.now.parts.items ++ record { segment = c.marked.ensures.segment i; left = c.marked.ensures.left i } ∷ []);
-      counter = refl;
-    }
+      parts = c.in_ok-add-2.ensures.parts ∙ (λ i. c.args.hits.now.parts.items ++ record { segment = c.marked.ensures.segment i; left = c.marked.ensures.left i } ∷ []);
+      counter = c.in_ok-add-2.ensures.counter;
+    }) c.add_sets.ensures
 
 pub returns-then-are_near_many-clause-lifted : goal.returns-then-are_near_many-clause-lifted
 returns-then-are_near_many-clause-lifted c =
@@ -95,19 +97,18 @@ returns-then-are_near_many-clause-lifted c =
     let all : List LiftedPass = c.args.lifted.now.items in
     let some : 0 < length all = omega (arith, some_left c.args.lifted.now.len (sym (sym c.is_empty.ensures ∙ c.if-is_empty.false)), c.args.lifted.now.ok.0) in
     let covers : (dim : List ℕ) → list_any (λ l. bytes_eq l.dim.now dim) all ≡ is_drilled drill dim = covers_all c.requires.covers.0 drill all some c.requires.covers.1 in
-    let given = c.in_ok-add_sets.ensures in
     let tests = map (test_of query drill) c.deref.result.now in
     let records : c.docs-then-are_near_many.result ≡ length c.requires.has.0 = c.docs-then-are_near_many.ensures.number ∙ c.requires.has.1.records in
     let len : length c.in_ok-sets.sets.near.items ≡ length all =
     AllZip-long _ tests c.in_ok-sets.sets.near.items (c.in_ok-sets.ensures.near c.requires.has.0 (matches query) tests records (c.in_ok-base.ensures c.requires.has.0 c.requires.has.1) (c.in_ok-dims.ensures c.requires.has.0 c.requires.has.1))
     ∙ length-map c.deref.result.now (test_of query drill) ∙ ap length c.deref.ensures.value in
-    given_all query drill segment all covers c.requires.distinct all c.in_ok-sets.sets.near.items c.add_sets.new.lifted.items
+    on_ok_weaker c.add_sets.result (λ given. given_all query drill segment all covers c.requires.distinct all c.in_ok-sets.sets.near.items c.add_sets.new.lifted.items
     (λ docs are.
     let same : c.docs-then-are_near_many.result ≡ length docs = c.docs-then-are_near_many.ensures.number ∙ are.records in
     subst (λ ds. AllZip (λ t s. s.places ≡ without (places (λ doc. matches query doc && fails_alone (map (test_of query drill) all) t doc) docs) ds) (map (test_of query drill) all) c.in_ok-sets.sets.near.items) c.dead.ensures.dead
     (subst (λ (ls : List LiftedPass). AllZip (λ t s. s.places ≡ without (places (λ doc. matches query doc && fails_alone (map (test_of query drill) ls) t doc) docs) c.dead.result.now) (map (test_of query drill) ls) c.in_ok-sets.sets.near.items) c.deref.ensures.value
     (c.in_ok-sets.ensures.near docs (matches query) (map (test_of query drill) c.deref.result.now) same (c.in_ok-base.ensures docs are) (c.in_ok-dims.ensures docs are))))
-    len given.len (λ j s l lt. given.done j s l (omega (arith, lt)) lt) (each_in all all (λ dim some. some))
+    len given.len (λ j s l lt. given.done j s l (omega (arith, lt)) lt) (each_in all all (λ dim some. some))) c.add_sets.ensures
 
 pub of_nodes-requires : goal.of_nodes-requires
 of_nodes-requires c =
@@ -133,6 +134,6 @@ returns-clause-hits c =
           (same_all docs hit (passes_all query drill None) (c.in_ok-base.base.items ++ c.in_ok-dims.dims.items)
           (λ doc. ap (λ (ls : List LiftedPass). matches query doc && passes_tests (map (test_of query drill) ls) doc) c.deref.ensures.value ∙ hit_test query drill all covers doc)
           (append_all docs (matches query) tests c.in_ok-base.base.items c.in_ok-dims.dims.items (c.in_ok-base.ensures docs are) (c.in_ok-dims.ensures docs are))));
-      parts = c.in_ok-push-3.ensures.items;
-      counter = refl;
+      parts = c.in_ok-add-3.ensures.parts;
+      counter = c.in_ok-add-3.ensures.counter;
     }) c.add_walks.ensures

@@ -19,7 +19,7 @@ loop-set-preserved c =
       given = given_more c.args.segment.now c.args.sets.items c.loop-set.k c.args.lifted.now.items c.loop-set.lifted.items c.in-Some.set _ c.index_mut.result.now loop.given (omega (arith, within, c.requires.same)) within here
           (record {
             dim = ap (λ (l : LiftedPass). l.dim) item;
-            parts = c.in_ok-push.ensures.items ∙ (λ i. (item i).pass.parts.items ++ part i ∷ []);
-            counter = ap (λ (l : LiftedPass). l.pass.counter) item;
+            parts = c.in_ok-add.ensures.parts ∙ (λ i. (item i).pass.parts.items ++ part i ∷ []);
+            counter = c.in_ok-add.ensures.counter ∙ ap (λ (l : LiftedPass). l.pass.counter) item;
           });
     }

@@ -13,9 +13,9 @@ use Rattle.sideways.proofs.near.dim_nodes.Goals as goal
 pub loop-one-preserved : goal.loop-one-preserved
 loop-one-preserved c = λ docs are.
     let drill : List (List (List ℕ)) = c.args.drill.now in
-    subst (AreNodesFor docs (map (λ (x : LiftedPass) doc. passes doc drill x.dim.now) (take (c.loop-one.one-index + 1) c.args.lifted.now))) (sym c.in_ok-push.ensures.items)
-    (zip_more (λ (test : Doc → Bool) (p : Planned). p.left ≡ places test docs) (λ (x : LiftedPass) doc. passes doc drill x.dim.now) c.args.lifted.now c.loop-one.one-index c.one-item.result c.loop-one.nodes.items c.in_ok-node.node (omega arith) c.one-item.is
-    (c.loop-one.invariant docs are) (c.in_ok-node.ensures docs are))
+    subst (AreNodesFor docs (map (λ (x : LiftedPass) doc. passes doc drill x.dim.now) (take (c.loop-one.one-index + 1) c.args.lifted.now))) (sym c.in_ok-push_paths.ensures.items)
+    (zip_more (λ (test : Doc → Bool) (p : Planned). p.left ≡ places test docs) (λ (x : LiftedPass) doc. passes doc drill x.dim.now) c.args.lifted.now c.loop-one.one-index c.one-item.result c.loop-one.nodes.items c.in_ok-push_paths.ensures.node (omega arith) c.one-item.is
+    (c.loop-one.invariant docs are) (c.in_ok-push_paths.ensures.left docs are))
 
 pub returns : goal.returns
 returns c = λ docs are.

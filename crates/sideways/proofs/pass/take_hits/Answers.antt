@@ -1,6 +1,6 @@
 use Rattle.std.proofs.Common.{◌≡◌, ◌<◌, ◌∙◌, ◌∷◌, [], length, ap, arith, sym, subst}
 use Rattle.facet_model.specs.Stored.{Records, live_before}
-use Rattle.sideways.specs.Counted.{AreCountable, IsGrown, lists_at}
+use Rattle.seg_drill.specs.Counting.{AreCountable, IsGrown, lists_at}
 use Rattle.sideways.proofs.Placed.{rank_most, taking_more, taking_ready}
 use Rattle.sideways.proofs.pass.take_hits.Goals as goal
 

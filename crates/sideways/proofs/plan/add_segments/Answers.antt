@@ -5,7 +5,7 @@ use Rattle.facet_model.specs.Documents.{Doc}
 use Rattle.facet_model.specs.Queries.{QueryTree}
 use Rattle.facet_model.specs.QueryViews.{query_view}
 use Rattle.query_eval.specs.Segments.{HasTermsOf}
-use Rattle.sideways.specs.Counted.{passes_all}
+use Rattle.seg_drill.specs.Passing.{passes_all}
 use Rattle.sideways.specs.Kept.{AreDistinct, HasNear, HasPart}
 use Rattle.sideways.specs.Searches.{records_of}
 use Rattle.sideways.proofs.Gathered.{mapped_at, nears_more, no_nears, no_parts, parts_more, same_any, same_dims_in}

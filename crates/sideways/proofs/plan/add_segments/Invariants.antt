@@ -1,7 +1,7 @@
 use Rattle.std.proofs.Common.{None, take}
 use Rattle.std.specs.List.{AllZip}
 use Rattle.facet_model.specs.QueryViews.{query_view}
-use Rattle.sideways.specs.Counted.{passes_all}
+use Rattle.seg_drill.specs.Passing.{passes_all}
 use Rattle.sideways.specs.Kept.{HasNears, HasParts}
 use Rattle.sideways.specs.Searches.{records_of}
 use Rattle.sideways.proofs.plan.add_segments.Given as goal

@@ -7,7 +7,7 @@ use Rattle.sideways.specs.Kept.{AreDistinct, IsLiftedOf, dim_in}
 use Rattle.sideways.specs.Searches.{question_of}
 use Rattle.sideways.specs.declared.pass.LiftedPass.{LiftedPass}
 use Rattle.sideways.proofs.Gathered.{any_push, covers_more, covers_same, distinct_push, drilled_at, not_again}
-use Rattle.sideways.proofs.Narrowed.{dim_at}
+use Rattle.seg_drill.proofs.Narrowed.{dim_at}
 use Rattle.sideways.proofs.plan.lifted_passes.Goals as goal
 use Rattle.sideways.proofs.plan.lifted_passes.Goals.{then-is_first+in_ok-pass+in_ok-push, else-is_first}
 use Rattle.facet_codec.proofs.Lists.{each_push}

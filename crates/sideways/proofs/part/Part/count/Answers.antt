@@ -1,5 +1,5 @@
 use Rattle.std.proofs.Common.{ap, sym, subst}
-use Rattle.sideways.specs.Counted.{AreCountable}
+use Rattle.seg_drill.specs.Counting.{AreCountable}
 use Rattle.sideways.proofs.part.Part.count.Goals as goal
 
 pub count_left-requires-clause-countable : goal.count_left-requires-clause-countable

@@ -2,8 +2,9 @@ use Rattle.std.proofs.Common.{◌≡◌, ◌∙◌, Some, ap, length, refl}
 use Rattle.facet_model.specs.Hits.{passes}
 use Rattle.facet_model.specs.QueryViews.{query_view}
 use Rattle.seg_postings.specs.Sets.{without}
-use Rattle.sideways.specs.Counted.{is_near, passes_all}
-use Rattle.sideways.proofs.Narrowed.{within_docs}
+use Rattle.seg_drill.specs.Passing.{passes_all}
+use Rattle.sideways.specs.Counted.{is_near}
+use Rattle.sideways.proofs.Passed.{within_docs}
 use Rattle.sideways.proofs.part.Part.near.Goals as goal
 
 pub invariant_of-result : goal.invariant_of-result

@@ -1,6 +1,6 @@
 use Rattle.std.proofs.lemmas.Result.{IfOk-weaker}
 use Rattle.facet_model.specs.QueryViews.{query_view}
-use Rattle.sideways.specs.Counted.{passes_all}
+use Rattle.seg_drill.specs.Passing.{passes_all}
 use Rattle.facet_names.specs.Texts.{text_in}
 use Rattle.sideways.proofs.part.Part.new.Goals as goal
 

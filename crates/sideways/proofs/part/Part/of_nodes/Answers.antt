@@ -5,7 +5,7 @@ use Rattle.seg_postings.specs.Rising.{IsRising}
 use Rattle.query_eval.proofs.Words.{some_left}
 use Rattle.facet_model.specs.CountedPaths.{places}
 use Rattle.seg_postings.specs.Sets.{without}
-use Rattle.sideways.proofs.Narrowed.{within_docs}
+use Rattle.sideways.proofs.Passed.{within_docs}
 use Rattle.sideways.proofs.part.Part.of_nodes.Goals as goal
 
 pub joined-requires : goal.joined-requires

@@ -2,10 +2,10 @@ use Rattle.std.proofs.Common.{ap, sym, subst, ◌≡◌, ◌∙◌, ◌<◌, ℕ
 use Rattle.std.specs.Prelude.{IfSome}
 use Rattle.facet_model.specs.Stored.{Records}
 use Rattle.seg_postings.specs.Rising.{IsNext}
-use Rattle.sideways.specs.Counted.{AreWithin, IsSetWithin}
+use Rattle.seg_drill.specs.Counting.{AreWithin, IsSetWithin}
 use Rattle.sideways.specs.Parts.{IsLeft, left_of}
 use Rattle.sideways.specs.declared.part.Part.TheInside.{Inside}
-use Rattle.sideways.proofs.Walked.{next_record, next_set, next_within}
+use Rattle.sideways.proofs.Taken.{next_record, next_set, next_within}
 use Rattle.sideways.proofs.part.Part.take.Goals as goal
 use Rattle.sideways.proofs.part.Part.take.Goals.{in-At, in-Marked, in-Nothing}
 

@@ -7,10 +7,10 @@ use Rattle.query_eval.proofs.Chosen.{ok_by_two}
 use Rattle.query_eval.proofs.Marks.{at}
 use Rattle.query_eval.proofs.Words.{some_left}
 use Rattle.seg_postings.specs.Rising.{IsRising, is_in}
-use Rattle.sideways.specs.Counted.{AreAllOf}
-use Rattle.sideways.proofs.Narrowed.{every_at, have_at, left_without, nodes_rise, whole_rises}
-use Rattle.sideways.proofs.node.without_one.Goals as goal
-use Rattle.sideways.proofs.node.without_one.Goals.{then-is_empty+in_ok-push, else-is_empty}
+use Rattle.seg_drill.specs.Passing.{AreAllOf}
+use Rattle.seg_drill.proofs.Narrowed.{every_at, have_at, left_without, nodes_rise, whole_rises}
+use Rattle.seg_drill.proofs.node.without_one.Goals as goal
+use Rattle.seg_drill.proofs.node.without_one.Goals.{then-is_empty+in_ok-push, else-is_empty}
 use Rattle.std.proofs.lemmas.List.{nil_from_length}
 
 pub returns : goal.returns

@@ -1,5 +1,5 @@
 -- Nodes all of which a document has to have, one dimension of a drill after the other.
-use Rattle.std.proofs.Common.{◌≡◌, ℕ, zero, suc, ◌+◌, ◌<◌, Bool, true, false, List, [], ◌∷◌, ◌++◌, length, take, get_or, Option, Some, None, refl, sym, ap, subst, ◌∙◌, arith}
+use Rattle.std.proofs.Common.{◌≡◌, ℕ, ◌+◌, ◌<◌, Bool, true, false, List, [], ◌∷◌, ◌++◌, length, take, get_or, Option, Some, None, refl, sym, ap, subst, ◌∙◌, arith}
 use Rattle.std.specs.Prelude.{◌||◌, ◌&&◌, not, slice_get, unwrap_or}
 use Rattle.std.specs.List.{list_any, list_all, range_with_len, All, AllByRecursion}
 use Rattle.std.specs.Option.{option_map_or}
@@ -7,22 +7,17 @@ use Rattle.std.specs.Str.{bytes_eq}
 use Rattle.std.specs.Cmp.Lexicographic.{bytes_decides}
 use Rattle.std.proofs.lemmas.List.Elements.{All-nil, All-cons}
 use Rattle.std.proofs.lemmas.List.Folds.{list_all-append}
-use Rattle.std.proofs.lemmas.List.{append_assoc, append-nil, take_more}
+use Rattle.std.proofs.lemmas.List.{take_more}
 use Rattle.std.proofs.lemmas.Option.{get_or_from_slice_get, slice_get_read}
 use Rattle.facet_model.specs.CountedPaths.{places}
 use Rattle.facet_model.specs.Documents.{Doc, dim_of}
 use Rattle.facet_model.specs.Hits.{passes}
-use Rattle.facet_model.specs.Stored.{Records}
 use Rattle.plan_places.specs.Planned.{Planned, any_of, all_have}
 use Rattle.query_eval.proofs.Marks.{at, rising_places, is_in_places, are_places, all_from_place}
-use Rattle.seg_postings.proofs.Members.{is_in-either, is_in-without}
-use Rattle.seg_postings.proofs.Sets.{rising_without}
+use Rattle.seg_postings.proofs.Members.{is_in-either}
 use Rattle.seg_postings.specs.Rising.{IsRising, is_in}
-use Rattle.seg_postings.specs.Sets.{without}
-use Rattle.sideways.specs.Counted.{AreAllOf, AreNodesFor, AreWithin, is_lifted, passes_each, is_again, is_first}
+use Rattle.seg_drill.specs.Passing.{AreAllOf, is_lifted, passes_each, is_again, is_first}
 use Rattle.std.proofs.Math.Bool.{or-false, and-true, and_assoc}
-use Rattle.std.proofs.lemmas.Bool.{and_parts}
-use Rattle.query_eval.specs.Segments.{passes_tests}
 
 -- no node, where every document passes
 pub none_all : (docs : List Doc) → AreAllOf docs (λ doc. true) []
@@ -45,16 +40,6 @@ push_all docs test f nodes p all is = record {
   each = each_more (λ q. (other : Doc → Bool) × (q.left ≡ places other docs)) nodes p all.each (f, is);
   have = λ n doc there. all_have_more n nodes p ∙ (λ i. all.have n doc there i && (ap (is_in n) is ∙ is_in_places n f docs ∙ ap (λ o. option_map_or f o false) there) i);
 }
-
--- a node more for each test
-pub append_all : (docs : List Doc) (test : Doc → Bool) (tests : List (Doc → Bool)) (nodes more : List Planned) → AreAllOf docs test nodes → AreNodesFor docs tests more → AreAllOf docs (λ doc. test doc && passes_tests tests doc) (nodes ++ more)
-append_all docs test [] nodes [] all is = subst (AreAllOf docs (λ doc. test doc && true)) (sym (append-nil nodes)) (same_all docs test (λ doc. test doc && true) nodes (λ doc. sym (and-true (test doc))) all)
-append_all docs test [] nodes (p ∷ ps) all is = absurd is
-append_all docs test (t ∷ ts) nodes [] all is = absurd is
-append_all docs test (t ∷ ts) nodes (p ∷ ps) all is =
-    subst (AreAllOf docs (λ doc. test doc && passes_tests (t ∷ ts) doc)) (append_assoc nodes (p ∷ []) ps)
-    (same_all docs (λ doc. (test doc && t doc) && passes_tests ts doc) (λ doc. test doc && passes_tests (t ∷ ts) doc) ((nodes ++ p ∷ []) ++ ps) (λ doc. and_assoc (test doc) (t doc) (passes_tests ts doc))
-    (append_all docs (λ doc. test doc && t doc) ts (nodes ++ p ∷ []) ps (push_all docs test t nodes p all is.0) is.1))
 
 -- ---- the places of the documents that pass
 
@@ -85,21 +70,6 @@ all_left docs test nodes xs some all members rises = are_places test docs xs (ri
     by : (n : ℕ) (o : Option Doc) → slice_get docs n ≡ o → all_have n nodes ≡ at test docs n
     by n None e = rw (none_past docs n nodes some e all.each, e) refl
     by n (Some doc) e = rw e (all.have n doc e)
-
--- live places of documents that pass
-pub within_docs : (segment : Records) (docs : List Doc) (test : Doc → Bool) (dead left : List ℕ) → length segment.records ≡ length docs → left ≡ without (places test docs) dead → AreWithin segment left
-within_docs segment docs test dead left long is = record {
-  rising = subst IsRising (sym is) (rising_without (places test docs) dead (rising_places test docs));
-  within = λ n among. within n (sym (is_in_places n test docs) ∙ (and_parts (is_in n (places test docs)) (not (is_in n dead)) (sym (is_in-without n (places test docs) dead) ∙ ap (is_in n) (sym is) ∙ among)).0);
-}
-  where
-    past : (n : ℕ) (xs : List Doc) → at test xs n ≡ true → n < length xs
-    past n [] among = absurd cc
-    past zero (x ∷ xs) among = omega arith
-    past (suc n) (x ∷ xs) among = omega (arith, past n xs among)
-
-    within : (n : ℕ) → at test docs n ≡ true → n < length segment.records
-    within n among = omega (arith, past n docs among, long)
 
 -- ---- the dimensions of a drill
 

@@ -1,5 +1,5 @@
 //! What the documents of a pass have to pass.
-ghost use Rattle.std.specs.Prelude.{◌≡◌, ◌<◌, ◌&&◌, not, Bool, List, IfOk, length};
+ghost use Rattle.std.specs.Prelude.{◌≡◌, ◌<◌, ◌&&◌, not, Bool, List, IfOk, OnOk, length};
 ghost use Rattle.std.specs.List.{list_any};
 ghost use Rattle.std.specs.Str.{bytes_eq};
 ghost use Rattle.facet_model.specs.CountedPaths.{places};
@@ -7,7 +7,7 @@ ghost use Rattle.facet_model.specs.Documents.{Doc, dim_of};
 ghost use Rattle.facet_model.specs.Queries.{matches};
 ghost use Rattle.facet_model.specs.QueryViews.{query_view};
 ghost use Rattle.query_eval.specs.Segments.{HasTermsOf};
-ghost use Rattle.sideways.specs.Counted.{AreAllOf, is_first, is_lifted, passes_all};
+ghost use Rattle.seg_drill.specs.Passing.{AreAllOf, HasPaths, is_first, is_lifted, passes_all};
 ghost use Rattle.facet_names.specs.Texts.{text_in};
 
 use facet_model::{Drill, Query};
@@ -34,7 +34,7 @@ fn is_lifted(lifted: Option<&str>, dim: &str) -> bool
 }
 
 /// Whether the path at a place is the first of its dimension, and that is not lifted.
-pub(crate) fn is_first(drill: &[Path], at: usize, lifted: Option<&str>) -> bool
+pub fn is_first(drill: &[Path], at: usize, lifted: Option<&str>) -> bool
     requires { at < length drill.now }
     ensures { result ≡ is_first drill.now at (text_in lifted.entry) }
 {
@@ -43,7 +43,7 @@ pub(crate) fn is_first(drill: &[Path], at: usize, lifted: Option<&str>) -> bool
 }
 
 /// The documents that match the query; no node where all do.
-pub(crate) fn base_nodes<'a>(
+pub fn base_nodes<'a>(
     alloc: Global,
     segment: &'a Segment,
     query: &Query,
@@ -59,9 +59,24 @@ pub(crate) fn base_nodes<'a>(
     Ok(nodes)
 }
 
+/// Adds a node: the documents that pass a dimension of the drill.
+pub fn push_paths<'a>(
+    alloc: Global,
+    segment: &'a Segment,
+    drill: &Drill,
+    dim: &str,
+    nodes: &mut Vec<PlanNode<'a>>,
+) -> Result<(), NoMemory>
+    ensures { OnOk result (HasPaths segment.now drill.now dim.now nodes.old.items nodes.new.items) }
+{
+    let node = paths_node(alloc, segment, drill, dim)?;
+    nodes.push(node)?;
+    Ok(())
+}
+
 /// The documents that match the query, and those that pass each dimension of the drill but for the one that is lifted: one node for the query and one
 /// for each dimension, and none where every document passes.
-pub(crate) fn nodes_of<'a>(
+pub fn nodes_of<'a>(
     alloc: Global,
     segment: &'a Segment,
     query: &Query,
@@ -75,15 +90,14 @@ pub(crate) fn nodes_of<'a>(
     let paths = drill.paths();
     for (at, path) in paths.iter().enumerate() {
         if is_first(paths, at, lifted) {
-            let node = paths_node(alloc, segment, drill, path.dim())?;
-            nodes.push(node)?;
+            push_paths(alloc, segment, drill, path.dim(), &mut nodes)?;
         }
     }
     Ok(nodes)
 }
 
 /// The documents that have all nodes, of which there are some.
-pub(crate) fn joined<'a>(alloc: Global, nodes: Vec<PlanNode<'a>>) -> Result<PlanNode<'a>, NoMemory>
+pub fn joined<'a>(alloc: Global, nodes: Vec<PlanNode<'a>>) -> Result<PlanNode<'a>, NoMemory>
     requires { 0 < length nodes.items }
     ensures { IfOk result (λ r. (docs : List Doc) (test : Doc → Bool) → AreAllOf docs test nodes.entry.items → r.left ≡ places test docs) }
 {
@@ -95,7 +109,7 @@ pub(crate) fn joined<'a>(alloc: Global, nodes: Vec<PlanNode<'a>>) -> Result<Plan
 }
 
 /// The documents that have all nodes but not this one.
-pub(crate) fn without_one<'a>(
+pub fn without_one<'a>(
     alloc: Global,
     docs: u32,
     nodes: Vec<PlanNode<'a>>,

@@ -7,7 +7,7 @@ use Rattle.facet_model.specs.Documents.{Doc}
 use Rattle.facet_model.specs.Flags.{Config}
 use Rattle.facet_model.specs.Stored.{Records, Decodes, IsRecordOf, IsSegmentOf, alive, is_dead, live_before, live_docs}
 use Rattle.live_records.proofs.Alive.{length_alive}
-use Rattle.search_tests.specs.Thinned.{IsStoredAlike}
+use Rattle.search_tests.specs.Alike.{IsStoredAlike}
 use Rattle.std.proofs.lemmas.Slice.Zip.{all_zipped_more}
 
 as_long : {A B : Type 0} (R : A → B → Type 0) (xs : List A) (ys : List B) → AllZip R xs ys → length ys ≡ length xs

@@ -1,14 +1,11 @@
 -- Counting records one after the other.
-use Rattle.std.proofs.Common.{◌≡◌, ℕ, zero, suc, ◌+◌, ◌<◌, List, [], ◌∷◌, ◌++◌, get_or, length, map, Option, Some, None, refl, sym, ap, subst, ◌∙◌, arith, append_assoc}
-use Rattle.std.specs.Prelude.{IfSome}
+use Rattle.std.proofs.Common.{◌≡◌, ℕ, zero, suc, ◌+◌, ◌<◌, List, [], ◌∷◌, ◌++◌, get_or, length, map, refl, sym, ap, subst, ◌∙◌, arith, append_assoc}
 use Rattle.std.proofs.lemmas.List.{length-append, length-map, map_push}
 use Rattle.facet_model.specs.Stored.{Records, Stored}
 use Rattle.facet_counts.specs.Lists.{IsCounted}
 use Rattle.facet_counts.specs.Tallies.{Tally, HasAdded}
 use Rattle.seg_grammar.specs.Lookups.{record_of}
-use Rattle.place_bits.specs.Words.{Marked}
-use Rattle.seg_postings.specs.Rising.{IsNext}
-use Rattle.sideways.specs.Counted.{AreCountable, AreWithin, IsGrown, IsSetWithin, lists_at}
+use Rattle.seg_drill.specs.Counting.{AreCountable, AreWithin, IsGrown, lists_at}
 use Rattle.seg_postings.proofs.Members.{here_in, later_in}
 
 -- the first place has a record, and the others are still within
@@ -55,19 +52,6 @@ walked_more segment all left rest before now next number place walked is grown =
 -- the next place of a walk has a record that may be counted, and there is room
 pub walked_record : (segment : Records) (all left rest : List ℕ) (before now : Tally) (number place : ℕ) → IsWalked segment all left before now number → left ≡ place ∷ rest → place < length segment.records
 walked_record segment all left rest before now number place walked is = within_first segment place rest (subst (AreWithin segment) is walked.within)
-
--- ---- the next place of a list
-
-pub next_within : (segment : Records) (r : Option ℕ) (old new : List ℕ) → AreWithin segment old → IsNext r old new → AreWithin segment new
-next_within segment None old new within next = subst (AreWithin segment) (next.0 ∙ sym next.1) within
-next_within segment (Some x) old new within next = within_rest segment x new (subst (AreWithin segment) next within)
-
-pub next_record : (segment : Records) (r : Option ℕ) (old new : List ℕ) → AreWithin segment old → IsNext r old new → IfSome r (λ place. place < length segment.records)
-next_record segment None old new within next = tt
-next_record segment (Some x) old new within next = within_first segment x new (subst (AreWithin segment) next within)
-
-pub next_set : (segment : Records) (r : Option ℕ) (old new : Marked) → IsSetWithin segment old → IsNext r old.places new.places → new.words ≡ old.words → IsSetWithin segment new
-next_set segment r old new within next words = record { words = words ∙ within.words; within = next_within segment r old.places new.places within.within next }
 
 -- ---- by the column
 

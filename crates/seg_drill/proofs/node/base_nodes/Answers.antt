@@ -1,9 +1,9 @@
 use Rattle.std.proofs.Common.{◌∙◌, ap, sym, true, subst, [], ◌∷◌, ◌++◌}
 use Rattle.facet_model.specs.Queries.{matches}
 use Rattle.facet_model.specs.QueryViews.{query_view}
-use Rattle.sideways.specs.Counted.{AreAllOf}
-use Rattle.sideways.proofs.Narrowed.{none_all, push_all}
-use Rattle.sideways.proofs.node.base_nodes.Goals as goal
+use Rattle.seg_drill.specs.Passing.{AreAllOf}
+use Rattle.seg_drill.proofs.Narrowed.{none_all, push_all}
+use Rattle.seg_drill.proofs.node.base_nodes.Goals as goal
 
 pub returns : goal.returns
 returns c = λ docs are.

@@ -3,9 +3,9 @@ use Rattle.std.proofs.lemmas.List.{length-map}
 use Rattle.facet_counts.specs.Lists.{IsCounted}
 use Rattle.facet_model.specs.Stored.{Stored}
 use Rattle.place_bits.specs.Words.{Marked}
-use Rattle.sideways.specs.Counted.{IsGrown, IsSetWithin, lists_at}
-use Rattle.sideways.proofs.Walked.{grown_by_column, list_at}
-use Rattle.sideways.proofs.count.count_marked.Goals as goal
+use Rattle.seg_drill.specs.Counting.{IsGrown, IsSetWithin, lists_at}
+use Rattle.seg_drill.proofs.Walked.{grown_by_column, list_at}
+use Rattle.seg_drill.proofs.count.count_marked.Goals as goal
 
 pub add_column-requires : goal.add_column-requires
 add_column-requires c =

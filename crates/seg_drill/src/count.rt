@@ -1,19 +1,24 @@
 //! Counting the records of one segment.
-ghost use Rattle.std.specs.Prelude.{◌≡◌, ◌+◌, ◌≤◌, ◌++◌, [], length};
-ghost use Rattle.facet_counts.specs.Tallies.{HasAdded};
-ghost use Rattle.sideways.specs.Counted.{AreCountable, AreWithin, lists_at, IsGrown, IsSetWithin};
+ghost use Rattle.std.specs.Prelude.{◌≡◌, ◌+◌, ◌<◌, ◌≤◌, ◌∷◌, [], length};
+ghost use Rattle.seg_drill.specs.Counting.{AreCountable, AreWithin, IsGrown, IsSetWithin, lists_at};
 
 use facet_counts::Counter;
 use place_bits::BitPlaces;
 use seg_file::Segment;
 use seg_postings::Places;
 
-/// Counts the records at the places, and says how many they are.
-pub(crate) fn count_places<P: Places>(
-    segment: &Segment,
-    places: &mut P,
-    counter: &mut Counter<'_>,
-) -> u64
+/// Counts the record at a place. It takes no memory.
+pub fn count_record(segment: &Segment, place: u32, counter: &mut Counter<'_>)
+    requires countable { AreCountable counter.old.config counter.old.labels segment.now }
+    requires within { place < length segment.now.records }
+    requires room { counter.old.added < 1000000 }
+    ensures { IsGrown counter.old counter.new (lists_at segment.now (place ∷ [])) }
+{
+    counter.add_doc(segment.counted(place));
+}
+
+/// Counts the records at the places, one after the other, and says how many they are. It takes no memory.
+pub fn count_places<P: Places>(segment: &Segment, places: &mut P, counter: &mut Counter<'_>) -> u64
     requires countable { AreCountable counter.old.config counter.old.labels segment.now }
     requires within { AreWithin segment.now (P.left places.old) }
     requires room { counter.old.added + length (P.left places.old) ≤ 1000000 }
@@ -23,7 +28,7 @@ pub(crate) fn count_places<P: Places>(
 {
     let mut number = 0;
     while let Some(place) = places.next() {
-        counter.add_doc(segment.counted(place));
+        count_record(segment, place, counter);
         number += 1;
     }
     number
@@ -31,7 +36,7 @@ pub(crate) fn count_places<P: Places>(
 
 /// Counts the records at the places that are left of a set, and says how many they are: by the maps of the segment's column where they are many, and else
 /// one after the other. It takes no memory.
-pub(crate) fn count_marked(segment: &Segment, places: BitPlaces, counter: &mut Counter<'_>) -> u64
+pub fn count_marked(segment: &Segment, places: BitPlaces, counter: &mut Counter<'_>) -> u64
     requires countable { AreCountable counter.old.config counter.old.labels segment.now }
     requires within { IsSetWithin segment.now places }
     requires room { counter.old.added + length places.places ≤ 1000000 }

@@ -3,9 +3,9 @@ use Rattle.std.specs.Prelude.{not}
 use Rattle.plan_places.specs.Planned.{all_have, any_of}
 use Rattle.query_eval.proofs.Chosen.{ok_by_two, one_of}
 use Rattle.seg_postings.specs.Rising.{is_in}
-use Rattle.sideways.specs.Counted.{AreAllOf}
-use Rattle.sideways.proofs.Narrowed.{all_left, one_left}
-use Rattle.sideways.proofs.node.joined.Goals as goal
+use Rattle.seg_drill.specs.Passing.{AreAllOf}
+use Rattle.seg_drill.proofs.Narrowed.{all_left, one_left}
+use Rattle.seg_drill.proofs.node.joined.Goals as goal
 
 pub returns-then-len-eq1 : goal.returns-then-len-eq1
 returns-then-len-eq1 c = λ docs test all.
