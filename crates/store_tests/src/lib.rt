@@ -1,8 +1,6 @@
-//! Tests of sources, sinks and disks: failing reads, writes and device calls, stops, and real folders.
+//! Tests of sources and sinks whose reads and writes fail, and of disks in real folders.
 #![tactic(auto)]
 
-#[cfg(test)]
-mod disks;
 #[cfg(test)]
 mod folders;
 #[cfg(test)]

@@ -20,12 +20,6 @@ pub const COMMIT: FileName = FileName {
     number: 2,
 };
 
-pub const NEXT: FileName = FileName {
-    dir: Dir::Taxonomy,
-    kind: Kind::Segment,
-    number: 3,
-};
-
 pub const OUTER: FileName = FileName {
     dir: Dir::Index,
     kind: Kind::Segment,
@@ -44,7 +38,7 @@ pub enum Step {
 }
 
 // Makes a call, and answers how many names or bytes it gave.
-pub fn make<D: Disk>(alloc: Global, disk: &mut D, step: Step) -> Result<usize, DiskFault> {
+fn make<D: Disk>(alloc: Global, disk: &mut D, step: Step) -> Result<usize, DiskFault> {
     match step {
         Step::List(dir) => match disk.list(alloc, dir) {
             Ok(names) => Ok(names.as_slice().len()),

@@ -1,4 +1,4 @@
-use Rattle.std.proofs.Common.{Bool, List, sym, subst, refl, arith}
+use Rattle.std.proofs.Common.{Bool, List, sym, subst, arith}
 use Rattle.std.specs.Arc.{arc_value}
 use Rattle.std.proofs.lemmas.List.{take_all}
 use Rattle.facet_model.specs.Documents.{Doc}
