@@ -77,10 +77,11 @@ fn are_both_counted(
 {
     let view = labels.view()?;
     match records(segments) {
-        Some(3) => Ok(
-            counted(alloc, &view, config, segments, true)? == (1, 2)
-                && counted(alloc, &view, config, segments, false)? == (1, 0),
-        ),
+        Some(3) => {
+            let beside = counted(alloc, &view, config, segments, true)?;
+            let without = counted(alloc, &view, config, segments, false)?;
+            Ok(beside == (1, 2) && without == (1, 0))
+        }
         _ => Ok(false),
     }
 }

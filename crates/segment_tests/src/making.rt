@@ -1,5 +1,5 @@
 //! Documents as segments are built of them, for the tests.
-ghost use Rattle.std.specs.Prelude.{IfOk};
+ghost use Rattle.std.specs.Prelude.{◌≤◌, IfOk, length};
 ghost use Rattle.seg_postings.specs.Bytes.{AreRisingPlaces};
 
 use facet_codec::put_u32;
@@ -27,7 +27,9 @@ fn paths(alloc: Global, labels: &[&[&str]]) -> Result<Vec<Path>, Fail> {
     Ok(paths)
 }
 
-fn counted(alloc: Global, leaves: &[u32]) -> Result<Counted, Fail> {
+fn counted(alloc: Global, leaves: &[u32]) -> Result<Counted, Fail>
+    ensures { IfOk result (λ counted. length counted ≤ 8192) }
+{
     match leaves.first() {
         Some(first) => Ok(Counted::new(vec![in alloc; *first]?)),
         None => Ok(Counted::new(Vec::new(alloc))),
@@ -36,14 +38,16 @@ fn counted(alloc: Global, leaves: &[u32]) -> Result<Counted, Fail> {
 
 fn entry(alloc: Global, row: &Row) -> Result<Entry, Fail> {
     let (id, text, labels, leaves) = *row;
+    let counted = counted(alloc, leaves)?;
+    let leaves = leaves.to_vec(alloc)?;
     let doc = Document::new(alloc, id, text, paths(alloc, labels)?)?;
     if leaves.len() != doc.facets().len() {
         return Err("as many leaves as labels".into());
     }
     Ok(Entry {
         doc,
-        leaves: leaves.to_vec(alloc)?,
-        counted: counted(alloc, leaves)?,
+        leaves,
+        counted,
     })
 }
 

@@ -133,25 +133,15 @@ fn left_alone<'a>(
 }
 
 // What is found in the union, the intersection and the difference from a place on: the first place, and the next one.
-type Found = (u32, [(Option<u32>, Option<u32>); 3]);
-
-const FOUND: &[Found] = &[
-    (
-        0,
-        [(Some(1), Some(3)), (Some(3), Some(9)), (Some(1), Some(5))],
-    ),
-    (4, [(Some(4), Some(5)), (Some(9), None), (Some(5), None)]),
-    (9, [(Some(9), Some(12)), (Some(9), None), (None, None)]),
-    (13, [(None, None), (None, None), (None, None)]),
-];
+type Found = [(Option<u32>, Option<u32>); 3];
 
 fn is_found(
     alloc: Global,
     left: &Postings<'_>,
     right: &Postings<'_>,
-    row: &Found,
+    place: u32,
+    want: Found,
 ) -> Result<bool, Fail> {
-    let (place, want) = *row;
     let any = sought(PlanPlaces::new(either(alloc, left, right)?), place);
     let all = sought(PlanPlaces::new(both(alloc, left, right)?), place);
     let without = sought(PlanPlaces::new(left_alone(alloc, left, right)?), place);
@@ -159,8 +149,17 @@ fn is_found(
 }
 
 fn are_found(alloc: Global, left: &Postings<'_>, right: &Postings<'_>) -> Result<bool, Fail> {
-    for row in FOUND {
-        if !is_found(alloc, left, right, row)? {
+    let rows = [
+        (
+            0,
+            [(Some(1), Some(3)), (Some(3), Some(9)), (Some(1), Some(5))],
+        ),
+        (4, [(Some(4), Some(5)), (Some(9), None), (Some(5), None)]),
+        (9, [(Some(9), Some(12)), (Some(9), None), (None, None)]),
+        (13, [(None, None), (None, None), (None, None)]),
+    ];
+    for (place, want) in rows {
+        if !is_found(alloc, left, right, place, want)? {
             return Ok(false);
         }
     }

@@ -4,4 +4,4 @@ use Rattle.label_tests.specs.Columns.{MayBeListed}
 use Rattle.label_tests.proofs.columns.column_of.Given as goal
 
 abbrev pub invariant-loop : goal.invariant-loop
-invariant-loop g l = (length l.lists.items ≡ 2 * l.counter) × AllByRecursion (MayBeListed l.config l.view) l.lists.items
+invariant-loop l = (length l.lists.items ≡ 2 * l.counter) × AllByRecursion (MayBeListed l.config l.view) l.lists.items

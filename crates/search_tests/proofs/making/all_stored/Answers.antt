@@ -1,7 +1,6 @@
-use Rattle.std.proofs.Common.{◌∙◌, ◌∷◌, ◌++◌, [], ap, map, refl, subst, sym}
+use Rattle.std.proofs.Common.{◌∙◌, ◌∷◌, ◌++◌, [], ap, map, subst, sym}
 use Rattle.std.specs.Arc.{arc_value}
 use Rattle.std.proofs.lemmas.List.{map_push}
-use Rattle.facet_model.specs.Stored.{live_docs}
 use Rattle.search_tests.proofs.Stored.{AreStored, decoded, stored_more}
 use Rattle.search_tests.proofs.making.all_stored.Goals as goal
 
