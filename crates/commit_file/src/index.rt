@@ -20,6 +20,7 @@ use facet_config::{DeclareFault, FacetsConfig};
 use facet_model::DimFlags;
 use facet_names::NoMemory;
 use std::alloc::Global;
+use std::hash::RandomState;
 
 /// A segment of documents: its number, how many documents it has, and the digest of its bytes.
 #[derive(Clone, Copy, Debug, PartialEq, Eq)]
@@ -105,10 +106,15 @@ fn keep(kept: &mut FacetsConfig, one: Declaration<'_>) -> Result<(), FileFault>
 }
 
 // So many declarations.
-fn declarations(alloc: Global, cursor: &mut Cursor<'_>, n: u32) -> Result<FacetsConfig, FileFault>
+fn declarations(
+    alloc: Global,
+    keys: RandomState,
+    cursor: &mut Cursor<'_>,
+    n: u32,
+) -> Result<FacetsConfig, FileFault>
     ensures { Reads (λ c. c) result cursor.new (declarations_at n cursor.old) }
 {
-    let mut kept = FacetsConfig::new(alloc);
+    let mut kept = FacetsConfig::new(alloc, keys);
     let mut before = "";
     for _ in 0..n {
         let next = declaration(cursor, before)?;
@@ -170,14 +176,19 @@ fn document_parts(
 
 // What stands before the digest.
 #[tactic(auto, unfolding(crate::specs::Reading::index_at))]
-fn index(alloc: Global, wanted: u64, body: &[u8]) -> Result<IndexCommit, FileFault>
+fn index(
+    alloc: Global,
+    keys: RandomState,
+    wanted: u64,
+    body: &[u8],
+) -> Result<IndexCommit, FileFault>
     ensures { Gives index_listing result (index_at wanted body.now) }
 {
     let mut cursor = Cursor::new(body);
     head(&mut cursor, MAGIC, wanted)?;
     let needs = cursor.u32()?;
     let n = cursor.vint()?;
-    let kept = declarations(alloc, &mut cursor, n)?;
+    let kept = declarations(alloc, keys, &mut cursor, n)?;
     let n = some(&mut cursor)?;
     let parts = document_parts(alloc, &mut cursor, n)?;
     if cursor.rest() > 0 {
@@ -189,14 +200,20 @@ fn index(alloc: Global, wanted: u64, body: &[u8]) -> Result<IndexCommit, FileFau
 }
 
 /// The commit of the index that the bytes of a file with this number are, or the first fault. The digest is looked at before the rest, and the rest from
-/// left to right. It takes memory for the declarations and segments that it has met, and goes over the bytes twice.
+/// left to right. It takes memory for the declarations and segments that it has met, and goes over the bytes twice. Look-ups of declared dimensions
+/// hash names with `keys`.
 #[tactic(auto, unfolding(crate::specs::Reading::index_commit))]
-pub fn read_index_commit(alloc: Global, number: u64, bytes: &[u8]) -> Result<IndexCommit, FileFault>
+pub fn read_index_commit(
+    alloc: Global,
+    keys: RandomState,
+    number: u64,
+    bytes: &[u8],
+) -> Result<IndexCommit, FileFault>
     ensures ok { IfOk result (λ c. index_commit number bytes.now ≡ Ok (index_listing c)) }
     ensures err { IfErr result (λ e. e ≢ Memory → index_commit number bytes.now ≡ Err e) }
 {
     let body = body(bytes)?;
-    index(alloc, number, body)
+    index(alloc, keys, number, body)
 }
 
 #[tactic(auto, unfolding(crate::specs::Spelling::index_bytes))]

@@ -10,14 +10,24 @@ use facet_model::DimFlags;
 use facet_names::NoMemory;
 use indexmap::IndexMap;
 use std::alloc::Global;
+use std::hash::RandomState;
 use std::marker::Model;
+
+// To compare with so many names takes less time than to hash one.
+const FEW: usize = 8;
+
+const NO_FLAGS: DimFlags = DimFlags {
+    hierarchical: false,
+    multi_valued: false,
+    require_dim_count: false,
+};
 
 /// The declared dimensions with their flags, in the order in which they were declared. A dimension that was not declared has no flag set.
 ///
-/// A flag is found by hash, in the time of one look-up whatever the number of dimensions.
+/// The flags of a dimension are found by comparing where few are declared, and by hash otherwise, so in the time of one look-up whatever their number.
 #[derive(Drop)]
 pub struct FacetsConfig {
-    pub(crate) dims: IndexMap<String, DimFlags>,
+    pub(crate) dims: IndexMap<String, DimFlags, RandomState>,
 }
 
 impl Model for FacetsConfig {
@@ -34,26 +44,37 @@ impl Model for FacetsConfig {
 impl FacetsConfig {
     ghost use Rattle.facet_config.specs.declared.fault.DeclareFault.TheVariants.{NoMemory as Memory};
 
-    /// No dimension is declared.
-    pub fn new(alloc: Global) -> FacetsConfig
+    /// No dimension is declared. Look-ups hash names with `keys`, on which no answer depends.
+    pub fn new(alloc: Global, keys: RandomState) -> FacetsConfig
         ensures { result ≡ [] }
     {
         FacetsConfig {
-            dims: IndexMap::new(alloc),
+            dims: IndexMap::with_hasher(alloc, keys),
         }
+    }
+
+    // Compares with one name after the other.
+    fn compared(&self, dim: &str) -> DimFlags
+        ensures { result ≡ flags self.now dim.now }
+    {
+        for (name, flags) in self.dims.iter() {
+            if dim == name.as_str() {
+                return *flags;
+            }
+        }
+        NO_FLAGS
     }
 
     /// The flags of a dimension. It takes no memory.
     pub fn flags(&self, dim: &str) -> DimFlags
         ensures { result ≡ flags self.now dim.now }
     {
+        if self.dims.len() <= FEW {
+            return self.compared(dim);
+        }
         match self.dims.get(dim) {
             Some(flags) => *flags,
-            None => DimFlags {
-                hierarchical: false,
-                multi_valued: false,
-                require_dim_count: false,
-            },
+            None => NO_FLAGS,
         }
     }
 

@@ -150,7 +150,7 @@ pub fn run_generated<R: Threads + Wait + Sync, K: Sink, D: Disk, G: Gate + Sync>
         ⊎ StaysShut D.Disk (generated documents sessions) disk result.disk K.Sink sink.old sink.new result.trace result.status }
     ensures failed { result.status ≡ Status.DiskFault → (t : Told) → D.told disk ≡ Some t → Rose (D.failures disk) (D.failures result.disk) }
 {
-    match script_for(alloc, documents, sessions) {
+    match script_for(alloc, keys, documents, sessions) {
         Ok(script) => run_generated_script(rt, alloc, keys, sink, disk, gate, script),
         Err(NoMemory) => tell(sink, Status::NoMemory, disk),
     }

@@ -110,7 +110,7 @@ fn run_read<R: Threads + Wait + Sync, S: Source, K: Sink, D: Disk, G: Gate + Syn
         Err(ReadFault::Failed) => tell(sink, Status::ReadFault, disk),
         Err(ReadFault::TooLong) => tell(sink, Status::TooLong, disk),
         Err(ReadFault::NoMemory) => tell(sink, Status::NoMemory, disk),
-        Ok(input) => match read_script(alloc, &input) {
+        Ok(input) => match read_script(alloc, keys, &input) {
             Err(ScriptFault::NoMemory) => tell(sink, Status::NoMemory, disk),
             Err(fault) => tell_of_script(alloc, sink, fault, disk),
             Ok(script) => {

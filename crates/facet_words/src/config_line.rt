@@ -15,6 +15,7 @@ use facet_names::NoMemory;
 use facet_replies::ScriptFault;
 use serde_json::Value;
 use std::alloc::Global;
+use std::hash::RandomState;
 
 // A dimension that the config line declares.
 #[derive(Drop)]
@@ -83,10 +84,14 @@ fn dimensions_in(alloc: Global, value: &Value) -> Result<Option<Vec<Dimension>>,
 }
 
 // The config with these declarations, or None where two have one name.
-fn declared(alloc: Global, dims: &[Dimension]) -> Result<Option<FacetsConfig>, NoMemory>
+fn declared(
+    alloc: Global,
+    keys: RandomState,
+    dims: &[Dimension],
+) -> Result<Option<FacetsConfig>, NoMemory>
     ensures { IfOk result (λ o. o ≡ config_from (map (λ d. (string_bytes d.name, d.flags)) dims.now)) }
 {
-    let mut config = FacetsConfig::new(alloc);
+    let mut config = FacetsConfig::new(alloc, keys);
     for dim in dims {
         match config.declare(dim.name.as_str(), dim.flags) {
             Ok(()) => {}
@@ -100,13 +105,17 @@ fn declared(alloc: Global, dims: &[Dimension]) -> Result<Option<FacetsConfig>, N
 }
 
 #[tactic(auto, unfolding(crate::specs::Orders::settings_of))]
-fn settings_in(alloc: Global, value: &Value) -> Result<Option<Settings>, NoMemory>
+fn settings_in(
+    alloc: Global,
+    keys: RandomState,
+    value: &Value,
+) -> Result<Option<Settings>, NoMemory>
     ensures { IfOk result (λ o. option_map settings_view o ≡ settings_of (view value.now)) }
 {
     let Some(dims) = dimensions_in(alloc, value)? else {
         return Ok(None);
     };
-    let Some(config) = declared(alloc, &dims)? else {
+    let Some(config) = declared(alloc, keys, &dims)? else {
         return Ok(None);
     };
     let Some(max_docs) = whole_or(value, "max_docs", 1_000_000, 1, 1_000_000) else {
@@ -138,12 +147,12 @@ fn settings_in(alloc: Global, value: &Value) -> Result<Option<Settings>, NoMemor
 }
 
 #[tactic(auto, unfolding(crate::specs::Scripts::config_of))]
-fn config_in(alloc: Global, value: &Value) -> Result<Settings, ScriptFault>
+fn config_in(alloc: Global, keys: RandomState, value: &Value) -> Result<Settings, ScriptFault>
     ensures ok { IfOk result (λ s. config_of (view value.now) ≡ Ok (settings_view s)) }
     ensures err { IfErr result (λ e. e ≢ Memory → config_of (view value.now) ≡ Err e) }
 {
     match value.get("cmd").and_then(Value::as_str) {
-        Some("config") => match settings_in(alloc, value)? {
+        Some("config") => match settings_in(alloc, keys, value)? {
             Some(settings) => Ok(settings),
             None => Err(ScriptFault::BadShape { line: 1 }),
         },
@@ -152,14 +161,14 @@ fn config_in(alloc: Global, value: &Value) -> Result<Settings, ScriptFault>
     }
 }
 
-/// The settings of the first line's bytes, or why they are none.
+/// The settings of the first line's bytes, or why they are none. Look-ups of declared dimensions hash names with `keys`.
 #[tactic(auto, unfolding(crate::specs::Scripts::config_at))]
-pub fn read_settings(alloc: Global, line: &[u8]) -> Result<Settings, ScriptFault>
+pub fn read_settings(alloc: Global, keys: RandomState, line: &[u8]) -> Result<Settings, ScriptFault>
     ensures ok { IfOk result (λ s. config_at line.now ≡ Ok (settings_view s)) }
     ensures err { IfErr result (λ e. e ≢ Memory → config_at line.now ≡ Err e) }
 {
     match line_value(alloc, line)? {
-        Some(value) => config_in(alloc, &value),
+        Some(value) => config_in(alloc, keys, &value),
         None => Err(ScriptFault::NotJson { line: 1 }),
     }
 }

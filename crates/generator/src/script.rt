@@ -11,6 +11,7 @@ use crate::settings::settings;
 use facet_names::{NoMemory, Path};
 use facet_words::sessions::{Command, Order, Script};
 use std::alloc::Global;
+use std::hash::RandomState;
 
 #[tactic(auto, unfolding(crate::specs::Generated::add_order))]
 fn add(alloc: Global, first: &[Vec<Path>], sessions: u32, number: u32) -> Result<Order, NoMemory>
@@ -54,14 +55,19 @@ fn phases(alloc: Global, documents: u32, sessions: u32) -> Result<Vec<Vec<Order>
 
 /// The script that generates so many documents: sessions add them in turn, and then the first of them refreshes, commits, asks for numbers and searches.
 ///
-/// It takes memory for all of the documents. NoMemory where there is not enough.
-pub fn script_for(alloc: Global, documents: u32, sessions: u32) -> Result<Script, NoMemory>
+/// It takes memory for all of the documents. NoMemory where there is not enough. Look-ups of declared dimensions hash names with `keys`.
+pub fn script_for(
+    alloc: Global,
+    keys: RandomState,
+    documents: u32,
+    sessions: u32,
+) -> Result<Script, NoMemory>
     requires some { 1 ≤ sessions }
     requires few { sessions ≤ 64 }
     ensures is { IfOk result (λ s. script_view s ≡ generated documents sessions) }
     ensures order { IfOk result (λ s. AreInOrder (script_view s).phases) }
 {
-    let settings = settings(alloc)?;
+    let settings = settings(alloc, keys)?;
     let phases = phases(alloc, documents, sessions)?;
     Ok(Script { settings, phases })
 }

@@ -8,6 +8,7 @@ use facet_model::DimFlags;
 use facet_names::NoMemory;
 use facet_words::Settings;
 use std::alloc::Global;
+use std::hash::RandomState;
 
 fn declare(config: &mut FacetsConfig, dim: &str, flags: DimFlags) -> Result<(), NoMemory>
     requires { declare_fault config.old dim.now ≡ None }
@@ -20,7 +21,7 @@ fn declare(config: &mut FacetsConfig, dim: &str, flags: DimFlags) -> Result<(), 
     }
 }
 
-fn config(alloc: Global) -> Result<FacetsConfig, NoMemory>
+fn config(alloc: Global, keys: RandomState) -> Result<FacetsConfig, NoMemory>
     ensures { IfOk result (λ c. c ≡ generated_settings.config) }
 {
     let date = DimFlags {
@@ -33,17 +34,17 @@ fn config(alloc: Global) -> Result<FacetsConfig, NoMemory>
         multi_valued: true,
         require_dim_count: false,
     };
-    let mut config = FacetsConfig::new(alloc);
+    let mut config = FacetsConfig::new(alloc, keys);
     declare(&mut config, "Date", date)?;
     declare(&mut config, "Tag", tag)?;
     Ok(config)
 }
 
 /// The settings of generated documents.
-pub(crate) fn settings(alloc: Global) -> Result<Settings, NoMemory>
+pub(crate) fn settings(alloc: Global, keys: RandomState) -> Result<Settings, NoMemory>
     ensures { IfOk result (λ s. settings_view s ≡ generated_settings) }
 {
-    let config = config(alloc)?;
+    let config = config(alloc, keys)?;
     Ok(Settings {
         config,
         max_docs: 1_000_000,

@@ -14,6 +14,7 @@ use seg_postings::Ords;
 use std::alloc::Global;
 use std::test::Fail;
 use taxo_list::{Labelled, TaxoView};
+use test_keys::fixed_keys;
 
 // The flags of one hierarchical dimension.
 pub(crate) fn flags_of(multi_valued: bool, require_dim_count: bool) -> DimFlags {
@@ -25,7 +26,7 @@ pub(crate) fn flags_of(multi_valued: bool, require_dim_count: bool) -> DimFlags 
 }
 
 pub(crate) fn config_of(alloc: Global, dim: &str, flags: DimFlags) -> Result<FacetsConfig, Fail> {
-    let mut config = FacetsConfig::new(alloc);
+    let mut config = FacetsConfig::new(alloc, fixed_keys()?);
     config.declare(dim, flags)?;
     Ok(config)
 }

@@ -110,7 +110,7 @@ pub fn begin<N: Name, R: Wait>(rt: &R, alloc: Global, opened: Opened) -> Result<
         labels,
         mut first,
     } = opened;
-    let config = Arc::new(alloc, FacetsConfig::new(alloc))?;
+    let config = Arc::new(alloc, FacetsConfig::new(alloc, keys))?;
     let again = Arc::try_clone(&config)?;
     let writer = TaxoWriter::<N>::open(alloc, keys, labels, &mut first, 16, 4096, 1_000_000)?;
     let view = writer.snapshot(rt, &mut first)?;

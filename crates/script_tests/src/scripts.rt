@@ -4,6 +4,7 @@ use facet_words::Settings;
 use facet_words::sessions::{Command, Order, Script, read_script};
 use std::alloc::Global;
 use std::test::Fail;
+use test_keys::fixed_keys;
 
 // What is read of a script that sets all that may be set.
 const SHOP: &[u8] =
@@ -59,7 +60,7 @@ fn has_no_order(script: &Script) -> bool {
 
 // Whether these are the settings of a script without a key, which has no order.
 fn has_defaults(alloc: Global) -> Result<bool, Fail> {
-    let script = read_script(alloc, b"{\"cmd\":\"config\"}\n")?;
+    let script = read_script(alloc, fixed_keys()?, b"{\"cmd\":\"config\"}\n")?;
     Ok(has_no_order(&script) && numbers(&script.settings) == (1_000_000, 1_000_000, 16, 4_096))
 }
 
@@ -97,7 +98,7 @@ fn has_orders(script: &Script) -> bool {
 
 // Whether the script is read as it should be.
 fn is_read(alloc: Global) -> Result<bool, Fail> {
-    let script = read_script(alloc, SHOP)?;
+    let script = read_script(alloc, fixed_keys()?, SHOP)?;
     Ok(has_settings(&script) && has_orders(&script))
 }
 

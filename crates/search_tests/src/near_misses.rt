@@ -80,7 +80,7 @@ fn batches(alloc: Global, draws: &mut Draws, list: &mut Taxonomy) -> Result<Vec<
 }
 
 fn config(alloc: Global) -> Result<FacetsConfig, Fail> {
-    let mut config = FacetsConfig::new(alloc);
+    let mut config = FacetsConfig::new(alloc, fixed_keys()?);
     let mut flags = DimFlags {
         hierarchical: true,
         multi_valued: false,

@@ -87,7 +87,7 @@ fn are_both_counted(
 }
 
 fn are_books_counted(alloc: Global) -> Result<bool, Fail> {
-    let config = FacetsConfig::new(alloc);
+    let config = FacetsConfig::new(alloc, fixed_keys()?);
     let mut list = Taxonomy::new(alloc, fixed_keys()?)?;
     let batches = vec![in alloc; books(alloc, &mut list)?]?;
     let segments = all_stored(alloc, &config, &list, &batches)?;

@@ -1,6 +1,6 @@
 -- Tables of terms: how a map's entries read, and what holds of two tables that find the same.
-use Rattle.std.proofs.Common.{◌≡◌, ℕ, ◌+◌, Bool, true, false, cond, ◌||◌, List, [], ◌∷◌, ◌++◌, map, get_or, Option, Some, None, String, string_bytes, Global, refl, sym, ap, ◌∙◌, arith, append_assoc, true≢false}
-use Rattle.std.specs.Prelude.{option_map}
+use Rattle.std.proofs.Common.{◌≡◌, ◌<◌, ℕ, ◌+◌, Bool, true, false, cond, ◌||◌, List, [], ◌∷◌, ◌++◌, map, get_or, Option, Some, None, String, string_bytes, Global, length, slice_get, refl, sym, ap, subst, ◌∙◌, arith, append_assoc, true≢false}
+use Rattle.std.specs.Prelude.{option_map, IfSome}
 use Rattle.std.specs.declared.vec.Vec.{Vec}
 use Rattle.std.specs.declared.cmp.Ordering.{Ordering}
 use Rattle.std.specs.declared.cmp.Ordering.TheVariants.{Less, Equal, Greater}
@@ -12,18 +12,19 @@ use Rattle.std.specs.List.{AllByRecursion, IsDistinct}
 use Rattle.std.specs.List.Sorted.{IsStrictlySortedBy, IsSorted, IsPermutation}
 use Rattle.std.specs.Map.{lookup, keys_of}
 use Rattle.std.specs.Str.{bytes_eq}
-use Rattle.std.specs.String.{string_eq, string_cmp}
+use Rattle.std.specs.String.{string_eq, string_eq_equiv, string_cmp}
 use Rattle.std.proofs.lemmas.Cmp.{on_total}
 use Rattle.std.proofs.lemmas.List.Sorted.{IsPermutation-map}
 use Rattle.std.proofs.lemmas.Map.{lookup-none}
-use Rattle.std.proofs.lemmas.Map.Entries.{none_below_head}
+use Rattle.std.proofs.lemmas.Map.Entries.{lookup_from_place, none_below_head}
+use Rattle.std.proofs.lemmas.Option.{slice_get-map, slice_get_within}
 use Rattle.std.proofs.lemmas.Map.Keys.{sorted_from_all_adjacent, apart_from_distinct}
 use Rattle.std.proofs.lemmas.Map.Lookups.{exact_bytes}
 use Rattle.std.proofs.lemmas.Map.Text.{is_eq-slice_cmp, hash_map_updates_text}
 use Rattle.indexmap.proofs.MapLemmas.{lookup_permutation}
 use Rattle.facet_model.specs.Words.{word_cmp}
 use Rattle.std.proofs.lemmas.List.{map-append}
-use Rattle.seg_terms.specs.Noting.{Table, table_of, found, with_place, AreNoted}
+use Rattle.seg_terms.specs.Noting.{Table, table_of, found, put_place, with_place, AreNoted}
 use Rattle.seg_terms.specs.Places.{term_view}
 use Rattle.seg_terms.specs.declared.term_places.TermPlaces.{TermPlaces}
 use Rattle.facet_names.proofs.Keys.{is_key}
@@ -80,6 +81,41 @@ updated m n bs v u t = found_is t n.entries ∙ ap items_of (hash_map_updates_te
     by : (b : Bool) → items_of (cond b (Some v) (lookup (is_key t) m.entries)) ≡ cond b (Some v.items) (found (table_of m.entries) t)
     by true = refl
     by false = sym (found_is t m.entries)
+
+abbrev entry_of : String Global × Vec ℕ Global → List ℕ × List ℕ
+entry_of e = (string_bytes e.0, e.1.items)
+
+-- the term with a number, and its places
+pub term_at : (es : Entries) (number : ℕ) (key : String Global) (v : Vec ℕ Global) → slice_get es number ≡ Some (key, v) → slice_get (table_of es) number ≡ Some (string_bytes key, v.items)
+term_at es number key v is = slice_get-map entry_of es number ∙ ap (option_map entry_of) is
+
+-- the place is noted under the term with this number, whose places these were
+pub noted_at : {S : Type 0} (m n : HashMap (String Global) (Vec ℕ Global) S) (number : ℕ) (key : String Global) (old new : Vec ℕ Global) (place : ℕ) → hash.IsUnique string_eq m → slice_get m.entries number ≡ Some (key, old) → hash.Updates string_eq m n key (Some new) → new.items ≡ put_place old.items place → IfSome (slice_get (table_of m.entries) number) (λ e. AreNoted place (e.0 ∷ []) (table_of m.entries) (table_of n.entries))
+noted_at m n number key old new place unique at updates put =
+    let bs = string_bytes key in
+    let there : lookup (is_key bs) m.entries ≡ Some old = lookup_from_place string_eq_equiv m.entries number key old unique at in
+    let was : found (table_of m.entries) bs ≡ Some old.items = found_is bs m.entries ∙ ap items_of there in
+    let noted : AreNoted place (bs ∷ []) (table_of m.entries) (table_of n.entries) = noted_one (table_of m.entries) (table_of n.entries) bs place new.items (updated m n bs new updates) (ap (λ o. with_place o place) was ∙ ap Some (sym put)) in
+    subst (λ o. IfSome o (λ e. AreNoted place (e.0 ∷ []) (table_of m.entries) (table_of n.entries))) (sym (term_at m.entries number key old at)) noted
+
+-- a place that is noted under the term with a number is noted under that term
+pub noted_under : (old new : Table) (number : ℕ) (term : List ℕ) (place : ℕ) → option_map (λ e. e.0) (slice_get old number) ≡ Some term → IfSome (slice_get old number) (λ e. AreNoted place (e.0 ∷ []) old new) → AreNoted place (term ∷ []) old new
+noted_under old new number term place is noted = by (slice_get old number) is noted
+  where
+    by : (o : Option (List ℕ × List ℕ)) → option_map (λ e. e.0) o ≡ Some term → IfSome o (λ e. AreNoted place (e.0 ∷ []) old new) → AreNoted place (term ∷ []) old new
+    by None is noted = absurd cc
+    by (Some e) is noted = same cc
+      where
+        same : e.0 ≡ term → AreNoted place (term ∷ []) old new
+        same h = subst (λ t. AreNoted place (t ∷ []) old new) h noted
+
+-- so it is within the table
+pub is_within : (old : Table) (number : ℕ) (term : List ℕ) → option_map (λ e. e.0) (slice_get old number) ≡ Some term → number < length old
+is_within old number term is = by (slice_get old number) refl is
+  where
+    by : (o : Option (List ℕ × List ℕ)) → slice_get old number ≡ o → option_map (λ e. e.0) o ≡ Some term → number < length old
+    by None at is = absurd cc
+    by (Some e) at is = slice_get_within old number e at
 
 -- ---- the order of terms
 

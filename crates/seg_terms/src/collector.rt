@@ -47,13 +47,14 @@ pub fn write_word_term(term: &mut String, word: &[u8]) -> Result<(), NoMemory>
 
 impl TermCollector {
     /// No term. Look-ups hash terms with `keys`.
-    pub fn new(alloc: Global, keys: RandomState) -> TermCollector
-        ensures { result.table ≡ [] }
+    pub fn new(alloc: Global, keys: RandomState) -> Result<TermCollector, NoMemory>
+        ensures { IfOk result (λ c. c.table ≡ []) }
     {
-        TermCollector {
-            table: TermTable::new(alloc, keys),
+        let table = TermTable::new(alloc, keys)?;
+        Ok(TermCollector {
+            table,
             term: String::new(alloc),
-        }
+        })
     }
 
     // A piece that has no byte is no word.

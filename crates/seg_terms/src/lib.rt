@@ -4,6 +4,7 @@
 mod collector;
 mod entry;
 mod laws;
+mod recent;
 mod table;
 mod term_places;
 

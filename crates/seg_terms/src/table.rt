@@ -1,10 +1,11 @@
-ghost use Rattle.std.specs.Prelude.{◌≡◌, ℕ, List, [], ◌∷◌, None, map, IfOk, OnOk};
+ghost use Rattle.std.specs.Prelude.{◌≡◌, ◌<◌, ℕ, List, [], ◌∷◌, true, Some, None, IfSome, length, map, option_map, slice_get, IfOk, OnOk};
 ghost use Rattle.std.specs.List.Sorted.{IsStrictlySortedBy};
 ghost use Rattle.std.specs.Map.{keys_of};
 ghost use Rattle.facet_model.specs.Words.{word_cmp};
 ghost use Rattle.seg_terms.specs.Noting.{put_place, found, AreNoted};
 ghost use Rattle.seg_terms.specs.Places.{term_view};
 
+use crate::recent::{RecentTerms, slot_of};
 use crate::term_places::TermPlaces;
 use facet_names::NoMemory;
 use indexmap::IndexMap;
@@ -12,10 +13,11 @@ use std::alloc::Global;
 use std::hash::RandomState;
 use std::marker::Model;
 
-/// Terms with the places of the documents that have them, found by hash.
+/// Terms with the places of the documents that have them, found by hash. The number of a term is its place in the order in which they came.
 #[derive(Drop)]
 pub struct TermTable {
     terms: IndexMap<String, Vec<u32>, RandomState>,
+    recent: RecentTerms,
 }
 
 impl Model for TermTable {
@@ -41,22 +43,54 @@ fn put_place(places: &mut Vec<u32>, place: u32) -> Result<(), NoMemory>
 
 impl TermTable {
     /// No term. Look-ups hash terms with `keys`, on which no answer depends.
-    pub fn new(alloc: Global, keys: RandomState) -> TermTable
-        ensures { result ≡ [] }
+    pub fn new(alloc: Global, keys: RandomState) -> Result<TermTable, NoMemory>
+        ensures { IfOk result (λ t. t ≡ []) }
     {
-        TermTable {
+        let recent = RecentTerms::new(alloc)?;
+        Ok(TermTable {
             terms: IndexMap::with_hasher(alloc, keys),
-        }
+            recent,
+        })
     }
 
-    /// Notes a place under a term. It takes memory for the term's text where the term is new, and for the places where they grow.
+    /// Notes a place under a term. It takes memory for the term's text where the term is new, and for the places where they grow. A term that was noted a
+    /// short while ago is found by a comparison, and others by hash.
     pub fn note(&mut self, term: &str, place: u32) -> Result<(), NoMemory>
         ensures { OnOk result (AreNoted place (term.now ∷ []) self.old self.new) }
     {
-        if let Some(places) = self.terms.get_mut(term) {
-            return put_place(places, place);
+        let slot = slot_of(term);
+        let guess = self.recent.at(slot);
+        if self.is_at(guess, term) {
+            return self.put_at(guess, place);
         }
-        self.add(term, place)
+        match self.terms.get_full(term) {
+            Some((number, _, _)) => {
+                self.recent.put(slot, number);
+                self.put_at(number, place)
+            }
+            None => {
+                self.recent.put(slot, self.terms.len());
+                self.add(term, place)
+            }
+        }
+    }
+
+    fn is_at(&self, number: usize, term: &str) -> bool
+        ensures { result ≡ true → option_map (λ e. e.0) (slice_get self.now number) ≡ Some term.now }
+    {
+        match self.terms.get_index(number) {
+            Some((known, _)) => known.as_str() == term,
+            None => false,
+        }
+    }
+
+    // Notes a place under the term with a number.
+    fn put_at(&mut self, number: usize, place: u32) -> Result<(), NoMemory>
+        requires { number < length self.old }
+        ensures { OnOk result (IfSome (slice_get self.old number) (λ e. AreNoted place (e.0 ∷ []) self.old self.new)) }
+    {
+        let (_, places) = self.terms.pair_mut(number);
+        put_place(places, place)
     }
 
     // Adds a term that is not there.

@@ -32,7 +32,7 @@ pub fn terms_of(
     ensures terms { IfOk result (λ v. map term_view v.items ≡ terms_of (map (λ e. e.doc) entries.now)) }
     ensures short { IfOk result (λ v. AllByRecursion (λ t. IsShortTerm t.0) (map term_view v.items)) }
 {
-    let mut collector = TermCollector::new(alloc, keys);
+    let mut collector = TermCollector::new(alloc, keys)?;
     for (place, entry) in entries.iter().enumerate() {
         collector.note_document(alloc, &entry.doc, place as u32)?;
     }

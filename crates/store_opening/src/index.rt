@@ -108,7 +108,11 @@ fn read_document_parts<D: Disk>(
 }
 
 // The commit of the index that a file is.
-fn commit_of(alloc: Global, found: &CommitBytes) -> Result<IndexCommit, OpenFault>
+fn commit_of(
+    alloc: Global,
+    keys: RandomState,
+    found: &CommitBytes,
+) -> Result<IndexCommit, OpenFault>
     ensures ok { IfOk result (λ c. index_commit found.now.number found.now.bytes.items ≡ Ok (index_listing c)) }
     ensures few { IfOk result (λ c. sum_by documents_of c.parts.items ≤ 1000000) }
     ensures err { IfErr result (λ e. e ≢ Memory
@@ -120,7 +124,7 @@ fn commit_of(alloc: Global, found: &CommitBytes) -> Result<IndexCommit, OpenFaul
         kind: Kind::Commit,
         number: found.number,
     };
-    match read_index_commit(alloc, found.number, &found.bytes) {
+    match read_index_commit(alloc, keys, found.number, &found.bytes) {
         Ok(commit) => Ok(commit),
         Err(fault) => Err(of_file(name, fault)),
     }
@@ -191,7 +195,7 @@ pub(crate) fn read_index<D: Disk>(
             segments: Vec::new(alloc),
         });
     };
-    let commit = commit_of(alloc, &found)?;
+    let commit = commit_of(alloc, keys, &found)?;
     check_commit(alloc, config, labels, &commit)?;
     let segments = read_document_parts(
         alloc,

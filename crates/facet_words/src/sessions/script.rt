@@ -12,6 +12,7 @@ use crate::sessions::order::read_line;
 use facet_replies::ScriptFault;
 use json::Scratch;
 use std::alloc::Global;
+use std::hash::RandomState;
 use std::mem;
 
 // The phases of the lines behind the first one.
@@ -43,9 +44,10 @@ fn read_phases(alloc: Global, bytes: &[u8]) -> Result<Vec<Vec<Order>>, ScriptFau
 
 /// The script of several sessions that the bytes are, or the fault of their first faulty line.
 ///
-/// They are read line by line, and no line behind a faulty one is looked at. It keeps memory for the orders alone.
+/// They are read line by line, and no line behind a faulty one is looked at. It keeps memory for the orders alone. Look-ups of declared dimensions hash
+/// names with `keys`.
 #[tactic(auto, unfolding(crate::specs::Sessions::Scripts::script))]
-pub fn read_script(alloc: Global, bytes: &[u8]) -> Result<Script, ScriptFault>
+pub fn read_script(alloc: Global, keys: RandomState, bytes: &[u8]) -> Result<Script, ScriptFault>
     ensures ok { IfOk result (λ s. script bytes.now ≡ Ok (script_view s)) }
     ensures err { IfErr result (λ e. e ≢ Memory → script bytes.now ≡ Err e) }
     ensures order { IfOk result (λ s. AreInOrder (script_view s).phases) }
@@ -54,7 +56,7 @@ pub fn read_script(alloc: Global, bytes: &[u8]) -> Result<Script, ScriptFault>
         return Err(ScriptFault::NoConfigFirst);
     }
     let (first, rest) = cut_line(bytes);
-    let settings = read_settings(alloc, first)?;
+    let settings = read_settings(alloc, keys, first)?;
     let phases = read_phases(alloc, rest)?;
     Ok(Script { settings, phases })
 }

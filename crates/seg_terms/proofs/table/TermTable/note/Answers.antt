@@ -1,26 +1,22 @@
-use Rattle.std.proofs.Common.{rules, ◌≡◌, ap, sym, ◌∙◌, Some, None}
-use Rattle.std.specs.Option.{option_copied_mut}
-use Rattle.std.specs.Map.{lookup}
+use Rattle.std.proofs.Common.{◌≡◌, ◌∙◌, Some, option_map, slice_get, string_bytes, sym, ap}
+use Rattle.std.proofs.lemmas.Map.Made.{lookup_key_passes}
 use Rattle.std.proofs.lemmas.Result.{on_ok_weaker}
-use Rattle.seg_terms.specs.Noting.{table_of, found, with_place}
-use Rattle.seg_terms.proofs.Tables.{found_is, items_of, noted_one, updated}
+use Rattle.seg_terms.specs.Noting.{table_of}
+use Rattle.seg_terms.proofs.Tables.{bytes_same, found_is, items_of, noted_under, term_at}
 use Rattle.seg_terms.proofs.table.TermTable.note.Goals as goal
 use Rattle.facet_names.proofs.Keys.{is_key}
 
 pub add-requires : goal.add-requires
-add-requires c =
-    let m = c.self.inside.terms in
-    let none : lookup (is_key c.args.term.now) m.entries ≡ None = sym c.get_mut.ensures.value ∙ ap option_copied_mut c.in_default.is in
-    let same : c.get_mut.follows.lender-at-none ≡ m = search rules in
-    ap (λ n. found (table_of n.entries) c.args.term.now) same ∙ found_is c.args.term.now m.entries ∙ ap items_of none
+add-requires c = found_is c.args.term.now c.self.inside.terms.entries ∙ ap items_of (sym c.in-None.ensures.value)
 
 pub returns-in-Some : goal.returns-in-Some
 returns-in-Some c =
-    let m = c.self.inside.terms in
-    let v = c.put_place.new.places in
-    let n = c.get_mut.follows.lender v in
-    let there : lookup (is_key c.args.term.now) m.entries ≡ Some c.in-Some.places.now = sym c.get_mut.ensures.value ∙ ap option_copied_mut c.in-Some.is in
-    let was : found (table_of m.entries) c.args.term.now ≡ Some c.in-Some.places.now.items = found_is c.args.term.now m.entries ∙ ap items_of there in
+    let es = c.self.inside.terms.entries in
+    let term = c.args.term.now in
+    let number = c.in-Some.number in
+    let key = c.in-Some.field-0-1.now in
+    let same : term ≡ string_bytes key = bytes_same term (string_bytes key) (lookup_key_passes (is_key term) es key (sym c.in-Some.ensures.key)) in
+    let there : option_map (λ e. e.0) (slice_get (table_of es) number) ≡ Some term = ap (option_map (λ e. e.0)) (term_at es number key c.in-Some.field-0-2.now c.in-Some.ensures.entry) ∙ ap Some (sym same) in
     rw (← c.self.view_is) (
-    on_ok_weaker c.put_place.result (λ put. noted_one (table_of m.entries) (table_of n.entries) c.args.term.now c.args.place v.items (updated m n c.args.term.now v ((c.get_mut.follows.holds v).3 (search rules))) (ap (λ o. with_place o c.args.place) was ∙ ap Some (sym put))) c.put_place.ensures
+    on_ok_weaker c.put_at-in-Some.result (noted_under (table_of es) c.put_at-in-Some.new.self number term c.args.place there) c.put_at-in-Some.ensures
     )
