@@ -23,6 +23,8 @@ pub mod Exact
 pub mod Tested
 pub mod Books
 pub mod Points
+pub mod Outcomes
+pub mod Pointed
 pub mod Gluing
 pub mod Growing
 pub mod Alone

@@ -18,8 +18,9 @@ pub fn sessions_give_bytes()
     ensures first { FirstPhasesGivePart }
 {}
 
-/// Each acknowledged commit has a point of as many operations in the history of commits, with all labels that its session had been shown, each failed one a
-/// point with its count, and there are at most as many points as commits beside the opened one, which is the first.
+/// The first point of the history of commits is the opened one. After it the points of each session are its commits that were acknowledged or failed on the disk,
+/// in order: a point has as many operations as its commit was answered, and all labels that the session had been shown, or the count at which its commit failed.
+/// No other order has a point.
 pub fn commits_have_points()
     ensures { CommitsHavePoints }
 {}

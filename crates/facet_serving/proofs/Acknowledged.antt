@@ -17,10 +17,12 @@ use Rattle.facet_model.specs.Histories.{Operation, docs}
 use Rattle.facet_output.proofs.Among.{In, all_at, in_map}
 use Rattle.facet_output.proofs.Answers.{get_map}
 use Rattle.facet_output.proofs.Fronts.{get_back}
+use Rattle.facet_output.proofs.Outcomes.{durable_point, failed_point}
 use Rattle.facet_output.specs.Answered.{Answered, in_writing_order}
+use Rattle.facet_output.specs.Commits.{has_outcome}
 use Rattle.facet_output.specs.Replying.{IsCommitted, IsRight}
 use Rattle.facet_output.specs.Seen.{CommitPoint as Point, history_of, labels_of}
-use Rattle.facet_output.specs.Telling.{closed_by, durable, durable_by, failed, failed_by, is_commit, shows, stood, stood_by}
+use Rattle.facet_output.specs.Telling.{closed_by, durable, durable_by, failed, failed_by, shows, stood, stood_by}
 use Rattle.facet_replies.specs.Replies.{no_memory, numbered, refused}
 use Rattle.facet_words.specs.Commands.{Settings}
 use Rattle.facet_words.specs.Sessions.Commands.{Command, Order, commit}
@@ -29,7 +31,7 @@ use Rattle.pair_manager.specs.declared.point.CommitPoint.{CommitPoint}
 use Rattle.store_opening.specs.Files.{greatest_number}
 use Rattle.store_opening.specs.Newest.{next_after}
 use Rattle.facet_serving.proofs.Adds.{right_of, shown_before}
-use Rattle.facet_serving.proofs.Commits.{durable_point, failed_before, failed_point}
+use Rattle.facet_serving.proofs.Commits.{failed_before}
 use Rattle.facet_serving.proofs.Counted.{written_few}
 use Rattle.facet_serving.proofs.Placed.{add_stands}
 use Rattle.facet_serving.specs.Acknowledged.{AcknowledgedStays, CommitsAreAcknowledged, HasAdd, Holds, IsAcknowledged, IsHeld}
@@ -90,7 +92,7 @@ module _ {D : Type 0} (ghosts : Ghosts D) (settings : Settings) (phases : List (
       let asked = ap length ran.right.asked in
       let size = length-map {B = ℕ × Order} ran.answered (λ a. (a.phase, a.order)) in
       let many = ran.points.many in
-      let commits = count_by-le-length (λ (a : Answered). is_commit a.order.command) ran.answered in
+      let commits = count_by-le-length has_outcome ran.answered in
       omega (arith, asked, size, many, commits, le)
 
   acknowledged : (Rose (ghosts.faults old) (ghosts.faults new) → ⊥) → (t : Told) → ghosts.told old ≡ Some t → next_after (greatest_number t.files) ≤ 2 ^ 62 → length (in_writing_order phases) ≤ 4294967296

@@ -125,8 +125,8 @@ pub record IsTraceOf (trace : Trace) (last : Seen) : Type 0 where
   pub sessions : trace.sessions.items ≡ sessions_in (history_of last)
 
 -- The orders of these phases were carried out on the store that was opened, and answered so. At the end there are these labels, operations, published pairs and
--- commits, of which this is the trace. The replies are the right output, each acknowledged commit has a point among the commits, numbers are spent only where
--- the commits may have taken them behind those of all files, and the disk keeps what was committed.
+-- commits, of which this is the trace. The replies are the right output, the commits are those that were acknowledged or failed on the disk, numbers are spent
+-- only where the commits may have taken them behind those of all files, and the disk keeps what was committed.
 pub record Ran {D : Type 0} (ghosts : Ghosts D) (settings : Settings) (phases : List (List Order)) (trace : Trace) (old new : D) : Type 0 where
   pub opened : Opened
   pub last : Seen
