@@ -1,7 +1,7 @@
 -- Phases that end, one after the other.
-use Rattle.std.proofs.Common.{◌≡◌, ◌∙◌, ◌+◌, ◌<◌, List, [], ◌∷◌, ◌++◌, length, take, map, get_or, ap, sym, subst, append_assoc, append-nil}
+use Rattle.std.proofs.Common.{◌≡◌, ◌∙◌, ◌+◌, ◌<◌, List, [], ◌∷◌, ◌++◌, length, take, map, get_or, ap, sym, subst, arith, append_assoc, append-nil, length-append}
 use Rattle.std.specs.Prelude.{Result, Ok, Err, IsErr}
-use Rattle.std.proofs.lemmas.List.{take_more, take-map, map-append, map-id, length-map}
+use Rattle.std.proofs.lemmas.List.{take_more, take-map, map-append, map-id, length-map, length-take}
 use Rattle.std.proofs.lemmas.List.Concat.{flat_map-append}
 use Rattle.pair_manager.specs.declared.pass.Pass.{Pass}
 use Rattle.facet_words.specs.Commands.{Settings}
@@ -15,7 +15,7 @@ use Rattle.facet_engine.specs.Systems.{Engine}
 use Rattle.facet_phases.specs.declared.fault.PhaseFault.{PhaseFault}
 use Rattle.facet_phases.specs.declared.fault.PhaseFault.TheVariants.{Write, NoMemory}
 use Rattle.facet_phases.specs.declared.lane.Lane.{Lane}
-use Rattle.facet_phases.specs.Ending.{EndsPhase, EndsPhases}
+use Rattle.facet_phases.specs.Ending.{BreaksBehind, EndsPhase, EndsPhases}
 use Rattle.facet_phases.specs.Lanes.{Each, IsFlushed, KeepAll}
 use Rattle.facet_phases.specs.Phases.{PhaseRan, answers_in}
 use Rattle.facet_phases.specs.Running.{AreUnderway, CarriesOut}
@@ -49,7 +49,7 @@ steps_more more steps =
     ap answers_in (flat_map-append (λ (l : List Step). l) more (steps ∷ []) ∙ ap (λ (l : List Step). steps_of more ++ l) (append-nil steps)) ∙ answers_append (steps_of more) steps
 
 module _ {C : Type 0} where
-  pub phases_none : (Flushes Breaks : List Answered → Type 0) (engine : Engine) (a : Pass) (xs : List (Lane C)) → Flushes [] → EndsPhases Flushes Breaks engine [] a a xs xs (Ok tt)
+  pub phases_none : (Flushes : List Answered → Type 0) (Breaks : List Answered → List Answered → Type 0) (engine : Engine) (a : Pass) (xs : List (Lane C)) → Flushes [] → EndsPhases Flushes Breaks engine [] a a xs xs (Ok tt)
   phases_none Flushes Breaks engine a xs none settings phases opened ran under = (
     [],
     subst (λ (l : List (List Order)). AreUnderway engine settings l opened (ran ++ []) a xs) (sym (append-nil phases))
@@ -65,17 +65,20 @@ module _ {C : Type 0} where
         subst (λ (l : List (List Order)). AreUnderway engine settings l opened (ran ++ (more ++ steps ∷ [])) b ys) (append_assoc phases done (orders ∷ []))
         (subst (λ (l : List (List Step)). AreUnderway engine settings ((phases ++ done) ++ orders ∷ []) opened l b ys) (append_assoc ran more (steps ∷ [])) under)
 
+-- one is left behind those
+one_left : (all done : List (List Order)) (orders : List Order) → take (length done + 1) all ≡ done ++ orders ∷ [] → length done < length all
+one_left all done orders next =
+    let few = length-take (length done + 1) all in
+    let many : length (take (length done + 1) all) ≡ length done + 1 = ap length next ∙ length-append done (orders ∷ []) in
+    omega (arith, few, many)
+
 module _ {C O : Type 0} (Flushes Breaks : O → O → List Answered → Type 0) (flushes_then : (a b c : O) (xs ys : List Answered) → Flushes a b xs → Flushes b c ys → Flushes a c (xs ++ ys))
-    (breaks_then : (a b c : O) (xs ys zs : List Answered) → Flushes a b xs → Breaks b c ys → Breaks a c (xs ++ (ys ++ zs))) (engine : Engine) (a b c : Pass) (xs ys zs : List (Lane C)) (x y z : O) where
+    (engine : Engine) (a b c : Pass) (xs ys zs : List (Lane C)) (x y z : O) where
   flushed_then : (more : List (List Step)) (steps : List Step) → Flushes x y (answers_of more) → Flushes y z (answers_in steps) → Flushes x z (answers_of (more ++ steps ∷ []))
   flushed_then more steps p q = subst (Flushes x z) (sym (steps_more more steps)) (flushes_then x y z (answers_of more) (answers_in steps) p q)
 
-  broken_then : (more : List (List Step)) (steps : List Step) → Flushes x y (answers_of more) → Breaks y z (answers_in steps) → Breaks x z (answers_of (more ++ steps ∷ []))
-  broken_then more steps p q =
-      subst (Breaks x z) (sym (steps_more more steps ∙ ap (λ (l : List Answered). answers_of more ++ l) (sym (append-nil (answers_in steps))))) (breaks_then x y z (answers_of more) (answers_in steps) [] p q)
-
-  pub phases_more : (done : List (List Order)) (orders : List Order) → EndsPhases (Flushes x y) (Breaks x y) engine done a b xs ys (Ok tt) → EndsPhase (Flushes y z) (Breaks y z) engine orders b c ys zs (Ok tt)
-      → EndsPhases (Flushes x z) (Breaks x z) engine (done ++ orders ∷ []) a c xs zs (Ok tt)
+  pub phases_more : (done : List (List Order)) (orders : List Order) → EndsPhases (Flushes x y) (BreaksBehind Flushes Breaks x y) engine done a b xs ys (Ok tt) → EndsPhase (Flushes y z) (Breaks y z) engine orders b c ys zs (Ok tt)
+      → EndsPhases (Flushes x z) (BreaksBehind Flushes Breaks x z) engine (done ++ orders ∷ []) a c xs zs (Ok tt)
   phases_more done orders first second settings phases opened ran under =
       let d = first settings phases opened ran under in
       let e = second settings (phases ++ done) opened (ran ++ d.0) d.1 in
@@ -83,15 +86,24 @@ module _ {C O : Type 0} (Flushes Breaks : O → O → List Answered → Type 0) 
 
   -- the phase behind some is the last
   pub phases_stop : (all done : List (List Order)) (orders : List Order) (result : Result (Unit {0}) PhaseFault) → c.commits.frame ≡ b.commits.frame → IsErr result → take (length done) all ≡ done → take (length done + 1) all ≡ done ++ orders ∷ []
-      → EndsPhases (Flushes x y) (Breaks x y) engine done a b xs ys (Ok tt) → EndsPhase (Flushes y z) (Breaks y z) engine orders b c ys zs result → EndsPhases (Flushes x z) (Breaks x z) engine all a c xs zs result
+      → EndsPhases (Flushes x y) (BreaksBehind Flushes Breaks x y) engine done a b xs ys (Ok tt) → EndsPhase (Flushes y z) (Breaks y z) engine orders b c ys zs result
+      → EndsPhases (Flushes x z) (BreaksBehind Flushes Breaks x z) engine all a c xs zs result
   phases_stop all done orders (Ok u) frame fails so_far next first second = absurd (cc)
   phases_stop all done orders (Err Write) frame fails so_far next first second = λ settings phases opened ran under.
       let d = first settings phases opened ran under in
       let e = second settings (phases ++ done) opened (ran ++ d.0) d.1 in (
-        length done + 1,
-        d.0 ++ e.0 ∷ [],
-        subst (λ (l : List (List Order)). AreUnderway engine settings (phases ++ l) opened (ran ++ (d.0 ++ e.0 ∷ [])) c zs) (sym next) (one_more engine settings opened phases done orders ran d.0 e.0 c zs e.1),
-        broken_then d.0 e.0 d.2 e.2,
+        length done,
+        d.0,
+        e.0,
+        record {
+          next = one_left all done orders next;
+          middle = b;
+          between = ys;
+          under = subst (λ (l : List (List Order)). AreUnderway engine settings (phases ++ l) opened (ran ++ d.0) b ys) (sym so_far) d.1;
+          last = subst (λ (l : List (List Order)). AreUnderway engine settings (phases ++ l) opened (ran ++ (d.0 ++ e.0 ∷ [])) c zs) (sym next)
+              (one_more engine settings opened phases done orders ran d.0 e.0 c zs e.1);
+        },
+        (y, d.2, e.2),
       )
   phases_stop all done orders (Err NoMemory) frame fails so_far next first second = λ settings phases opened ran under.
       let d = first settings phases opened ran under in

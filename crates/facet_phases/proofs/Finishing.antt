@@ -73,10 +73,16 @@ module _ {C : Type 0} where
       (λ none. let zero : 0 ≡ session = omega arith in subst (λ (n : ℕ). IsTold n (seen_of first) last) zero told)
   -- ---- a weaker statement of how it ended
 
-pub ended_so : (R S : List (List Order) → List (List Step) → Type 0) → ((phases : List (List Order)) (ran : List (List Step)) → R phases ran → S phases ran) → (Flushes Breaks : List Answered → Type 0) (all : List (List Order)) (result : Result (Unit {0}) PhaseFault)
+pub ended_so : (R S : List (List Order) → List (List Step) → Type 0) → ((phases : List (List Order)) (ran : List (List Step)) → R phases ran → S phases ran) → (Flushes : List Answered → Type 0) (Breaks : List Answered → List Answered → Type 0) (all : List (List Order)) (result : Result (Unit {0}) PhaseFault)
     → EndedSo R Flushes Breaks all result → EndedSo S Flushes Breaks all result
 ended_so R S weaker Flushes Breaks all (Ok u) e = (e.0, weaker all e.0 e.1, e.2)
-ended_so R S weaker Flushes Breaks all (Err Write) e = (e.0, e.1, weaker (take e.0 all) e.1 e.2, e.3)
+ended_so R S weaker Flushes Breaks all (Err Write) e = (
+  e.0,
+  e.1,
+  e.2,
+  record { next = e.3.next; carried = weaker (take (e.0 + 1) all) (e.1 ++ e.2 ∷ []) e.3.carried; before = e.3.before },
+  e.4,
+)
 ended_so R S weaker Flushes Breaks all (Err NoMemory) e = (
   e.0,
   e.1,
@@ -84,7 +90,7 @@ ended_so R S weaker Flushes Breaks all (Err NoMemory) e = (
   e.3,
 )
 
-pub runs_to_end : (Flushes Breaks : List Answered → Type 0) (engine : Engine) (all : List (List Order)) (first known : Pass) (last : Seen) (result : Result (Unit {0}) PhaseFault) → RunsSoFar Flushes Breaks engine all first known result
+pub runs_to_end : (Flushes : List Answered → Type 0) (Breaks : List Answered → List Answered → Type 0) (engine : Engine) (all : List (List Order)) (first known : Pass) (last : Seen) (result : Result (Unit {0}) PhaseFault) → RunsSoFar Flushes Breaks engine all first known result
     → known.commits.frame ≡ first.commits.frame → ((session : ℕ) → IsTold session (seen_of known) last) → IsLabelList (labels_of last) → ArePublished last → RunsToEnd Flushes Breaks engine all first last result
 runs_to_end Flushes Breaks engine all first known last result so_far frame told list published settings opened set seen rooted =
     ended_so (HasRunSoFar settings opened known) (HasRun settings opened first last)
@@ -95,7 +101,7 @@ runs_to_end Flushes Breaks engine all first known last result so_far frame told 
 
 module _ {C : Type 0} where
   -- with what the sessions were told, by notes that stay
-  pub runs_to_end_at : (Flushes Breaks : List Answered → Type 0) (engine : Engine) (all : List (List Order)) (first known : Pass) (old new : List (Lane C)) (notes still : Notes) (result : Result (Unit {0}) PhaseFault) → RunsSoFar Flushes Breaks engine all first known result → known.commits.frame ≡ first.commits.frame
+  pub runs_to_end_at : (Flushes : List Answered → Type 0) (Breaks : List Answered → List Answered → Type 0) (engine : Engine) (all : List (List Order)) (first known : Pass) (old new : List (Lane C)) (notes still : Notes) (result : Result (Unit {0}) PhaseFault) → RunsSoFar Flushes Breaks engine all first known result → known.commits.frame ≡ first.commits.frame
       → AreReady engine known old → AllZip (LaneTold (noted notes)) old new → still ≡ notes → IsTold 0 (seen_of known) (noted notes) → ((made : ℕ) → HaveMade made known → AreUpTo made (noted notes)) → IsLabelList (labels_of (noted notes))
       → ArePublished (noted notes) → RunsToEnd Flushes Breaks engine all first (noted still) result
   runs_to_end_at Flushes Breaks engine all first known old new notes still result so_far frame ready z same told numbers list published =
@@ -136,20 +142,26 @@ module _ {C : Type 0} where
           whole = s.under.so_far.asked;
         }
 
-    phases_ended : (Flushes Breaks : List Answered → Type 0) (new : Pass) (lanes : List (Lane C)) (result : Result (Unit {0}) PhaseFault) → PhasesEnded Flushes Breaks engine settings [] opened [] all new lanes result
+    phases_ended : (Flushes : List Answered → Type 0) (Breaks : List Answered → List Answered → Type 0) (new : Pass) (lanes : List (Lane C)) (result : Result (Unit {0}) PhaseFault) → PhasesEnded Flushes Breaks engine settings [] opened [] all new lanes result
         → EndedSo (HasRunSoFar settings opened new) Flushes Breaks all result
     phases_ended Flushes Breaks new lanes (Ok u) e = (e.0, record { so_far = e.1.so_far; spent = e.1.spent }, e.2)
-    phases_ended Flushes Breaks new lanes (Err Write) e = (e.0, e.1, record { so_far = e.2.so_far; spent = e.2.spent }, e.3)
+    phases_ended Flushes Breaks new lanes (Err Write) e = (
+      e.0,
+      e.1,
+      e.2,
+      record { next = e.3.next; carried = record { so_far = e.3.last.so_far; spent = e.3.last.spent }; before = e.3.under.so_far.asked },
+      e.4,
+    )
     phases_ended Flushes Breaks new lanes (Err NoMemory) e = (e.0, e.1, stopped e.0 e.1 new e.2, e.3)
 
-  pub runs_so_far : (Flushes Breaks : List Answered → Type 0) (engine : Engine) (all : List (List Order)) (first begun new : Pass) (begin lanes : List (Lane C)) (result : Result (Unit {0}) PhaseFault) (count : ℕ) → count ≤ 64
+  pub runs_so_far : (Flushes : List Answered → Type 0) (Breaks : List Answered → List Answered → Type 0) (engine : Engine) (all : List (List Order)) (first begun new : Pass) (begin lanes : List (Lane C)) (result : Result (Unit {0}) PhaseFault) (count : ℕ) → count ≤ 64
       → All (λ (orders : List Order). All (λ (o : Order). (1 ≤ o.session) × (o.session ≤ count)) orders) all → All (λ (orders : List Order). IsTrue (lines_rise orders)) all
       → BeginsUnderway engine first begun begin → EndsPhases Flushes Breaks engine all begun new begin lanes result → RunsSoFar Flushes Breaks engine all first new result
   runs_so_far Flushes Breaks engine all first begun new begin lanes result count few within rise under ends settings opened set seen =
       phases_ended engine settings all opened count few within rise Flushes Breaks new lanes result (ends settings [] opened [] (under settings opened set seen))
 
 -- no phase began
-pub runs_none : (Flushes Breaks : List Answered → Type 0) (engine : Engine) (all : List (List Order)) (first new : Pass) → Flushes [] → seen_of new ≡ seen_of first → RunsSoFar Flushes Breaks engine all first new (Err NoMemory)
+pub runs_none : (Flushes : List Answered → Type 0) (Breaks : List Answered → List Answered → Type 0) (engine : Engine) (all : List (List Order)) (first new : Pass) → Flushes [] → seen_of new ≡ seen_of first → RunsSoFar Flushes Breaks engine all first new (Err NoMemory)
 runs_none Flushes Breaks engine all first new none same settings opened set seen = (
   0,
   [],

@@ -1,5 +1,5 @@
 -- How phases end, and what is then handed to the output.
-use Rattle.std.specs.Prelude.{◌≡◌, ◌+◌, ◌++◌, ◌∷◌, ℕ, List, [], length, take, Result, Ok, Err}
+use Rattle.std.specs.Prelude.{◌≡◌, ◌<◌, ◌+◌, ◌++◌, ◌∷◌, ℕ, List, [], length, take, Result, Ok, Err}
 use Rattle.pair_manager.specs.declared.pass.Pass.{Pass}
 use Rattle.facet_words.specs.Commands.{Settings}
 use Rattle.facet_words.specs.Sessions.Commands.{Order}
@@ -27,10 +27,23 @@ pub record StopsShort (C : Type 0) (engine : Engine) (settings : Settings) (phas
   pub frame : new.commits.frame ≡ middle.commits.frame
   pub short : PhaseRan settings middle.commits.frame (ran ++ more) (length (phases ++ take many all)) (seen_of middle) (seen_of new) orders steps
 
+-- The first of these phases were carried out, so many, with these steps, and then the next one with those. It is the last.
+pub record StopsBehind {C : Type 0} (engine : Engine) (settings : Settings) (phases : List (List Order)) (opened : Opened) (ran : List (List Step))
+    (all : List (List Order)) (many : ℕ) (more : List (List Step)) (steps : List Step) (new : Pass) (lanes : List (Lane C)) : Type 0 where
+  pub next : many < length all
+  pub middle : Pass
+  pub between : List (Lane C)
+  pub under : AreUnderway engine settings (phases ++ take many all) opened (ran ++ more) middle between
+  pub last : AreUnderway engine settings (phases ++ take (many + 1) all) opened (ran ++ (more ++ steps ∷ [])) new lanes
+
+-- All of the first replies were handed to the output, and then handing over the last ones failed: in terms of what each is between two moments of the output.
+abbrev pub BreaksBehind : {O : Type 0} → (O → O → List Answered → Type 0) → (O → O → List Answered → Type 0) → O → O → List Answered → List Answered → Type 0
+BreaksBehind {O} Flushes Breaks before now first last = (middle : O) × Flushes before middle first × Breaks middle now last
+
+-- ---- one phase
+
 -- in terms of what it is that all of some replies were handed to the output, and that handing them over failed
 module _ {C : Type 0} (Flushes Breaks : List Answered → Type 0) where
-  -- ---- one phase
-
   -- Behind those phases one more ended so. Each of its orders was carried out, and the replies were handed over, or that failed. Without memory none is.
   abbrev pub PhaseEnded : Engine → Settings → List (List Order) → Opened → List (List Step) → List Order → Pass → Pass → List (Lane C)
       → Result (Unit {0}) PhaseFault → Type 0
@@ -46,16 +59,18 @@ module _ {C : Type 0} (Flushes Breaks : List Answered → Type 0) where
   EndsPhase engine orders old new old_lanes lanes result = (settings : Settings) (phases : List (List Order)) (opened : Opened) (ran : List (List Step))
       → AreUnderway engine settings phases opened ran old old_lanes → PhaseEnded engine settings phases opened ran orders old new lanes result
 
-  -- ---- several phases
+-- ---- several phases
 
-  -- Behind those phases these ended so. All were carried out, and the replies of all were handed over. Or the first of them were, and handing their replies
-  -- over failed. Or there was no memory for the one behind these: their replies were handed over.
+-- in terms of what it is that all of some replies were handed to the output, and that this failed behind some for others
+module _ {C : Type 0} (Flushes : List Answered → Type 0) (Breaks : List Answered → List Answered → Type 0) where
+  -- Behind those phases these ended so. All were carried out, and the replies of all were handed over. Or one was the last: the replies of those before it were
+  -- handed over, and then handing over its own failed. Or there was no memory for the one behind these: their replies were handed over.
   abbrev pub PhasesEnded : Engine → Settings → List (List Order) → Opened → List (List Step) → List (List Order) → Pass → List (Lane C)
       → Result (Unit {0}) PhaseFault → Type 0
   PhasesEnded engine settings phases opened ran all new lanes (Ok u) = (more : List (List Step))
       × AreUnderway engine settings (phases ++ all) opened (ran ++ more) new lanes × Flushes (answers_of more)
-  PhasesEnded engine settings phases opened ran all new lanes (Err Write) = (many : ℕ) × (more : List (List Step))
-      × AreUnderway engine settings (phases ++ take many all) opened (ran ++ more) new lanes × Breaks (answers_of more)
+  PhasesEnded engine settings phases opened ran all new lanes (Err Write) = (many : ℕ) × (more : List (List Step)) × (steps : List Step)
+      × StopsBehind engine settings phases opened ran all many more steps new lanes × Breaks (answers_of more) (answers_in steps)
   PhasesEnded engine settings phases opened ran all new lanes (Err NoMemory) = (many : ℕ) × (more : List (List Step))
       × StopsShort C engine settings phases opened ran all many more new × Flushes (answers_of more)
 

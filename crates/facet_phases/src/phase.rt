@@ -1,7 +1,7 @@
 ghost use Rattle.std.specs.Prelude.{◌≡◌, ◌≤◌, length, map, All, IsTrue, OnOk};
 ghost use Rattle.facet_words.specs.Sessions.Laws.{lines_rise};
 ghost use Rattle.pair_manager.specs.Passes.{SamePass};
-ghost use Rattle.facet_phases.specs.Ending.{EndsPhase, EndsPhases};
+ghost use Rattle.facet_phases.specs.Ending.{BreaksBehind, EndsPhase, EndsPhases};
 ghost use Rattle.facet_phases.specs.Lanes.{AreIdle};
 ghost use Rattle.facet_words.specs.Sessions.CommandViews.{order_view};
 ghost use Rattle.facet_phases.specs.Running.{AreReady, CarriesOut};
@@ -102,7 +102,7 @@ pub fn run_phase<
 }
 
 /// Carries out phases, one after the other, and hands over what is kept of each before the next begins. The first whose replies could not all be kept or handed
-/// over is the last.
+/// over is the last: of the later ones no order is carried out.
 ///
 /// It keeps what is wanted of one phase in memory, and lets the orders of each phase go when they were answered.
 pub fn run_phases<
@@ -129,8 +129,8 @@ pub fn run_phases<
     ensures ready { AreReady system.now first.new lanes.new }
     ensures same { SamePass first.old first.new }
     ensures many { length lanes.new ≡ length lanes.old }
-    ensures ended { EndsPhases (O.flushes out.old out.new) (O.breaks out.old out.new) system.now (map (λ phase. map order_view phase.items) phases.items)
-        first.old first.new lanes.old lanes.new result }
+    ensures ended { EndsPhases (O.flushes out.old out.new) (BreaksBehind O.flushes O.breaks out.old out.new) system.now
+        (map (λ phase. map order_view phase.items) phases.items) first.old first.new lanes.old lanes.new result }
 {
     for orders in phases {
         if let Err(fault) = run_phase(rt, alloc, system, gate, first, lanes, orders, out) {

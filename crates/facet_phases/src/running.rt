@@ -15,6 +15,7 @@ ghost use Rattle.commit_turns.specs.Points.{count_after, last_of};
 ghost use Rattle.commit_turns.specs.Seen.{docs_of};
 ghost use Rattle.facet_engine.specs.Notes.{noted};
 ghost use Rattle.facet_engine.specs.Systems.{BelongsTo};
+ghost use Rattle.facet_phases.specs.Ending.{BreaksBehind};
 ghost use Rattle.facet_phases.specs.Running.{AreReady, HaveSameFrames, IsFirst};
 ghost use Rattle.facet_phases.specs.Runs.{RunsSoFar, RunsToEnd};
 
@@ -64,8 +65,8 @@ fn run_sessions<
     requires rise { All (λ phase. IsTrue (lines_rise (map order_view phase.items))) phases.items }
     ensures ready { AreReady system.now first.new lanes.new.items }
     ensures frames { HaveSameFrames first.old first.new }
-    ensures ran { RunsSoFar (O.flushes out.old out.new) (O.breaks out.old out.new) system.now (map (λ phase. map order_view phase.items) phases.items)
-        first.old first.new result }
+    ensures ran { RunsSoFar (O.flushes out.old out.new) (BreaksBehind O.flushes O.breaks out.old out.new) system.now
+        (map (λ phase. map order_view phase.items) phases.items) first.old first.new result }
 {
     match make_lanes(alloc, system, first, sessions) {
         Ok(made) => {
@@ -105,9 +106,9 @@ pub fn run_to_end<
     requires sessions { All (λ phase. All (λ o. (1 ≤ o.session) × (o.session ≤ sessions)) phase.items) phases.items }
     requires rise { All (λ phase. IsTrue (lines_rise (map order_view phase.items))) phases.items }
 
-    // What was carried out is known at the end, and what was kept of it was handed over.
-    ensures ran { RunsToEnd (O.flushes out.old out.new) (O.breaks out.old out.new) system.now (map (λ phase. map order_view phase.items) phases.items)
-        first (noted result.ended.notes) result.result }
+    // What was carried out is known at the end, and what was kept of it was handed over. Where that failed, it did so for the last phase that was carried out.
+    ensures ran { RunsToEnd (O.flushes out.old out.new) (BreaksBehind O.flushes O.breaks out.old out.new) system.now
+        (map (λ phase. map order_view phase.items) phases.items) first (noted result.ended.notes) result.result }
 
     // The trace tells all labels and operations that the notes show.
     ensures labels { result.ended.trace.labels ≡ labels_of (noted result.ended.notes) }

@@ -1,5 +1,5 @@
 -- How sessions end, by what their phases and the last line have written.
-use Rattle.std.proofs.Common.{◌≡◌, ◌∙◌, inl, inr, ℕ, List, [], ◌++◌, length, map, take, drop, Option, Some, Result, Ok, Err, sym, ap, subst, append-nil, rules}
+use Rattle.std.proofs.Common.{◌≡◌, ◌∙◌, inl, inr, ℕ, ◌+◌, List, [], ◌∷◌, ◌++◌, length, map, take, drop, Option, Some, Result, Ok, Err, sym, ap, subst, append-nil, rules}
 use Rattle.std.specs.Prelude.{All}
 use Rattle.std.specs.Io.KnownBytes.{Appends}
 use Rattle.commit_turns.specs.Frames.{HasNumbers}
@@ -17,10 +17,10 @@ use Rattle.facet_output.specs.OutputLines.{last_line, reply_lines}
 use Rattle.facet_output.specs.Seen.{Seen, history_of, labels_of}
 use Rattle.facet_output.specs.Sessions.{answers_of, steps_of}
 use Rattle.facet_output.specs.Steps.{Step}
-use Rattle.facet_phases.specs.Flushing.{appends_some}
+use Rattle.facet_phases.specs.Ending.{BreaksBehind}
 use Rattle.facet_phases.specs.Moments.{Moment, Writes, WritesSome, moment}
 use Rattle.facet_phases.specs.Phases.{asked}
-use Rattle.facet_phases.specs.Runs.{EndedSo, HasRun, IsCutOff}
+use Rattle.facet_phases.specs.Runs.{EndedSo, HasRun, IsCutOff, StoppedWith}
 use Rattle.facet_phases.specs.declared.fault.PhaseFault.{PhaseFault}
 use Rattle.facet_phases.specs.declared.fault.PhaseFault.TheVariants as phases
 use Rattle.facet_replies.specs.LastLine.{last_line as line_of}
@@ -32,9 +32,9 @@ use Rattle.pair_manager.specs.declared.pass.Pass.{Pass}
 use Rattle.store_opening.specs.Files.{greatest_number}
 use Rattle.store_opening.specs.Newest.{next_after}
 use Rattle.facet_serving.proofs.Sessions.{ran_so, spends}
-use Rattle.facet_serving.proofs.Whole.{lines_whole}
+use Rattle.facet_serving.proofs.Whole.{lines_before_last, lines_in_last, lines_whole}
 use Rattle.facet_serving.specs.Closing.{Closes, IsWithoutMemory}
-use Rattle.facet_serving.specs.Runs.{IsTraceOf, Keeps, Opens, Ran, SpendsFrom, WritesBehind, WritesLine, bytes_of, lines_before}
+use Rattle.facet_serving.specs.Runs.{EndsPartly, IsTraceOf, Keeps, Opens, Ran, SpendsFrom, WritesBehind, WritesLine, lines_before, lines_in}
 use Rattle.facet_serving.specs.Serving.{EndsAs, IsCarried, Serves}
 use Rattle.facet_serving.specs.Statuses.{status_line}
 use Rattle.facet_serving.specs.declared.status.Status.{Status}
@@ -42,14 +42,14 @@ use Rattle.facet_serving.specs.declared.status.Status.TheVariants.{NoMemory}
 use Rattle.facet_io.proofs.Pieces.{appends_then}
 
 -- in each case some phases ran
-pub some_ran : (settings : Settings) (opened : Opened) (first : Pass) (last : Seen) (Flushes Breaks : List Answered → Type 0) (all : List (List Order)) (result : Result (Unit {0}) PhaseFault)
+pub some_ran : (settings : Settings) (opened : Opened) (first : Pass) (last : Seen) (Flushes : List Answered → Type 0) (Breaks : List Answered → List Answered → Type 0) (all : List (List Order)) (result : Result (Unit {0}) PhaseFault)
     → EndedSo (HasRun settings opened first last) Flushes Breaks all result → HasOpened opened last
 some_ran settings opened first last Flushes Breaks all (Ok u) e = has_opened settings all opened e.0 last e.1.all
-some_ran settings opened first last Flushes Breaks all (Err phases.Write) e = has_opened settings (take e.0 all) opened e.1 last e.2.all
+some_ran settings opened first last Flushes Breaks all (Err phases.Write) e = has_opened settings (take (e.0 + 1) all) opened (e.1 ++ e.2 ∷ []) last e.3.carried.all
 some_ran settings opened first last Flushes Breaks all (Err phases.NoMemory) e = has_opened settings (take e.0 all ++ e.2.short) opened (e.1 ++ e.2.steps) last e.2.carried.all
 
 -- the last line may begin behind what was opened
-pub carried_room : {D : Type 0} (ghosts : Ghosts D) (s : Script) (start : D) (Flushes Breaks : List Answered → Type 0) (pair : ℕ × ℕ) (ran : RanToEnd D) → IsCarried ghosts s start Flushes Breaks pair ran → HasRoom pair ran.ended.trace
+pub carried_room : {D : Type 0} (ghosts : Ghosts D) (s : Script) (start : D) (Flushes : List Answered → Type 0) (Breaks : List Answered → List Answered → Type 0) (pair : ℕ × ℕ) (ran : RanToEnd D) → IsCarried ghosts s start Flushes Breaks pair ran → HasRoom pair ran.ended.trace
 carried_room ghosts s start Flushes Breaks pair ran c =
     has_room c.opened c.last ran.ended.trace pair c.pair_is c.traced c.rooted (some_ran s.settings c.opened c.first c.last Flushes Breaks s.phases ran.result c.ended)
 
@@ -64,15 +64,27 @@ line_is opened trace last is =
     (λ i. line_of (length opened.docs) (length opened.labels) (is.labels i) (drop (length opened.docs) (is.sessions i)))
     ∙ ap (line_of (length opened.docs) (length opened.labels) (labels_of last)) (drop-map session (length opened.docs) (history_of last))
 
+module _ {K : Type 0} (sink : SinkGhosts K) where
+  abbrev pub at_sink : K → Moment
+  at_sink k = moment (sink.faults k) (sink.written k)
+
+  -- between two moments of the sink all lines of these replies were written
+  abbrev pub Handed : K → K → List Answered → Type 0
+  Handed before now answered = Writes (at_sink before) (at_sink now) (reply_lines answered)
+
+  -- or a beginning of them, at a fault
+  abbrev pub Failed : K → K → List Answered → Type 0
+  Failed before now answered = WritesSome (at_sink before) (at_sink now) (reply_lines answered)
+
 module _ {D K : Type 0} (ghosts : Ghosts D) (s : Script) (opened : Opened) (trace : Trace) (last : Seen) (old new : D) (sink : SinkGhosts K) (before middle now : K)
     (opens : Opens ghosts s.settings.config old opened) (traced : IsTraceOf trace last) (keeps : Keeps ghosts s.settings.config last old new)
     (first : Pass) (next at faults failures : ℕ) (numbers : HasNumbers next at faults failures first.commits.frame)
     (next_is : (t : Told) → ghosts.told old ≡ Some t → next ≡ next_after (greatest_number t.files)) where
   abbrev start : Moment
-  start = moment (sink.faults before) (sink.written before)
+  start = at_sink sink before
 
   abbrev between : Moment
-  between = moment (sink.faults middle) (sink.written middle)
+  between = at_sink sink middle
 
   abbrev ran_by : (phases : List (List Order)) (ran : List (List Step)) → HasRun s.settings opened first last phases ran → Ran ghosts s.settings phases trace old new
   ran_by phases ran has = ran_so s.settings phases opened ran last has.all ghosts trace old new opens traced
@@ -112,12 +124,16 @@ module _ {D K : Type 0} (ghosts : Ghosts D) (s : Script) (opened : Opened) (trac
         written.2 ∙ w.1,
       )
   done ran line status has is w (inl (inr failed)) =
-      let r = ran_by s.phases ran has in
       let lines : List ℕ = lines_of (steps_of ran) in
-      let all : bytes_of r ≡ lines ++ (line ++ []) = ap (λ (l : List ℕ). lines ++ l) (sym is ∙ sym (append-nil line)) in
+      let n = failed.2.0 in
       subst (λ (t : Status). EndsAs ghosts s old new sink before now trace t) (sym failed.0) (
         subst (λ (n : ℕ). Rose n (sink.faults now)) w.1 failed.1,
-        inr (r, appends_some (sink.written before) (sink.written middle) (sink.written now) (bytes_of r) lines line [] failed.2.0 all w.0 failed.2.1),
+        inr (record {
+          ran = ran_by s.phases ran has;
+          some = n;
+          written = subst (λ (l : List ℕ). Appends (sink.written before) (sink.written now) (lines ++ take n l)) is
+              (appends_then (sink.written before) (sink.written middle) (sink.written now) lines (take n line) w.0 failed.2.1);
+        }),
       )
   done ran line status has is w (inr none) =
       let whole : take (length s.phases) s.phases ≡ s.phases = take_all (length s.phases) s.phases (search rules) in
@@ -126,19 +142,42 @@ module _ {D K : Type 0} (ghosts : Ghosts D) (s : Script) (opened : Opened) (trac
       (subst (λ (l : List (List Step)). HasRun s.settings opened first last (take (length s.phases) s.phases ++ []) l) (sym (append-nil ran)) (subst (λ (p : List (List Order)). HasRun s.settings opened first last p ran) (sym same) has))
       (has.all.asked ∙ ap in_writing_order (sym whole)) w none
 
+  -- a fault behind the phases before the last one
+  broken : (many : ℕ) (ran : List (List Step)) (steps : List Step) → StoppedWith (HasRun s.settings opened first last) s.phases many ran steps → (half : K) → Writes start (at_sink sink half) (lines_of (steps_of ran))
+      → WritesSome (at_sink sink half) between (lines_of steps) → EndsPartly ghosts s trace old new sink before middle
+  broken many ran steps stopped half w failed =
+      let joined : steps_of (ran ++ steps ∷ []) ≡ steps_of ran ++ steps =
+      flat_map-append (λ (l : List Step). l) ran (steps ∷ []) ∙ ap (λ (l : List Step). steps_of ran ++ l) (append-nil steps) in
+      let both : asked (steps_of ran ++ steps) ≡ in_writing_order (take (many + 1) s.phases) = ap asked (sym joined) ∙ stopped.carried.all.asked in
+      let fore : lines_before many (answers_of (ran ++ steps ∷ [])) ≡ lines_of (steps_of ran) =
+      ap (λ (l : List Step). lines_before many (map (λ (x : Step). x.answered) l)) joined ∙ lines_before_last s.phases many stopped.next (steps_of ran) steps stopped.before both in
+      let own : lines_in many (answers_of (ran ++ steps ∷ [])) ≡ lines_of steps =
+      ap (λ (l : List Step). lines_in many (map (λ (x : Step). x.answered) l)) joined ∙ lines_in_last s.phases many stopped.next (steps_of ran) steps stopped.before both in
+      let n = failed.1.0 in
+      let written : Appends (sink.written before) (sink.written middle) (lines_of (steps_of ran) ++ take n (lines_of steps)) =
+      appends_then (sink.written before) (sink.written half) (sink.written middle) (lines_of (steps_of ran)) (take n (lines_of steps)) w.0 failed.1.1 in (
+        subst (λ (n : ℕ). Rose n (sink.faults middle)) w.1 failed.0,
+        inl (record {
+          many = many;
+          one_more = stopped.next;
+          ran = ran_by (take (many + 1) s.phases) (ran ++ steps ∷ []) stopped.carried;
+          some = n;
+          written = subst (λ (l : List ℕ). Appends (sink.written before) (sink.written middle) (l ++ take n (lines_in many (answers_of (ran ++ steps ∷ []))))) (sym fore)
+              (subst (λ (l : List ℕ). Appends (sink.written before) (sink.written middle) (lines_of (steps_of ran) ++ take n l)) (sym own) written);
+        }),
+      )
+
   -- however the phases ended
-  ended : (line : List ℕ) (result : Result (Unit {0}) PhaseFault) (status : Status) → line ≡ last_line opened (labels_of last) (history_of last) → EndedSo (HasRun s.settings opened first last) (λ answered. Writes start between (reply_lines answered)) (λ answered. WritesSome start between (reply_lines answered)) s.phases result
+  ended : (line : List ℕ) (result : Result (Unit {0}) PhaseFault) (status : Status) → line ≡ last_line opened (labels_of last) (history_of last) → EndedSo (HasRun s.settings opened first last) (Handed sink before middle) (BreaksBehind (Handed sink) (Failed sink) before middle) s.phases result
       → Closes line result sink middle now status → EndsAs ghosts s old new sink before now trace status
   ended line (Ok u) status is e closes = done e.0 line status e.1 is e.2 closes
   ended line (Err phases.Write) status is e closes =
-      let w = e.3 in
-      subst (λ (t : Status). EndsAs ghosts s old new sink before now trace t) (sym closes.0) (
-        subst (λ (k : K). Rose (sink.faults before) (sink.faults k)) (sym closes.1) w.0,
-        inl (e.0, ran_by (take e.0 s.phases) e.1 e.2, (w.1.0, subst (λ (k : K). Appends (sink.written before) (sink.written k) (take w.1.0 (lines_of (steps_of e.1)))) (sym closes.1) w.1.1)),
-      )
+      let b = e.4 in
+      subst (λ (t : Status). EndsAs ghosts s old new sink before now trace t) (sym closes.0)
+      (subst (λ (k : K). EndsPartly ghosts s trace old new sink before k) (sym closes.1) (broken e.0 e.1 e.2 e.3 b.0 b.1 b.2))
   ended line (Err phases.NoMemory) status is e closes = without e.0 e.2.short e.1 e.2.steps status e.2.cut e.2.carried e.2.whole e.3 closes
 
-  pub serves : (result : Result (Unit {0}) PhaseFault) (left : Option Trace) (status : Status) → left ≡ Some trace → EndedSo (HasRun s.settings opened first last) (λ answered. Writes start between (reply_lines answered)) (λ answered. WritesSome start between (reply_lines answered)) s.phases result
+  pub serves : (result : Result (Unit {0}) PhaseFault) (left : Option Trace) (status : Status) → left ≡ Some trace → EndedSo (HasRun s.settings opened first last) (Handed sink before middle) (BreaksBehind (Handed sink) (Failed sink) before middle) s.phases result
       → Closes (line_of (length opened.docs) (length opened.labels) trace.labels (drop (length opened.docs) trace.sessions.items)) result sink middle now status → Serves ghosts s old new sink before now left status
   serves result left status is e closes = record {
     trace = trace;
@@ -148,9 +187,7 @@ module _ {D K : Type 0} (ghosts : Ghosts D) (s : Script) (opened : Opened) (trac
 
 -- the sessions of a script ended, and what was written behind them
 pub serves_carried : {D K : Type 0} (ghosts : Ghosts D) (s : Script) (start new : D) (sink : SinkGhosts K) (before middle now : K) (pair : ℕ × ℕ) (ran : RanToEnd D) (left : Option Trace) (status : Status)
-    → IsCarried ghosts s start (λ answered. Writes (moment (sink.faults before) (sink.written before)) (moment (sink.faults middle) (sink.written middle)) (reply_lines answered))
-    (λ answered. WritesSome (moment (sink.faults before) (sink.written before)) (moment (sink.faults middle) (sink.written middle)) (reply_lines answered)) pair ran
-    → left ≡ Some ran.ended.trace → new ≡ ran.ended.disk → Closes (line_of pair.0 pair.1 ran.ended.trace.labels (drop pair.0 ran.ended.trace.sessions.items)) ran.result sink middle now status
+    → IsCarried ghosts s start (Handed sink before middle) (BreaksBehind (Handed sink) (Failed sink) before middle) pair ran → left ≡ Some ran.ended.trace → new ≡ ran.ended.disk → Closes (line_of pair.0 pair.1 ran.ended.trace.labels (drop pair.0 ran.ended.trace.sessions.items)) ran.result sink middle now status
     → Serves ghosts s start new sink before now left status
 serves_carried ghosts s start new sink before middle now pair ran left status c trace disk closes =
     let closed = subst (λ (p : ℕ × ℕ). Closes (line_of p.0 p.1 ran.ended.trace.labels (drop p.0 ran.ended.trace.sessions.items)) ran.result sink middle now status) c.pair_is closes in

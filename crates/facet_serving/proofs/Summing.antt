@@ -1,5 +1,5 @@
 -- How sessions end that generate documents, by what was tallied and what was written behind their phases.
-use Rattle.std.proofs.Common.{◌≡◌, ◌∙◌, inl, inr, ℕ, List, [], ◌++◌, length, take, Option, Some, Result, Ok, Err, refl, sym, subst, append-nil, rules}
+use Rattle.std.proofs.Common.{◌≡◌, ◌∙◌, inl, inr, ℕ, ◌+◌, List, [], ◌∷◌, ◌++◌, length, take, Option, Some, Result, Ok, Err, refl, sym, subst, append-nil, rules}
 use Rattle.std.specs.Prelude.{All}
 use Rattle.std.specs.Io.KnownBytes.{Appends}
 use Rattle.std.proofs.lemmas.List.{take_all}
@@ -26,13 +26,13 @@ use Rattle.facet_serving.specs.Runs.{Ran, SpendsFrom}
 use Rattle.facet_serving.specs.Serving.{IsCarried}
 use Rattle.facet_serving.specs.declared.status.Status.{Status}
 
-module _ {D : Type 0} (ghosts : Ghosts D) (s : Script) (start : D) (Flushes Breaks : List Answered → Type 0) (pair : ℕ × ℕ) (ran : RanToEnd D) (c : IsCarried ghosts s start Flushes Breaks pair ran) where
+module _ {D : Type 0} (ghosts : Ghosts D) (s : Script) (start : D) (Flushes : List Answered → Type 0) (Breaks : List Answered → List Answered → Type 0) (pair : ℕ × ℕ) (ran : RanToEnd D) (c : IsCarried ghosts s start Flushes Breaks pair ran) where
   -- phases that were carried out
   abbrev pub carried_by : (phases : List (List Order)) (steps : List (List Step)) → HasRun s.settings c.opened c.first c.last phases steps → Ran ghosts s.settings phases ran.ended.trace start ran.ended.disk
   carried_by phases steps has = ran_so s.settings phases c.opened steps c.last has.all ghosts ran.ended.trace start ran.ended.disk c.opens c.traced
       (λ t tells. subst (λ (n : ℕ). All (SpendsFrom n c.last) (answers_of steps)) (c.next_is t tells) (spends s.settings phases c.opened steps c.last has.all c.next (has.spent c.next c.at c.faults c.failures c.numbers))) c.keeps
 
-module _ {D K : Type 0} (ghosts : Ghosts D) (s : Script) (start : D) (sink : SinkGhosts K) (before now : K) (old total : Tally) (Breaks : List Answered → Type 0) (pair : ℕ × ℕ) (ran : RanToEnd D) (status : Status)
+module _ {D K : Type 0} (ghosts : Ghosts D) (s : Script) (start : D) (sink : SinkGhosts K) (before now : K) (old total : Tally) (Breaks : List Answered → List Answered → Type 0) (pair : ℕ × ℕ) (ran : RanToEnd D) (status : Status)
     (c : IsCarried ghosts s start (GoesOn old total) Breaks pair ran) (empty : IsTallyOf [] old) where
   abbrev As : Status → Type 0
   As t = SummedAs ghosts s start ran.ended.disk sink before now ran.ended.trace t
@@ -61,7 +61,7 @@ module _ {D K : Type 0} (ghosts : Ghosts D) (s : Script) (start : D) (sink : Sin
 
   ended : (result : Result (Unit {0}) PhaseFault) → EndedSo (HasRun s.settings c.opened c.first c.last) (GoesOn old total) Breaks s.phases result → ClosesSummed total sink before now status result → As status
   ended (Ok u) e closes = summed e.0 e.1 e.2 closes
-  ended (Err phases.Write) e closes = whole e.1 e.0 (take e.0 s.phases) refl e.2 closes
+  ended (Err phases.Write) e closes = whole (e.1 ++ e.2 ∷ []) (e.0 + 1) (take (e.0 + 1) s.phases) refl e.3.carried closes
   ended (Err phases.NoMemory) e closes = unsummed e.0 e.2.short (e.1 ++ e.2.steps) e.2.cut e.2.carried closes
 
   pub generates : (new : D) (left : Option Trace) → left ≡ Some ran.ended.trace → new ≡ ran.ended.disk → ClosesSummed total sink before now status ran.result → Generates ghosts s start new sink before now left status

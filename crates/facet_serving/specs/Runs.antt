@@ -1,5 +1,5 @@
 -- What a run reads and writes, and how it ends.
-use Rattle.std.specs.Prelude.{◌≡◌, ◌≤◌, ◌<◌, ◌+◌, ◌*◌, ◌++◌, ◌⊎◌, ℕ, nat_lt, if◌then◌else◌, List, length, filter, map, take, Option, Some, None, Result, Ok, Err, All, IsTrue}
+use Rattle.std.specs.Prelude.{◌≡◌, ◌==◌, ◌≤◌, ◌<◌, ◌+◌, ◌*◌, ◌++◌, ◌⊎◌, ℕ, nat_lt, if◌then◌else◌, List, length, filter, map, take, Option, Some, None, Result, Ok, Err, All, IsTrue}
 use Rattle.std.specs.List.{list_all}
 use Rattle.std.specs.Io.KnownBytes.{Appends, Consumes, IsAtEnd}
 use Rattle.commit_turns.specs.Ending.{FailsWith, Lasts}
@@ -20,7 +20,7 @@ use Rattle.facet_output.specs.Commits.{HasPoints}
 use Rattle.facet_output.specs.OneSession.{AreExact, AreExactLabels}
 use Rattle.facet_output.specs.OneShelf.{Served, order_of}
 use Rattle.facet_output.specs.Output.{IsOutput, Opened}
-use Rattle.facet_output.specs.OutputLines.{output_bytes, reply_lines}
+use Rattle.facet_output.specs.OutputLines.{last_line, output_bytes, reply_lines}
 use Rattle.facet_output.specs.Outputs.{sessions_in}
 use Rattle.facet_output.specs.Seen.{CommitPoint as Point, Entries, Seen, history_of, labels_of}
 use Rattle.facet_replies.specs.ReplyLines.{fault_line}
@@ -143,9 +143,17 @@ pub record Ran {D : Type 0} (ghosts : Ghosts D) (settings : Settings) (phases : 
 abbrev pub bytes_of : {D : Type 0} {ghosts : Ghosts D} {settings : Settings} {phases : List (List Order)} {trace : Trace} {old new : D} → Ran ghosts settings phases trace old new → List ℕ
 bytes_of ran = output_bytes ran.opened (labels_of ran.last) (history_of ran.last) ran.answered
 
+-- the last line alone
+abbrev pub last_of_run : {D : Type 0} {ghosts : Ghosts D} {settings : Settings} {phases : List (List Order)} {trace : Trace} {old new : D} → Ran ghosts settings phases trace old new → List ℕ
+last_of_run ran = last_line ran.opened (labels_of ran.last) (history_of ran.last)
+
 -- the replies' lines of the phases before one
 abbrev pub lines_before : ℕ → List Answered → List ℕ
 lines_before many answered = reply_lines (filter (λ a. nat_lt a.phase many) answered)
+
+-- the replies' lines of one phase
+abbrev pub lines_in : ℕ → List Answered → List ℕ
+lines_in phase answered = reply_lines (filter (λ a. a.phase == phase) answered)
 
 -- ---- how the sessions of a script end, with this trace
 
@@ -160,13 +168,24 @@ abbrev pub EndsWhole : {D K : Type 0} → Ghosts D → Script → Trace → D �
 EndsWhole ghosts s trace old new sink before now = (ran : Ran ghosts s.settings s.phases trace old new)
     × Appends (sink.written before) (sink.written now) (bytes_of ran) × (sink.faults now ≡ sink.faults before)
 
--- The first phases were carried out, and at a fault a beginning of the replies' lines was written; or all were, and a beginning of all with the last line.
+-- So many phases were carried out and then one more, and no other. All lines of those before it were written, and of its own a beginning.
+pub record EndsInPhase {D K : Type 0} (ghosts : Ghosts D) (s : Script) (trace : Trace) (old new : D) (sink : SinkGhosts K) (before now : K) : Type 0 where
+  pub many : ℕ
+  pub one_more : many < length s.phases
+  pub ran : Ran ghosts s.settings (take (many + 1) s.phases) trace old new
+  pub some : ℕ
+  pub written : Appends (sink.written before) (sink.written now) (lines_before many ran.answered ++ take some (lines_in many ran.answered))
+
+-- All phases were carried out. All of their lines were written, and of the last line a beginning.
+pub record EndsInLastLine {D K : Type 0} (ghosts : Ghosts D) (s : Script) (trace : Trace) (old new : D) (sink : SinkGhosts K) (before now : K) : Type 0 where
+  pub ran : Ran ghosts s.settings s.phases trace old new
+  pub some : ℕ
+  pub written : Appends (sink.written before) (sink.written now) (reply_lines ran.answered ++ take some (last_of_run ran))
+
+-- A write failed: of the lines of the last phase that was carried out, or of the last line.
 abbrev pub EndsPartly : {D K : Type 0} → Ghosts D → Script → Trace → D → D → SinkGhosts K → K → K → Type 0
-EndsPartly ghosts s trace old new sink before now = Rose (sink.faults before) (sink.faults now) × (
-    ((many : ℕ) × (ran : Ran ghosts s.settings (take many s.phases) trace old new)
-    × ((n : ℕ) × Appends (sink.written before) (sink.written now) (take n (reply_lines ran.answered))))
-    ⊎ ((ran : Ran ghosts s.settings s.phases trace old new)
-    × ((n : ℕ) × Appends (sink.written before) (sink.written now) (take n (bytes_of ran)))))
+EndsPartly ghosts s trace old new sink before now = Rose (sink.faults before) (sink.faults now)
+    × (EndsInPhase ghosts s trace old new sink before now ⊎ EndsInLastLine ghosts s trace old new sink before now)
 
 -- The first phases were carried out, and of the next one, if any, the first orders of each session. The lines of the whole phases were written, and behind these
 -- the line of want of memory, or where a count of faults rose a beginning of it.

@@ -31,8 +31,9 @@ abbrev pub GoesOnBehind : {D : Type 0} → Ghosts D → Store D → Type 0
 GoesOnBehind ghosts store = (t : Told) → ghosts.told store.start.value ≡ Some t → store.committer.state.next ≡ next_after (greatest_number t.files)
 
 -- The sessions of a script were carried out on a store that was opened: the numbers of what was opened, and how they ended. Handing over what was kept of all
--- replies of some phases is so, and that it failed.
-pub record IsCarried {D : Type 0} (ghosts : Ghosts D) (s : Script) (start : D) (Flushes Breaks : List Answered → Type 0) (pair : ℕ × ℕ) (ran : RanToEnd D) : Type 0 where
+-- replies of some phases is so, and that it failed for those of the last one.
+pub record IsCarried {D : Type 0} (ghosts : Ghosts D) (s : Script) (start : D) (Flushes : List Answered → Type 0) (Breaks : List Answered → List Answered → Type 0)
+    (pair : ℕ × ℕ) (ran : RanToEnd D) : Type 0 where
   pub opened : Opened
   pub last : Seen
   pub first : Pass

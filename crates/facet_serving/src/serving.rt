@@ -3,6 +3,7 @@ ghost use Rattle.commit_turns.specs.Opening.{WasSettled};
 ghost use Rattle.facet_disk.specs.Calls.{Rose};
 ghost use Rattle.facet_disk.specs.Images.{Told};
 ghost use Rattle.facet_engine.specs.Opening.{IsReady};
+ghost use Rattle.facet_phases.specs.Ending.{BreaksBehind};
 ghost use Rattle.facet_words.specs.Sessions.CommandViews.{script_view};
 ghost use Rattle.facet_words.specs.Sessions.Laws.{AreInOrder};
 ghost use Rattle.store_opening.specs.Quiet.{IsQuiet};
@@ -57,8 +58,8 @@ fn carry_out_over<
     requires told { (N.told → (t : Told) × (D.told store.start.value ≡ Some t)) × ((t : Told) → D.told store.start.value ≡ Some t → N.told) }
     requires settled { (N.settled → WasSettled D.Disk script.settings.config store.start.value)
         × ((t : Told) → D.told store.start.value ≡ Some t → IsSettled D.Disk script.settings.config t store.start.value → N.settled) }
-    ensures carried { IfOk result (λ c. IsCarried D.Disk (script_view script) store.start.value (O.flushes out.old out.new) (O.breaks out.old out.new)
-        c.opened c.ran) }
+    ensures carried { IfOk result (λ c. IsCarried D.Disk (script_view script) store.start.value (O.flushes out.old out.new)
+        (BreaksBehind O.flushes O.breaks out.old out.new) c.opened c.ran) }
     ensures quiet { IfErr result (λ disk. IsQuiet D.Disk store.start.value disk) }
     ensures still { OnErr result (out.new ≡ out.old) }
 {
@@ -94,8 +95,8 @@ pub(crate) fn carry_out<
     requires ready { IsReady D.Disk script.settings.config store }
     requires order { AreInOrder (script_view script).phases }
     requires next { GoesOnBehind D.Disk store }
-    ensures carried { IfOk result (λ c. IsCarried D.Disk (script_view script) store.start.value (O.flushes out.old out.new) (O.breaks out.old out.new)
-        c.opened c.ran) }
+    ensures carried { IfOk result (λ c. IsCarried D.Disk (script_view script) store.start.value (O.flushes out.old out.new)
+        (BreaksBehind O.flushes O.breaks out.old out.new) c.opened c.ran) }
     ensures quiet { IfErr result (λ disk. IsQuiet D.Disk store.start.value disk) }
     ensures still { OnErr result (out.new ≡ out.old) }
 {

@@ -1,6 +1,6 @@
 use Rattle.std.proofs.Common.{◌≡◌, Ok, length, map}
 use Rattle.pair_manager.specs.Passes.{SamePass}
-use Rattle.facet_phases.specs.Ending.{EndsPhases}
+use Rattle.facet_phases.specs.Ending.{BreaksBehind, EndsPhases}
 use Rattle.facet_phases.specs.Lanes.{AreIdle}
 use Rattle.facet_words.specs.Sessions.CommandViews.{order_view}
 use Rattle.facet_phases.specs.Running.{AreReady}
@@ -12,5 +12,5 @@ invariant-loop-orders g l = record {
   same : SamePass l.fn.first l.first;
   many : length l.lanes ≡ length l.fn.lanes;
   idle : AreIdle l.lanes;
-  ended : EndsPhases (g.O.Output.flushes l.fn.out l.out) (g.O.Output.breaks l.fn.out l.out) l.system (map (λ phase. map order_view phase.items) l.yielded) l.fn.first l.first l.fn.lanes l.lanes (Ok tt);
+  ended : EndsPhases (g.O.Output.flushes l.fn.out l.out) (BreaksBehind g.O.Output.flushes g.O.Output.breaks l.fn.out l.out) l.system (map (λ phase. map order_view phase.items) l.yielded) l.fn.first l.first l.fn.lanes l.lanes (Ok tt);
 }

@@ -18,6 +18,7 @@ use Rattle.pair_manager.specs.declared.point.CommitPoint.{CommitPoint}
 use Rattle.facet_engine.specs.declared.notes.Notes.{Notes}
 use Rattle.facet_engine.specs.Notes.{noted}
 use Rattle.facet_phases.specs.declared.lane.Lane.{Lane}
+use Rattle.facet_phases.specs.Ending.{BreaksBehind}
 use Rattle.facet_phases.specs.Running.{AreReady}
 use Rattle.facet_phases.proofs.Finishing.{runs_to_end_at, all_see}
 use Rattle.facet_phases.proofs.running.run_to_end.Goals as goal
@@ -74,7 +75,7 @@ pub returns-clause-ran : goal.returns-clause-ran
 returns-clause-ran g c =
     let first = c.run_sessions-result.new.first in
     let notes = c.end-ended.result.notes in
-    runs_to_end_at (g.O.Output.flushes c.args.out.now c.run_sessions-result.new.out) (g.O.Output.breaks c.args.out.now c.run_sessions-result.new.out) c.args.system.now (map (λ (phase : Vec Order). map order_view phase.items) c.args.phases.items) c.args.first first c.deref_mut.result.now c.spread_all.new.lanes notes c.spread_all.new.notes
+    runs_to_end_at (g.O.Output.flushes c.args.out.now c.run_sessions-result.new.out) (BreaksBehind g.O.Output.flushes g.O.Output.breaks c.args.out.now c.run_sessions-result.new.out) c.args.system.now (map (λ (phase : Vec Order). map order_view phase.items) c.args.phases.items) c.args.first first c.deref_mut.result.now c.spread_all.new.lanes notes c.spread_all.new.notes
     c.run_sessions-result.result
     c.run_sessions-result.ensures.ran c.run_sessions-result.ensures.frames.1
     (subst (λ (l : List (Lane g.row.C.Denot)). AreReady c.args.system.now first l) (sym c.deref_mut.ensures.value) c.run_sessions-result.ensures.ready) c.spread_all.ensures.told c.spread_all.ensures.notes c.end-ended.ensures.told c.end-ended.ensures.numbers c.end-ended.ensures.list c.end-ended.ensures.published
