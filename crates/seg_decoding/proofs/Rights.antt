@@ -1,10 +1,10 @@
 -- What shows that a record is right without making its document: label by label, and ordinal by ordinal.
-use Rattle.std.proofs.Common.{◌≡◌, ℕ, suc, ◌+◌, ◌<◌, false, ◌||◌, List, [], ◌∷◌, ◌++◌, length, take, get_or, slice_get, Option, Some, None, refl, sym, ap, subst, ◌∙◌, arith, inl, inr}
-use Rattle.std.specs.Prelude.{not, unwrap_or, filter_map, flat_map, ◌&&◌, ◌==◌, nat_eq}
+use Rattle.std.proofs.Common.{◌≡◌, ℕ, suc, ◌+◌, ◌<◌, ◌≤◌, Bool, true, false, ◌||◌, List, [], ◌∷◌, ◌++◌, length, take, get_or, slice_get, Option, Some, None, refl, sym, ap, subst, ◌∙◌, arith, inl, inr}
+use Rattle.std.specs.Prelude.{not, unwrap_or, filter_map, flat_map, ◌&&◌, ◌==◌, nat_eq, All}
 use Rattle.std.specs.List.{enumerate_from, list_any, AllByRecursion}
 use Rattle.std.specs.Option.{option_map_or}
 use Rattle.std.specs.Str.{bytes_eq}
-use Rattle.std.proofs.lemmas.Bool.{cases_lt}
+use Rattle.std.proofs.lemmas.Bool.{true≢false, cases_lt}
 use Rattle.std.proofs.lemmas.List.{get_or_append_left, get_or_push, take-append-le, take_all, map_push, length-append}
 use Rattle.std.proofs.lemmas.List.Folds.{list_any-append}
 use Rattle.std.proofs.lemmas.Option.{get_or_from_slice_get, slice_get_within}
@@ -15,12 +15,13 @@ use Rattle.facet_model.specs.CountedPaths.{is_counted, counted_ordinals}
 use Rattle.facet_model.specs.Documents.{Doc, dim_of}
 use Rattle.facet_model.specs.Flags.{Config, flags}
 use Rattle.facet_model.specs.Stored.{Stored}
+use Rattle.facet_model.proofs.Each.{each_append}
 use Rattle.seg_postings.specs.Rising.{IsRising, is_in}
 use Rattle.seg_terms.specs.Noting.{Table, path_terms}
 use Rattle.seg_terms.proofs.Pieces.{one_more_label}
 use Rattle.seg_decoding.specs.Answers.{IsLeaf}
 use Rattle.seg_documents.specs.Decoding.{doc_in}
-use Rattle.seg_decoding.specs.Facts.{AreFacts, AreSeen, AreUnbroken, IsUnbroken, label_of, labels_of, texts_at}
+use Rattle.seg_decoding.specs.Facts.{AreFacts, AreSeen, AreUnbroken, HasFacts, IsNoted, IsUnbroken, label_of, labels_of, texts_at}
 use Rattle.seg_decoding.specs.Pairs.{IsRight, Passes}
 use Rattle.seg_decoding.specs.declared.facts.LabelFacts.{LabelFacts}
 use Rattle.seg_file.proofs.PlacesOf.{are_places, is_in_places}
@@ -78,6 +79,14 @@ counted_more config known labels label old own before is ord =
 
 -- ---- label by label
 
+-- what holds of each holds of the one that stands at a place
+pub at_place : {A : Type 0} (P : A → Type 0) (xs : List A) (at : ℕ) (x : A) → AllByRecursion P xs → slice_get xs at ≡ Some x → P x
+at_place P xs at x all e = subst P (get_or_from_slice_get xs at x x e) (All-from_recursion P xs all at x (slice_get_within xs at x e))
+
+-- leaves below `needs` are labels where there are no fewer
+pub low_leaves : (needs labels : ℕ) (leaves : List ℕ) → needs ≤ labels → AllByRecursion (IsLeaf needs) leaves → All (IsLeaf labels) leaves
+low_leaves needs labels leaves low fit k d lt = let leaf = All-from_recursion (IsLeaf needs) leaves fit k d lt in (leaf.0, omega (arith, leaf.1, low))
+
 module _ (config : Config) (known : Labels) (needs : ℕ) (terms : Table) (doc : ℕ) where
   pub seen_none : (start : List ℕ) → Passes terms doc [] start start → AreSeen config known terms doc [] [] start start
   seen_none start none = record { unbroken = λ k lt. absurd (omega arith); counted = λ ord. by (slice_get known ord); passes = none }
@@ -102,6 +111,35 @@ module _ (config : Config) (known : Labels) (needs : ℕ) (terms : Table) (doc :
         passes = subst (λ ls. Passes terms doc (path_terms (flat_map prefixes ls)) start new) (sym labels) all;
       }
 
+  -- a label that may follow was noted
+  pub seen_noted : (may : Bool) (leaves counted start mid leaves' counted' new : List ℕ) (f : LabelFacts) → AreFacts config known needs terms f
+      → may ≡ (f.multi_valued || not (list_any (λ l. bytes_eq (dim_of l) (dim_of (label_of known f.ord))) (labels_of known leaves))) → may ≡ true
+      → IsNoted terms doc f leaves counted mid leaves' counted' new → AreSeen config known terms doc leaves counted start mid → AreSeen config known terms doc leaves' counted' start new
+  seen_noted may leaves counted start mid leaves' counted' new f are is holds noted seen =
+      let any : Bool = list_any (λ l. bytes_eq (dim_of l) (dim_of (label_of known f.ord))) (labels_of known leaves) in
+      let once : (not (flags config (dim_of (label_of known f.ord))).multi_valued && any) ≡ false = ap (λ m. not m && any) are.repeats ∙ alone f.multi_valued any (sym is ∙ holds) in
+      subst (λ (ls : List ℕ). AreSeen config known terms doc ls counted' start new) (sym noted.last)
+      (subst (λ (ns : List ℕ). AreSeen config known terms doc (leaves ++ f.ord ∷ []) ns start new) (sym noted.counted)
+      (seen_more leaves counted start mid new f are once noted.passes seen))
+    where
+      alone : (own any : Bool) → (own || not any) ≡ true → (not own && any) ≡ false
+      alone true any e = refl
+      alone false true e = absurd (true≢false (sym e))
+      alone false false e = refl
+
+  -- it is a leaf as those before it
+  pub fit_noted : (leaves counted mid leaves' counted' new : List ℕ) (f : LabelFacts) → AreFacts config known needs terms f → IsNoted terms doc f leaves counted mid leaves' counted' new
+      → AllByRecursion (IsLeaf needs) leaves → AllByRecursion (IsLeaf needs) leaves'
+  fit_noted leaves counted mid leaves' counted' new f are noted fit =
+      subst (AllByRecursion (IsLeaf needs)) (sym noted.last) (each_append (IsLeaf needs) leaves (f.ord ∷ []) fit (are.leaf, tt))
+
+  -- what is known of a label that was met, where it was looked up
+  pub facts_met : (facts : List LabelFacts) (at ord : ℕ) (f : LabelFacts) → AllByRecursion (AreFacts config known needs terms) facts → HasFacts facts at ord → f ≡ get_or facts at f
+      → AreFacts config known needs terms f × (f.ord ≡ ord)
+  facts_met facts at ord f met has is =
+      let same : f ≡ has.0 = is ∙ get_or_from_slice_get facts at has.0 f has.1 in
+      (subst (AreFacts config known needs terms) (sym same) (at_place (AreFacts config known needs terms) facts at has.0 met has.1), ap (λ (x : LabelFacts). x.ord) same ∙ has.2)
+
 -- ---- all of it
 
 pub right_where : (config : Config) (known : Labels) (needs : ℕ) (terms : Table) (doc : ℕ) (r : Stored) (counted old new : List ℕ) → AllByRecursion (IsLeaf needs) r.leaves → AreSeen config known terms doc r.leaves counted old new
@@ -116,7 +154,3 @@ right_where config known needs terms doc r counted old new fit seen rise same = 
 
 pub dim_is : (known : Labels) (ord : ℕ) (path : List (List ℕ)) (dim : List ℕ) → slice_get known ord ≡ Some path → slice_get path 0 ≡ Some dim → dim_of (label_of known ord) ≡ dim
 dim_is known ord path dim at first = ap dim_of (get_or_from_slice_get known ord path [] at) ∙ ap (λ o. unwrap_or o []) first
-
--- what holds of each holds of the one that stands at a place
-pub at_place : {A : Type 0} (P : A → Type 0) (xs : List A) (at : ℕ) (x : A) → AllByRecursion P xs → slice_get xs at ≡ Some x → P x
-at_place P xs at x all e = subst P (get_or_from_slice_get xs at x x e) (All-from_recursion P xs all at x (slice_get_within xs at x e))

@@ -1,5 +1,5 @@
 -- What is known of labels before the documents that have them are looked at, and what was seen of a document's labels.
-use Rattle.std.specs.Prelude.{◌≡◌, ◌&&◌, ◌==◌, ℕ, ◌<◌, nat_le, not, false, List, [], ◌∷◌, length, map, flat_map, take, All, slice_get, slice_index_or, Some}
+use Rattle.std.specs.Prelude.{◌≡◌, ◌&&◌, ◌==◌, ℕ, ◌<◌, nat_le, not, false, List, [], ◌∷◌, ◌++◌, length, map, flat_map, take, All, slice_get, slice_index_or, Some}
 use Rattle.std.specs.List.{list_any}
 use Rattle.std.specs.Option.{option_map_or}
 use Rattle.std.specs.Str.{bytes_eq}
@@ -56,3 +56,9 @@ pub record AreSeen (config : Config) (known : List (List (List ℕ))) (terms : T
   pub unbroken : AreUnbroken config (labels_of known leaves)
   pub counted : (ord : ℕ) → is_in ord ords ≡ option_map_or (is_counted config (labels_of known leaves)) (slice_get known ord) false
   pub passes : Passes terms doc (path_terms (flat_map prefixes (labels_of known leaves))) old new
+
+-- The label stands behind the leaves, what is counted for it behind the ordinals, and the document's place was passed under its terms.
+pub record IsNoted (terms : Table) (doc : ℕ) (f : LabelFacts) (leaves ords old leaves' ords' new : List ℕ) : Type 0 where
+  pub last : leaves' ≡ leaves ++ f.ord ∷ []
+  pub counted : ords' ≡ ords ++ f.counted
+  pub passes : Passes terms doc (texts_at terms f.terms.items) old new

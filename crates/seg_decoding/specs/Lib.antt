@@ -4,3 +4,4 @@ pub mod Laws
 pub mod Pairs
 pub mod Facts
 pub mod Ready
+pub mod Reading

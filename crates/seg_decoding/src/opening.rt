@@ -4,6 +4,7 @@ ghost use Rattle.seg_grammar.specs.Spelling.{IsSegment, seg_bytes};
 ghost use Rattle.seg_decoding.specs.Answers.{Fails, Gives, IsLeaf};
 ghost use Rattle.seg_documents.specs.Decoding.{doc_in};
 ghost use Rattle.seg_decoding.specs.Opening.{head_fits, opened, stored_segment};
+ghost use Rattle.seg_decoding.specs.Reading.{IsStored, WhereRead};
 
 use crate::difference::first_difference;
 use crate::entries::entries_of;
@@ -52,6 +53,51 @@ fn opened(alloc: Global, documents: u32, bytes: Vec<u8>) -> Result<Segment, Stor
     Ok(segment)
 }
 
+// Makes the documents and the segment anew, to find the first byte that differs.
+fn compare_anew(
+    alloc: Global,
+    keys: RandomState,
+    config: &FacetsConfig,
+    labels: &Taxonomy,
+    needs: u32,
+    segment: &Segment,
+) -> Result<(), StoredFault>
+    requires needs { needs ≤ length labels.now }
+    requires some { 0 < length segment.now.records }
+    requires few { length segment.now.records ≤ 1000000 }
+    ensures ok { IfOk result (λ _. WhereRead segment.now (λ documents bytes. IsStored config.now labels.now needs documents bytes segment.now)) }
+    ensures err { IfErr result (λ e. WhereRead segment.now (λ documents bytes. Fails e (stored_segment config.now labels.now needs documents bytes))) }
+{
+    let entries = entries_of(alloc, config, labels, needs, segment)?;
+    let rebuilt = Segment::build(alloc, keys, &entries)?;
+    match first_difference(segment.bytes(), rebuilt.bytes()) {
+        Some(at) => Err(StoredFault::Malformed { at }),
+        None => Ok(()),
+    }
+}
+
+// The bytes of the segment are what is written for its documents.
+fn check_documents(
+    alloc: Global,
+    keys: RandomState,
+    config: &FacetsConfig,
+    labels: &Taxonomy,
+    needs: u32,
+    segment: &Segment,
+) -> Result<(), StoredFault>
+    requires needs { needs ≤ length labels.now }
+    requires some { 0 < length segment.now.records }
+    requires few { length segment.now.records ≤ 1000000 }
+    ensures ok { IfOk result (λ _. WhereRead segment.now (λ documents bytes. IsStored config.now labels.now needs documents bytes segment.now)) }
+    ensures err { IfErr result (λ e. WhereRead segment.now (λ documents bytes. Fails e (stored_segment config.now labels.now needs documents bytes))) }
+{
+    match verify(alloc, config, labels, needs, segment) {
+        Ok(()) => Ok(()),
+        Err(Unlike::NoMemory) => Err(StoredFault::NoMemory),
+        Err(Unlike::Differs) => compare_anew(alloc, keys, config, labels, needs, segment),
+    }
+}
+
 /// Opens a segment of 1 to 1,000,000 documents that was stored, under a list of labels of which it needs the first `needs`. It is answered exactly where
 /// the bytes are what is written for its documents: the leaves are ordinals of labels, the config accepts each document, and the ordinals that are
 /// counted and the terms are those of the documents.
@@ -84,15 +130,6 @@ pub fn open_stored(
     ensures own { IfOk result (λ s. IsSegment (seg_bytes s) s) }
 {
     let segment = opened(alloc, documents, bytes)?;
-    match verify(alloc, config, labels, needs, &segment) {
-        Ok(()) => return Ok(segment),
-        Err(Unlike::NoMemory) => return Err(StoredFault::NoMemory),
-        Err(Unlike::Differs) => {}
-    }
-    let entries = entries_of(alloc, config, labels, needs, &segment)?;
-    let rebuilt = Segment::build(alloc, keys, &entries)?;
-    match first_difference(segment.bytes(), rebuilt.bytes()) {
-        Some(at) => Err(StoredFault::Malformed { at }),
-        None => Ok(segment),
-    }
+    check_documents(alloc, keys, config, labels, needs, &segment)?;
+    Ok(segment)
 }

@@ -1,5 +1,5 @@
 //! Whether a stored segment is what is written for its documents, seen in one pass and without making a document.
-ghost use Rattle.std.specs.Prelude.{◌≡◌, ◌≤◌, ◌<◌, ◌++◌, ℕ, List, [], ◌∷◌, true, length, map, All, OnOk, IfOk};
+ghost use Rattle.std.specs.Prelude.{◌≡◌, ◌≤◌, ◌<◌, ◌++◌, ◌||◌, ℕ, List, [], ◌∷◌, true, not, length, map, All, OnOk, IfOk};
 ghost use Rattle.std.specs.List.{AllByRecursion, list_any};
 ghost use Rattle.std.specs.Str.{bytes_eq};
 ghost use Rattle.facet_names.specs.Labels.{IsLabelList};
@@ -10,10 +10,11 @@ ghost use Rattle.seg_grammar.specs.Spelling.{IsRecord};
 ghost use Rattle.seg_postings.specs.Rising.{is_in};
 ghost use Rattle.seg_decoding.specs.Answers.{IsLeaf};
 ghost use Rattle.seg_documents.specs.Decoding.{doc_in};
-ghost use Rattle.seg_decoding.specs.Facts.{AreSeen, labels_of};
+ghost use Rattle.seg_decoding.specs.Facts.{AreSeen, IsNoted, label_of, labels_of};
 ghost use Rattle.seg_decoding.specs.Ready.{IsReady};
 ghost use Rattle.seg_decoding.specs.Pairs.{AreTheirs, IsRight, Passes};
 
+use crate::facts::LabelFacts;
 use crate::met::MetLabels;
 use crate::unlike::Unlike;
 use crate::walk::Walk;
@@ -44,6 +45,39 @@ fn has_dimension(labels: &Taxonomy, leaves: &[u32], dim: &str) -> bool
         }
     }
     false
+}
+
+// The label may come after the others of a document: either its dimension may repeat, or none of them has it.
+fn may_follow(labels: &Taxonomy, leaves: &[u32], facts: &LabelFacts) -> bool
+    requires leaves { All (IsLeaf (length labels.now)) leaves.now }
+    requires leaf { IsLeaf (length labels.now) facts.now.ord }
+    ensures { result ≡ (facts.now.multi_valued
+        || not (list_any (λ l. bytes_eq (dim_of l) (dim_of (label_of labels.now facts.now.ord))) (labels_of labels.now leaves.now))) }
+{
+    if facts.multi_valued {
+        return true;
+    }
+    !has_dimension(labels, leaves, labels.path_of(facts.ord).dim())
+}
+
+// Adds a label to those of a document, with the ordinals that are counted for it, and passes the document's place under the label's terms.
+fn note_label(
+    segment: &Segment,
+    doc: u32,
+    facts: &LabelFacts,
+    leaves: &mut Vec<u32>,
+    counted: &mut Vec<u32>,
+    walk: &mut Walk,
+) -> Result<(), Unlike>
+    requires there { All (λ at. at < length segment.now.terms) facts.now.terms.items }
+    requires size { length walk.old.next.items ≡ length segment.now.terms }
+    ensures { OnOk result
+        (IsNoted segment.now.terms doc facts.now leaves.old.items counted.old.items walk.old.next.items leaves.new.items counted.new.items
+        walk.new.next.items) }
+{
+    leaves.push(facts.ord)?;
+    counted.extend_from_slice(facts.counted.ords())?;
+    walk.pass_terms(segment, &facts.terms, doc)
 }
 
 // The numbers are those of the slice.
@@ -98,13 +132,17 @@ impl Verifier {
     {
         let at = self.met.meet(alloc, config, labels, needs, segment, leaf)?;
         let facts = &self.met.facts[at];
-        let dim = labels.path_of(leaf).dim();
-        if !facts.multi_valued && has_dimension(labels, &self.leaves, dim) {
+        if !may_follow(labels, &self.leaves, facts) {
             return Err(Unlike::Differs);
         }
-        self.leaves.push(leaf)?;
-        self.counted.extend_from_slice(facts.counted.ords())?;
-        self.walk.pass_terms(segment, &facts.terms, doc)
+        note_label(
+            segment,
+            doc,
+            facts,
+            &mut self.leaves,
+            &mut self.counted,
+            &mut self.walk,
+        )
     }
 
     // The labels of a document are accepted, and its place is passed under their terms.

@@ -1,50 +1,59 @@
-use Rattle.std.proofs.Common.{rules, true, ◌≡◌, ◌∷◌, [], ◌++◌, ℕ, List, false, subst, sym, ap, ◌∙◌}
-use Rattle.std.specs.Prelude.{not, ◌&&◌}
+use Rattle.std.proofs.Common.{rules, ◌≡◌, ◌≤◌, ◌∷◌, [], ◌++◌, ◌||◌, ℕ, List, true, length, subst, sym, ap, ◌∙◌, arith}
+use Rattle.std.specs.Prelude.{All, not}
 use Rattle.std.specs.List.{list_any}
 use Rattle.std.specs.Str.{bytes_eq}
-use Rattle.std.proofs.lemmas.Option.{get_or_from_slice_get}
 use Rattle.std.proofs.lemmas.Result.{on_ok_weaker}
 use Rattle.facet_model.specs.Documents.{dim_of}
-use Rattle.facet_model.specs.Flags.{flags}
-use Rattle.seg_terms.specs.Noting.{Table}
-use Rattle.seg_decoding.specs.Facts.{AreFacts, AreSeen, label_of, labels_of, texts_at}
-use Rattle.seg_decoding.specs.Pairs.{Passes}
+use Rattle.seg_decoding.specs.Answers.{IsLeaf}
+use Rattle.seg_decoding.specs.Facts.{label_of, labels_of}
 use Rattle.seg_decoding.specs.declared.facts.LabelFacts.{LabelFacts}
-use Rattle.seg_decoding.proofs.Rights.{at_place, dim_is, seen_more}
-use Rattle.seg_decoding.proofs.verifying.Verifier.check_label.Goals.{else-not-facts-via-then-not-facts+else-has_dimension, else-not-facts-via-else-not-facts}
+use Rattle.seg_decoding.proofs.Rights.{facts_met, fit_noted, low_leaves, seen_noted}
 use Rattle.seg_decoding.proofs.verifying.Verifier.check_label.Goals as goal
-use Rattle.std.proofs.Math.Bool.{and-false}
+
+pub may_follow-requires-clause-leaves : goal.may_follow-requires-clause-leaves
+may_follow-requires-clause-leaves c =
+    let known = c.args.labels.now in
+    subst (All (IsLeaf (length known))) (sym c.deref.ensures.value) (low_leaves c.args.needs (length known) c.args.self.now.leaves.items c.requires.needs c.requires.fit)
+
+pub may_follow-requires-clause-leaf : goal.may_follow-requires-clause-leaf
+may_follow-requires-clause-leaf c =
+    let f : LabelFacts = c.index-facts.result.now in
+    let are = facts_met c.args.config.now c.args.labels.now c.args.needs c.args.segment.now.terms c.args.doc c.meet.new.self.facts.items c.in_ok-at.at c.args.leaf f c.in_ok-at.ensures.met c.in_ok-at.ensures.has c.index-facts.ensures in
+    (are.0.leaf.0, omega (arith, are.0.leaf.1, c.requires.needs))
+
+pub note_label-requires-clause-there : goal.note_label-requires-clause-there
+note_label-requires-clause-there c =
+    let f : LabelFacts = c.index-facts.result.now in
+    let are = facts_met c.args.config.now c.args.labels.now c.args.needs c.args.segment.now.terms c.args.doc c.meet.new.self.facts.items c.in_ok-at.at c.args.leaf f c.in_ok-at.ensures.met c.in_ok-at.ensures.has c.index-facts.ensures in
+    are.0.there
+
+pub returns-clause-ready : goal.returns-clause-ready
+returns-clause-ready c = on_ok_weaker c.note_label.result (λ noted. record {
+  places = subst (λ (n : ℕ). c.args.needs ≤ n) (sym c.in_ok-at.ensures.size) c.requires.ready.places;
+  met = c.in_ok-at.ensures.met;
+  size = noted.passes.size ∙ c.requires.ready.size;
+}) c.note_label.ensures
+
+pub returns-clause-fit : goal.returns-clause-fit
+returns-clause-fit c =
+    let f : LabelFacts = c.index-facts.result.now in
+    let are = facts_met c.args.config.now c.args.labels.now c.args.needs c.args.segment.now.terms c.args.doc c.meet.new.self.facts.items c.in_ok-at.at c.args.leaf f c.in_ok-at.ensures.met c.in_ok-at.ensures.has c.index-facts.ensures in
+    on_ok_weaker c.note_label.result (λ noted. fit_noted c.args.config.now c.args.labels.now c.args.needs c.args.segment.now.terms c.args.doc c.args.self.now.leaves.items c.args.self.now.counted.items c.args.self.now.walk.next.items
+    c.note_label.new.leaves.items c.note_label.new.counted.items c.note_label.new.walk.next.items f are.0 noted c.requires.fit) c.note_label.ensures
+
+pub returns-clause-leaves : goal.returns-clause-leaves
+returns-clause-leaves c =
+    let f : LabelFacts = c.index-facts.result.now in
+    let are = facts_met c.args.config.now c.args.labels.now c.args.needs c.args.segment.now.terms c.args.doc c.meet.new.self.facts.items c.in_ok-at.at c.args.leaf f c.in_ok-at.ensures.met c.in_ok-at.ensures.has c.index-facts.ensures in
+    on_ok_weaker c.note_label.result (λ noted. noted.last ∙ ap (λ (n : ℕ). c.args.self.now.leaves.items ++ n ∷ []) are.1) c.note_label.ensures
 
 pub returns-clause-seen : goal.returns-clause-seen
 returns-clause-seen c =
-    let config = c.args.config.now in
-    let known = c.args.labels.now in
-    let needs = c.args.needs in
-    let terms : Table = c.args.segment.now.terms in
-    let facts : List LabelFacts = c.meet.new.self.facts.items in
     let f : LabelFacts = c.index-facts.result.now in
-    let has = c.in_ok-at.ensures.has in
-    let same : f ≡ has.0 = c.index-facts.ensures ∙ get_or_from_slice_get facts c.in_ok-at.at has.0 f has.1 in
-    let are : AreFacts config known needs terms f = subst (AreFacts config known needs terms) (sym same) (at_place (AreFacts config known needs terms) facts c.in_ok-at.at has.0 c.in_ok-at.ensures.met has.1) in
-    let ord : f.ord ≡ c.args.leaf = ap (λ (x : LabelFacts). x.ord) same ∙ has.2 in
+    let are = facts_met c.args.config.now c.args.labels.now c.args.needs c.args.segment.now.terms c.args.doc c.meet.new.self.facts.items c.in_ok-at.at c.args.leaf f c.in_ok-at.ensures.met c.in_ok-at.ensures.has c.index-facts.ensures in
     let leaves : List ℕ = c.args.self.now.leaves.items in
-    let counted : List ℕ = c.args.self.now.counted.items in
-    let dim : dim_of (label_of known f.ord) ≡ c.dim-dim.result.now = ap (λ (n : ℕ). dim_of (label_of known n)) ord ∙ dim_is known c.args.leaf c.path_of.result.now c.dim-dim.result.now c.path_of.ensures c.dim-dim.ensures in
-    let once : (not (flags config (dim_of (label_of known f.ord))).multi_valued && list_any (λ l. bytes_eq (dim_of l) (dim_of (label_of known f.ord))) (labels_of known leaves)) ≡ false = elim c.else-not-facts.branch [
-      | else-not-facts-via-then-not-facts+else-has_dimension w ↦
-          let none : list_any (λ l. bytes_eq (dim_of l) (dim_of (label_of known f.ord))) (labels_of known leaves) ≡ false =
-          (λ i. list_any (λ l. bytes_eq (dim_of l) (dim i)) (labels_of known (sym w.deref.ensures.value i))) ∙ sym w.has_dimension.ensures ∙ w.if-has_dimension.false in
-          ap (λ b. not (flags config (dim_of (label_of known f.ord))).multi_valued && b) none ∙ and-false (not (flags config (dim_of (label_of known f.ord))).multi_valued)
-      | else-not-facts-via-else-not-facts w ↦
-          let many : f.multi_valued ≡ true = search rules in
-          ap (λ b. not b && list_any (λ l. bytes_eq (dim_of l) (dim_of (label_of known f.ord))) (labels_of known leaves)) (are.repeats ∙ many)
-    ] in
-    let own : c.push.new.self.items ≡ c.args.self.now.leaves.items ++ c.index-facts.result.now.ord ∷ [] = c.in_ok-push.ensures.items ∙ ap (λ (n : ℕ). c.args.self.now.leaves.items ++ n ∷ []) (sym ord) in
-    let longer : c.extend_from_slice.new.self.items ≡ c.args.self.now.counted.items ++ c.ords.result.now = search rules in
-    let all : c.extend_from_slice.new.self.items ≡ c.args.self.now.counted.items ++ c.index-facts.result.now.counted = longer ∙ ap (λ (ns : List ℕ). c.args.self.now.counted.items ++ ns) c.ords.ensures.ords in
-    let mid : List ℕ = c.args.self.now.walk.next.items in
-    let new : List ℕ = c.pass_terms.new.self.next.items in
-    on_ok_weaker c.pass_terms.result (λ passes start seen.
-    subst (λ (ls : List ℕ). AreSeen config known terms c.args.doc ls c.extend_from_slice.new.self.items start new) (sym own)
-    (subst (λ (ns : List ℕ). AreSeen config known terms c.args.doc (leaves ++ f.ord ∷ []) ns start new) (sym all)
-    (seen_more config known needs terms c.args.doc leaves counted start mid new f are once (subst (λ (ts : List ℕ). Passes terms c.args.doc (texts_at terms ts) mid new) c.deref-2.ensures.value passes) seen))) c.pass_terms.ensures
+    let may : c.may_follow.result ≡ true = search rules in
+    let is : c.may_follow.result ≡ (c.index-facts.result.now.multi_valued || not (list_any (λ l. bytes_eq (dim_of l) (dim_of (label_of c.args.labels.now c.index-facts.result.now.ord))) (labels_of c.args.labels.now c.args.self.now.leaves.items))) =
+    c.may_follow.ensures ∙ ap (λ (ls : List ℕ). f.multi_valued || not (list_any (λ l. bytes_eq (dim_of l) (dim_of (label_of c.args.labels.now f.ord))) (labels_of c.args.labels.now ls))) c.deref.ensures.value in
+    on_ok_weaker c.note_label.result (λ noted start seen. seen_noted c.args.config.now c.args.labels.now c.args.needs c.args.segment.now.terms c.args.doc c.may_follow.result leaves c.args.self.now.counted.items start c.args.self.now.walk.next.items
+    c.note_label.new.leaves.items c.note_label.new.counted.items c.note_label.new.walk.next.items f are.0 is may noted seen) c.note_label.ensures
