@@ -1,6 +1,6 @@
 -- Arrays of texts, and of paths: their tokens, and the values that they are.
-use Rattle.std.proofs.Common.{◌≡◌, ℕ, suc, ◌≤◌, List, [], ◌∷◌, ◌++◌, length, map, Some, None, refl, sym, ap, ◌∙◌, arith, append_assoc}
-use Rattle.std.specs.Prelude.{All}
+use Rattle.std.proofs.Common.{◌≡◌, ℕ, suc, ◌≤◌, List, [], ◌∷◌, ◌++◌, length, map, Option, Some, None, Ok, Err, refl, sym, ap, ◌∙◌, arith, append_assoc}
+use Rattle.std.specs.Prelude.{All, Result, IfOk, IfSome}
 use Rattle.std.proofs.lemmas.Bool.{le-leb}
 use Rattle.std.proofs.lemmas.Bool.Decides.{nat_tests}
 use Rattle.json.specs.Token.{Token}
@@ -67,6 +67,18 @@ few_parts (x ∷ xs) fits = let parts = part_of_path (x ∷ xs) fits in grind (a
 pub path_read : (p : List (List ℕ)) → path_fault p ≡ None → path (array (text_items p)) ≡ Some p
 unfolding path
 path_read p fits = rw (items_many p, items_strings p, strings_read p, le-leb 1 (length p) (some_parts p fits), le-leb (length p) 32 (few_parts p fits), fits) refl
+
+-- it stands between the brackets of its array
+pub path_tokens : {E : Type 0} (old new mid : List Token) (r : Result (Option (List (List ℕ))) E) → old ≡ Token.begin_array ∷ mid
+    → IfOk r (λ o. IfSome o (λ p. mid ≡ map (λ t. Token.string t) p ++ (Token.end_array ∷ new))) → IfOk r (λ o. IfSome o (λ p. old ≡ json_tokens (json.array (written_texts p)) ++ new))
+path_tokens old new mid (Err e) begins read = tt
+path_tokens old new mid (Ok None) begins read = tt
+path_tokens old new mid (Ok (Some p)) begins read = begins ∙ ap (λ (ts : List Token). Token.begin_array ∷ ts) (read ∙ texts_tokens p new)
+
+pub path_reads : {E : Type 0} (r : Result (Option (List (List ℕ))) E) → IfOk r (λ o. IfSome o (λ p. IsPath p)) → IfOk r (λ o. IfSome o (λ p. path (array (text_items p)) ≡ Some p))
+path_reads (Err e) fits = tt
+path_reads (Ok None) fits = tt
+path_reads (Ok (Some p)) fits = path_read p fits
 
 -- ---- paths
 

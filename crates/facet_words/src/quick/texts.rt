@@ -59,6 +59,22 @@ fn child_next(
     }
 }
 
+// The path with all texts up to the end of their array, or None, which says nothing.
+fn rest_next(alloc: Global, reader: &mut Reader<'_>, dim: Path) -> Result<Option<Path>, NoMemory>
+    requires { IsPath dim }
+    ensures read { IfOk result (λ o. IfSome o (λ p. map SpecToken.string dim ++ reader.old ≡ map SpecToken.string p ++ (SpecToken.end_array ∷ reader.new))) }
+    ensures fits { IfOk result (λ o. IfSome o (λ p. IsPath p)) }
+{
+    let mut path = dim;
+    while !reader.take_end_array() {
+        let Some(child) = child_next(alloc, reader, &path)? else {
+            return Ok(None);
+        };
+        path = child;
+    }
+    Ok(Some(path))
+}
+
 // The path that comes next, or None, which says nothing.
 fn path_next(alloc: Global, reader: &mut Reader<'_>) -> Result<Option<Path>, NoMemory>
     ensures read { IfOk result (λ o. IfSome o (λ p. reader.old ≡ json_tokens (array (written_texts p)) ++ reader.new)) }
@@ -67,16 +83,10 @@ fn path_next(alloc: Global, reader: &mut Reader<'_>) -> Result<Option<Path>, NoM
     let Some(Token::BeginArray) = reader.next() else {
         return Ok(None);
     };
-    let Some(mut path) = dim_next(alloc, reader)? else {
-        return Ok(None);
-    };
-    while !reader.take_end_array() {
-        let Some(child) = child_next(alloc, reader, &path)? else {
-            return Ok(None);
-        };
-        path = child;
+    match dim_next(alloc, reader)? {
+        Some(dim) => rest_next(alloc, reader, dim),
+        None => Ok(None),
     }
-    Ok(Some(path))
 }
 
 // The paths of the array that comes next, or None, which says nothing.

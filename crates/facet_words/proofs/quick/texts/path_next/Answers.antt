@@ -1,11 +1,12 @@
-use Rattle.std.proofs.Common.{◌∷◌, ◌++◌, List, ap, ◌∙◌, map}
+use Rattle.std.proofs.Common.{rules, ◌≡◌, ◌∷◌, ◌++◌, map}
 use Rattle.json.specs.Token.{Token}
-use Rattle.facet_words.proofs.QuickTexts.{ended, texts_tokens, path_read}
+use Rattle.facet_words.proofs.QuickTexts.{path_tokens, path_reads}
 use Rattle.facet_words.proofs.quick.texts.path_next.Goals as goal
 
-pub returns-clause-read : goal.returns-clause-read
-returns-clause-read c = c.loop-alloc.invariant.0 ∙ ap (λ (ts : List Token). Token.begin_array ∷ ts)
-    (ap (λ (ts : List Token). map (λ t. Token.string t) c.loop-alloc.path ++ ts) (ended c.loop-alloc.reader c.take_end_array.new.self c.loop-alloc-test.ensures) ∙ texts_tokens c.loop-alloc.path c.take_end_array.new.self)
+pub returns-in-Some-clause-read : goal.returns-in-Some-clause-read
+returns-in-Some-clause-read c =
+    let begins : c.args.reader.now ≡ Token.begin_array ∷ (map (λ t. Token.string t) c.in-Some.dim ++ c.dim_next.new.reader) = search rules in
+    path_tokens c.args.reader.now c.rest_next.new.reader (map (λ t. Token.string t) c.in-Some.dim ++ c.dim_next.new.reader) c.rest_next.result begins c.rest_next.ensures.read
 
-pub returns-clause-path : goal.returns-clause-path
-returns-clause-path c = path_read _ c.loop-alloc.invariant.1
+pub returns-in-Some-clause-path : goal.returns-in-Some-clause-path
+returns-in-Some-clause-path c = path_reads c.rest_next.result c.rest_next.ensures.fits
