@@ -10,5 +10,6 @@ pub mod QuickMembers
 pub mod QuickLines
 pub mod Rising
 mod SearchLines
+mod Searches
 mod Limits
 mod Dimensions

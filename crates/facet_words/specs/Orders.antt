@@ -84,6 +84,14 @@ search_with keys d = do
   hits ← key_or (codes "hits") 10 (whole_within 0 1000000) d
   when (keys_among keys d) (record { query = query; drill = drill; sideways = sideways; asks = asks; hits = hits })
 
+-- the parts of a search that take memory, beside the two that do not
+unfoldable pub search_parts : Bool → ℕ → Data → Option Search
+search_parts sideways hits d = do
+  query ← key_or (codes "query") all query_of d
+  drill ← key_or (codes "drill") [] (list_within 0 256 path) d
+  asks ← key_or (codes "ask") [] (list_within 0 64 ask_of) d
+  Some (record { query = query; drill = drill; sideways = sideways; asks = asks; hits = hits })
+
 -- the place of a document, beside no other keys than these
 unfoldable pub place_with : List (List ℕ) → Data → Option ℕ
 place_with keys d = do

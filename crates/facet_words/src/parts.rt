@@ -1,12 +1,12 @@
 //! The parts of commands that scripts of one session and of several have in common.
-ghost use Rattle.std.specs.Prelude.{◌≡◌, ◌≤◌, IfOk, IsTrue, option_map, length, map, codes};
+ghost use Rattle.std.specs.Prelude.{◌≡◌, ◌≤◌, [], IfOk, IsTrue, option_map, length, map, codes};
 ghost use Rattle.serde_json.specs.View.{view};
 ghost use Rattle.facet_model.specs.Queries.{all};
 ghost use Rattle.facet_model.specs.QueryViews.{query_view};
 ghost use Rattle.facet_words.specs.CommandViews.{search_view};
-ghost use Rattle.facet_words.specs.Orders.{added_of, heading_of, place_with, plain_of, search_with};
+ghost use Rattle.facet_words.specs.Orders.{added_of, heading_of, place_with, plain_of, search_parts, search_with};
 ghost use Rattle.facet_words.specs.Queries.{query_of};
-ghost use Rattle.facet_words.specs.Shapes.{key_or, is_within};
+ghost use Rattle.facet_words.specs.Shapes.{key_or, is_within, list_within, path};
 
 use crate::shape::{Shaped, flag_at, index_in, keys_among, list_or, text_in, whole_or};
 use facet_model::{Ask, DocShape, Document, Drill, Query};
@@ -79,8 +79,44 @@ fn query_at(alloc: Global, value: &Value) -> Result<Option<Query>, NoMemory>
     }
 }
 
+fn drill_at(alloc: Global, value: &Value) -> Result<Option<Drill>, NoMemory>
+    ensures { IfOk result (λ o. o ≡ key_or (codes "drill") [] (list_within 0 256 path) (view value.now)) }
+{
+    match list_or::<Path>(alloc, value, "drill", 256)? {
+        Some(paths) => Ok(Some(Drill::new(alloc, paths)?)),
+        None => Ok(None),
+    }
+}
+
+// A search by its parts that take memory, beside the two that do not.
+#[tactic(auto, unfolding(crate::specs::Orders::search_parts))]
+fn parts_in(
+    alloc: Global,
+    value: &Value,
+    sideways: bool,
+    hits: u32,
+) -> Result<Option<SearchLine>, NoMemory>
+    ensures { IfOk result (λ o. option_map search_view o ≡ search_parts sideways hits (view value.now)) }
+{
+    let Some(query) = query_at(alloc, value)? else {
+        return Ok(None);
+    };
+    let Some(drill) = drill_at(alloc, value)? else {
+        return Ok(None);
+    };
+    let Some(asks) = list_or::<Ask>(alloc, value, "ask", 64)? else {
+        return Ok(None);
+    };
+    Ok(Some(SearchLine {
+        query,
+        drill,
+        sideways,
+        asks,
+        hits,
+    }))
+}
+
 /// A search that has no other keys than these.
-#[tactic(auto, unfolding(crate::specs::Orders::search_with))]
 pub fn searched_in(
     alloc: Global,
     value: &Value,
@@ -88,33 +124,16 @@ pub fn searched_in(
 ) -> Result<Option<SearchLine>, NoMemory>
     ensures { IfOk result (λ o. option_map search_view o ≡ search_with (map (λ k. k.now) keys.now) (view value.now)) }
 {
-    let Some(query) = query_at(alloc, value)? else {
+    if !keys_among(value, keys) {
         return Ok(None);
-    };
-    let Some(paths) = list_or::<Path>(alloc, value, "drill", 256)? else {
-        return Ok(None);
-    };
+    }
     let Some(sideways) = flag_at(value, "sideways") else {
-        return Ok(None);
-    };
-    let Some(asks) = list_or::<Ask>(alloc, value, "ask", 64)? else {
         return Ok(None);
     };
     let Some(hits) = whole_or(value, "hits", 10, 0, 1_000_000) else {
         return Ok(None);
     };
-    if keys_among(value, keys) {
-        let drill = Drill::new(alloc, paths)?;
-        Ok(Some(SearchLine {
-            query,
-            drill,
-            sideways,
-            asks,
-            hits: hits as u32,
-        }))
-    } else {
-        Ok(None)
-    }
+    parts_in(alloc, value, sideways, hits as u32)
 }
 
 /// The place of a document, beside no other keys than these.
