@@ -28,6 +28,14 @@ lists_of inner d = do
   must_not ← key_or (codes "must_not") [] (list_of inner) d
   when (keys_among (codes "must" ∷ codes "should" ∷ codes "must_not" ∷ []) d) (bool (queries must) (queries should) (queries must_not))
 
+-- likewise, whatever other keys there are
+unfoldable pub three_of : (Data → Option QueryTree) → Data → Option QueryTree
+three_of inner d = do
+  must ← key_or (codes "must") [] (list_of inner) d
+  should ← key_or (codes "should") [] (list_of inner) d
+  must_not ← key_or (codes "must_not") [] (list_of inner) d
+  Some (bool (queries must) (queries should) (queries must_not))
+
 -- {"bool":lists}
 unfoldable pub bool_query : (Data → Option QueryTree) → Data → Option QueryTree
 bool_query inner d = if keys_among (codes "bool" ∷ []) d then key (codes "bool") (lists_of inner) d else None

@@ -1,8 +1,10 @@
-ghost use Rattle.std.specs.Prelude.{◌≡◌, ◌≤◌, ◌-◌, [], SomeIff, IfOk, option_map, map};
+ghost use Rattle.std.specs.Prelude.{◌≡◌, ◌≤◌, ◌-◌, [], Option, SomeIff, IfOk, option_map, option_and_then, map};
+ghost use Rattle.std.specs.Option.{option_or};
+ghost use Rattle.serde_json.specs.Data.{Data};
 ghost use Rattle.serde_json.specs.View.{view};
-ghost use Rattle.facet_model.specs.Queries.{queries, nodes, list_nodes};
+ghost use Rattle.facet_model.specs.Queries.{QueryTree, queries, nodes, list_nodes};
 ghost use Rattle.facet_model.specs.QueryViews.{query_view};
-ghost use Rattle.facet_words.specs.Queries.{all_query, term_query, lists_of, bool_query, query_within, query_of};
+ghost use Rattle.facet_words.specs.Queries.{all_query, term_query, three_of, bool_query, query_within, query_of};
 ghost use Rattle.facet_words.specs.Shapes.{all_some, key_or, list_of};
 
 use crate::shape::{Shaped, keys_among};
@@ -40,42 +42,69 @@ fn term_in(alloc: Global, value: &Value) -> Result<Option<Query>, NoMemory>
     }
 }
 
+// A query that has no queries in it.
+fn leaf_in(alloc: Global, value: &Value) -> Result<Option<Query>, NoMemory>
+    ensures { IfOk result (λ o. option_map query_view o ≡ option_or (all_query (view value.now)) (term_query (view value.now))) }
+{
+    match all_in(value) {
+        Some(query) => Ok(Some(query)),
+        None => term_in(alloc, value),
+    }
+}
+
+// The lists of a boolean query, where neither has other keys.
+fn lists_at(value: &Value) -> Option<&Value>
+    ensures { (inner : Data → Option QueryTree)
+        → option_and_then (three_of inner) (option_map (λ v. view v.now) result) ≡ bool_query inner (view value.now) }
+{
+    if !keys_among(value, &["bool"]) {
+        return None;
+    }
+    let Some(lists) = value.get("bool") else {
+        return None;
+    };
+    if keys_among(lists, &["must", "should", "must_not"]) {
+        Some(lists)
+    } else {
+        None
+    }
+}
+
+// The values of the list under a key, none where the key is not there.
+fn list_at<'a>(value: &'a Value, name: &str) -> Option<&'a [Value]>
+    ensures { (shape : Data → Option QueryTree)
+        → option_and_then (λ vs. all_some (map (λ v. shape (view v)) vs)) (option_map (λ s. s.now) result) ≡ key_or name.now [] (list_of shape) (view value.now) }
+{
+    match value.get(name) {
+        Some(found) => {
+            let list = found.as_array()?;
+            Some(list.as_slice())
+        }
+        None => Some(&[]),
+    }
+}
+
 // A query of at most so many levels.
 #[cycle(query_reading)]
-#[tactic(auto, using(crate::proofs::Levels::one_level))]
 fn query_in(alloc: Global, value: &Value, levels: u32) -> Result<Option<Query>, NoMemory>
     ensures { IfOk result (λ o. option_map query_view o ≡ query_within levels (view value.now)) }
 {
     if levels == 0 {
         return Ok(None);
     }
-    if let Some(query) = all_in(value) {
+    if let Some(query) = leaf_in(alloc, value)? {
         return Ok(Some(query));
     }
-    if let Some(query) = term_in(alloc, value)? {
-        return Ok(Some(query));
-    }
-    bool_in(alloc, value, levels - 1)
-}
-
-#[cycle(query_reading)]
-#[tactic(auto, unfolding(crate::specs::Queries::bool_query))]
-fn bool_in(alloc: Global, value: &Value, levels: u32) -> Result<Option<Query>, NoMemory>
-    ensures { IfOk result (λ o. option_map query_view o ≡ bool_query (query_within levels) (view value.now)) }
-{
-    if !keys_among(value, &["bool"]) {
-        return Ok(None);
-    }
-    match value.get("bool") {
-        Some(lists) => lists_in(alloc, lists, levels),
+    match lists_at(value) {
+        Some(lists) => lists_in(alloc, lists, levels - 1),
         None => Ok(None),
     }
 }
 
 #[cycle(query_reading)]
-#[tactic(auto, unfolding(crate::specs::Queries::lists_of))]
+#[tactic(auto, unfolding(crate::specs::Queries::three_of))]
 fn lists_in(alloc: Global, value: &Value, levels: u32) -> Result<Option<Query>, NoMemory>
-    ensures { IfOk result (λ o. option_map query_view o ≡ lists_of (query_within levels) (view value.now)) }
+    ensures { IfOk result (λ o. option_map query_view o ≡ three_of (query_within levels) (view value.now)) }
 {
     let Some(must) = queries_at(alloc, value, "must", levels)? else {
         return Ok(None);
@@ -86,15 +115,11 @@ fn lists_in(alloc: Global, value: &Value, levels: u32) -> Result<Option<Query>, 
     let Some(must_not) = queries_at(alloc, value, "must_not", levels)? else {
         return Ok(None);
     };
-    if keys_among(value, &["must", "should", "must_not"]) {
-        Ok(Some(Query::Bool {
-            must,
-            should,
-            must_not,
-        }))
-    } else {
-        Ok(None)
-    }
+    Ok(Some(Query::Bool {
+        must,
+        should,
+        must_not,
+    }))
 }
 
 // The queries under a key, each of at most so many levels.
@@ -107,20 +132,10 @@ fn queries_at(
 ) -> Result<Option<Vec<Query>>, NoMemory>
     ensures { IfOk result (λ o. option_map (λ v. map query_view v.items) o ≡ key_or name.now [] (list_of (query_within levels)) (view value.now)) }
 {
-    match value.get(name) {
-        Some(list) => queries_in(alloc, list, levels),
-        None => Ok(Some(Vec::new(alloc))),
+    match list_at(value, name) {
+        Some(list) => each_query(alloc, list, levels),
+        None => Ok(None),
     }
-}
-
-#[cycle(query_reading)]
-fn queries_in(alloc: Global, value: &Value, levels: u32) -> Result<Option<Vec<Query>>, NoMemory>
-    ensures { IfOk result (λ o. option_map (λ v. map query_view v.items) o ≡ list_of (query_within levels) (view value.now)) }
-{
-    let Some(list) = value.as_array() else {
-        return Ok(None);
-    };
-    each_query(alloc, list, levels)
 }
 
 #[cycle(query_reading)]

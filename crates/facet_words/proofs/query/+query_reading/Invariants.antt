@@ -14,14 +14,8 @@ decreases-query_in l = 8 * l.levels
 abbrev pub decreases-each_query : goal.decreases-each_query
 decreases-each_query l = 8 * l.levels + 1
 
-abbrev pub decreases-queries_in : goal.decreases-queries_in
-decreases-queries_in l = 8 * l.levels + 2
-
 abbrev pub decreases-queries_at : goal.decreases-queries_at
 decreases-queries_at l = 8 * l.levels + 3
 
 abbrev pub decreases-lists_in : goal.decreases-lists_in
 decreases-lists_in l = 8 * l.levels + 4
-
-abbrev pub decreases-bool_in : goal.decreases-bool_in
-decreases-bool_in l = 8 * l.levels + 5
