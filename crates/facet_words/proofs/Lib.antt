@@ -11,5 +11,6 @@ pub mod QuickLines
 pub mod Rising
 mod SearchLines
 mod Searches
+mod SettingsParts
 mod Limits
 mod Dimensions

@@ -1,4 +1,4 @@
-ghost use Rattle.std.specs.Prelude.{◌≡◌, ◌≢◌, [], Ok, Err, IfOk, IfErr, IsTrue, length, option_map, map, string_bytes, codes};
+ghost use Rattle.std.specs.Prelude.{◌≡◌, ◌≢◌, [], Ok, Err, IfOk, IfErr, IsTrue, length, option_and_then, option_map, map, string_bytes, codes};
 ghost use Rattle.serde_json.specs.View.{view};
 ghost use Rattle.facet_words.specs.CommandViews.{settings_view};
 ghost use Rattle.facet_words.specs.Orders.{dimension_of, config_from, settings_of};
@@ -104,7 +104,20 @@ fn declared(
     Ok(Some(config))
 }
 
-#[tactic(auto, unfolding(crate::specs::Orders::settings_of))]
+// The config with the dimensions under the key, or None where two have one name.
+fn config_at(
+    alloc: Global,
+    keys: RandomState,
+    value: &Value,
+) -> Result<Option<FacetsConfig>, NoMemory>
+    ensures { IfOk result (λ o. o ≡ option_and_then config_from (key_or (codes "dims") [] (list_of dimension_of) (view value.now))) }
+{
+    match dimensions_in(alloc, value)? {
+        Some(dims) => declared(alloc, keys, &dims),
+        None => Ok(None),
+    }
+}
+
 fn settings_in(
     alloc: Global,
     keys: RandomState,
@@ -112,12 +125,12 @@ fn settings_in(
 ) -> Result<Option<Settings>, NoMemory>
     ensures { IfOk result (λ o. option_map settings_view o ≡ settings_of (view value.now)) }
 {
-    let Some(dims) = dimensions_in(alloc, value)? else {
+    if !keys_among(
+        value,
+        &["cmd", "dims", "max_docs", "max_labels", "stripes", "cache"],
+    ) {
         return Ok(None);
-    };
-    let Some(config) = declared(alloc, keys, &dims)? else {
-        return Ok(None);
-    };
+    }
     let Some(max_docs) = whole_or(value, "max_docs", 1_000_000, 1, 1_000_000) else {
         return Ok(None);
     };
@@ -130,20 +143,16 @@ fn settings_in(
     let Some(cache) = whole_or(value, "cache", 4_096, 1, 65_536) else {
         return Ok(None);
     };
-    if keys_among(
-        value,
-        &["cmd", "dims", "max_docs", "max_labels", "stripes", "cache"],
-    ) {
-        Ok(Some(Settings {
-            config,
-            max_docs: max_docs as u32,
-            max_labels: max_labels as u32,
-            stripes: stripes as u32,
-            cache: cache as u32,
-        }))
-    } else {
-        Ok(None)
-    }
+    let Some(config) = config_at(alloc, keys, value)? else {
+        return Ok(None);
+    };
+    Ok(Some(Settings {
+        config,
+        max_docs: max_docs as u32,
+        max_labels: max_labels as u32,
+        stripes: stripes as u32,
+        cache: cache as u32,
+    }))
 }
 
 #[tactic(auto, unfolding(crate::specs::Scripts::config_of))]
