@@ -26,6 +26,11 @@ use std::rt::Files;
 /// to another folder.
 ///
 /// A folder that is not there holds no file, and the first `put` makes it. Entries that are no name of ours are passed over.
+///
+/// An entry with the name of a file that is no plain file (a folder, a pipe, a socket, a device) is listed, so its number is not used again. To
+/// read or to sync it fails at once. `remove` leaves it in place and answers `Ok`, and so it leaves a link. A link to a plain file reads as that
+/// file.
+///
 /// `sync` syncs the file and its folder, and `sync_names` the folder. The first `put` in a directory syncs what holds its folder and what
 /// holds the disk's, made or not: a run that was cut off may have made them and not synced them. A want of memory inside a call that
 /// writes is a fault.

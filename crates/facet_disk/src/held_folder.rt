@@ -2,7 +2,7 @@ use crate::name::{Dir, FileName};
 use crate::names::Names;
 use facet_io::read_retrying;
 use std::alloc::{AllocError, Global};
-use std::fs::{File, OpenFile, OpenOptions};
+use std::fs::{File, Metadata, OpenFile, OpenOptions};
 use std::io;
 use std::io::{ErrorKind, Read, Write};
 use std::os::fd::AsRawFd;
@@ -13,6 +13,8 @@ use std::rt::Files;
 ///
 /// The folder that is locked is the only one that is read or written. Its path names it once, when it is locked; where the path leads later, after
 /// a rename or through a link that was moved, has no effect.
+///
+/// Only plain files are read, synced and removed. A link to a plain file is read as that file.
 ///
 /// An error of the kind `NotFound` says that a file is not there, and one of the kind `AlreadyExists` that one is.
 #[derive(Drop)]
@@ -59,9 +61,7 @@ impl<R: Files<File = File> + Drop> HeldFolder<R> {
                 Err(ErrorKind::StaleNetworkFileHandle.into())
             };
         }
-        let mut how = OpenOptions::new();
-        how.read(true);
-        let folder = self.files.open_file(&how, &self.root)?;
+        let folder = open_expected(&self.files, &self.root, Expected::Folder)?;
         folder.try_lock()?;
         let fd = folder.as_raw_fd();
         self.base = format!(in self.alloc; "/proc/self/fd/{fd}")?;
@@ -108,10 +108,8 @@ impl<R: Files<File = File> + Drop> HeldFolder<R> {
         format!(in self.alloc; "{}/{name}", self.base)
     }
 
-    fn sync_path(&self, path: &str) -> io::Result<()> {
-        let mut how = OpenOptions::new();
-        how.read(true);
-        self.files.open_file(&how, path)?.sync_all()
+    fn sync_path(&self, path: &str, expected: Expected) -> io::Result<()> {
+        open_expected(&self.files, path, expected)?.sync_all()
     }
 
     // Makes a folder that may be there already, and answers whether it was made.
@@ -151,8 +149,8 @@ impl<R: Files<File = File> + Drop> HeldFolder<R> {
         let path = self.folder_path(dir)?;
         self.make_folder(&path)?;
         let above = format!(in self.alloc; "{}/..", self.base)?;
-        self.sync_path(&above)?;
-        self.sync_path(&self.base)?;
+        self.sync_path(&above, Expected::Folder)?;
+        self.sync_path(&self.base, Expected::Folder)?;
         match dir {
             Dir::Taxonomy => self.has_taxonomy = true,
             Dir::Index => self.has_index = true,
@@ -194,9 +192,7 @@ impl<R: Files<File = File> + Drop> HeldFolder<R> {
     pub(crate) fn read(&mut self, alloc: Global, name: FileName) -> io::Result<Vec<u8>> {
         self.take_there()?;
         let path = self.file_path(name)?;
-        let mut how = OpenOptions::new();
-        how.read(true);
-        let mut file = self.files.open_file(&how, &path)?;
+        let mut file = open_expected(&self.files, &path, Expected::PlainFile)?;
         let mut bytes = Vec::new(alloc);
         file.read_to_end(&mut bytes)?;
         Ok(bytes)
@@ -218,9 +214,9 @@ impl<R: Files<File = File> + Drop> HeldFolder<R> {
     pub(crate) fn sync(&mut self, name: FileName) -> io::Result<()> {
         self.take_there()?;
         let path = self.file_path(name)?;
-        self.sync_path(&path)?;
+        self.sync_path(&path, Expected::PlainFile)?;
         let folder = self.folder_path(name.dir)?;
-        self.sync_path(&folder)
+        self.sync_path(&folder, Expected::Folder)
     }
 
     /// The operating system would put the file in the place of one of the new name, so that is looked for first.
@@ -243,14 +239,57 @@ impl<R: Files<File = File> + Drop> HeldFolder<R> {
     pub(crate) fn sync_names(&mut self, dir: Dir) -> io::Result<()> {
         self.take_there()?;
         let path = self.folder_path(dir)?;
-        self.sync_path(&path)
+        self.sync_path(&path, Expected::Folder)
     }
 
+    /// It leaves what is no plain file, also a link to one: no store made that.
     pub(crate) fn remove(&mut self, name: FileName) -> io::Result<()> {
         self.take_there()?;
         let path = self.file_path(name)?;
-        self.files.remove_file(&path)
+        if self.files.symlink_metadata(&path)?.is_file() {
+            self.files.remove_file(&path)
+        } else {
+            Ok(())
+        }
     }
+}
+
+// What a path is to lead to.
+#[derive(Clone, Copy)]
+enum Expected {
+    PlainFile,
+    Folder,
+}
+
+// An error where something else was found.
+fn check_found(found: &Metadata, expected: Expected) -> io::Result<()> {
+    match expected {
+        Expected::PlainFile => if found.is_file() {
+            Ok(())
+        } else {
+            Err(ErrorKind::InvalidInput.into())
+        },
+        Expected::Folder => if found.is_dir() {
+            Ok(())
+        } else {
+            Err(ErrorKind::NotADirectory.into())
+        },
+    }
+}
+
+// Opens what a path leads to, for reading, and follows links. Opening a pipe may wait for ever, and opening a device may do anything, so it is looked at
+// first. It is looked at again when it is open, since another entry may have taken the name.
+fn open_expected<R: Files<File = File>>(
+    files: &R,
+    path: &str,
+    expected: Expected,
+) -> io::Result<File> {
+    check_found(&files.metadata(path)?, expected)?;
+    let mut how = OpenOptions::new();
+    how.read(true);
+    let opened = files.open_file(&how, path)?;
+    check_found(&opened.metadata()?, expected)?;
+    Ok(opened)
 }
 
 // Whether a path leads to an open folder. One that leads nowhere does not.
