@@ -1,3 +1,4 @@
 pub mod Keeping
 pub mod Crossing
 pub mod Counting
+mod Installing

@@ -1,5 +1,5 @@
-//! Lists of segments: one segment more, the same segments shared, and how many documents they have.
-ghost use Rattle.std.specs.Prelude.{◌≡◌, ◌≢◌, ◌≤◌, [], length, map, replicate, IfErr, IfOk, OnOk};
+//! Lists of segments: one segment more, one in the place of several, the same segments shared, and how many documents they have.
+ghost use Rattle.std.specs.Prelude.{◌≡◌, ◌≢◌, ◌≤◌, ◌<◌, ◌+◌, ◌++◌, [], ◌∷◌, length, map, take, drop, replicate, IfErr, IfOk, OnOk};
 ghost use Rattle.std.specs.Arc.{arc_value};
 ghost use Rattle.seg_grammar.specs.Spelling.{IsSegment, seg_bytes};
 ghost use Rattle.seg_terms.specs.Entries.{segment_of};
@@ -35,6 +35,21 @@ pub fn flush(
     segments.push(segment)?;
     entries.clear();
     Ok(docs)
+}
+
+/// Puts one segment in the place of `count` segments from `first` on. It takes no memory, and moves those behind them once.
+pub fn put_merged(
+    segments: &mut Vec<Arc<Segment>>,
+    first: usize,
+    count: usize,
+    merged: Arc<Segment>,
+)
+    requires some { 0 < count }
+    requires range { first + count ≤ length segments.old.items }
+    ensures { segments.new.items ≡ take first segments.old.items ++ merged ∷ drop (first + count) segments.old.items }
+{
+    segments[first] = merged;
+    segments.drain(first + 1..first + count);
 }
 
 /// The same segments once more, with one owner more of each.

@@ -1,15 +1,17 @@
-ghost use Rattle.std.specs.Prelude.{◌≡◌, ◌≢◌, ◌≤◌, ◌⊎◌, ◌++◌, [], ◌∷◌, true, false, Err, IfOk, IfErr, OnOk, OnErr, length, map};
+ghost use Rattle.std.specs.Prelude.{◌≡◌, ◌≢◌, ◌≤◌, ◌<◌, ◌+◌, ◌⊎◌, ◌++◌, [], ◌∷◌, true, false, Err, IfOk, IfErr, OnOk, OnErr, List, length, map, take, drop};
 ghost use Rattle.std.specs.Arc.{arc_value};
 ghost use mathlib.Core.List.{IsPrefix};
+ghost use Rattle.facet_model.specs.Histories.{Operation as Added};
 ghost use Rattle.facet_model.specs.Stored.{Decodes};
 ghost use Rattle.chronicle.specs.Shown.{IsNoteOf};
+ghost use Rattle.seg_grammar.specs.Spelling.{IsSegment, seg_bytes};
 ghost use Rattle.seg_documents.specs.Entries.{IsEntry};
 ghost use Rattle.taxo_cache.specs.Seen.{labels_of, SeesLabels};
 ghost use Rattle.index_state.specs.Index.{StandsFor, StandsForMore, opened, docs_under, DecodeUnder, AreOwn, IsAppended, IsFlushed};
 ghost use Rattle.index_state.specs.declared.fault.AppendFault.TheVariants.{DocsFull, NoMemory as Memory};
 
 use crate::fault::AppendFault;
-use crate::flushing::{count_documents, flush, shared, zeros};
+use crate::flushing::{count_documents, flush, put_merged, shared, zeros};
 use crate::operation::Operation;
 use crate::view::IndexView;
 use chronicle::{Chronicle, Standing, Token};
@@ -185,6 +187,21 @@ impl IndexState {
             operations: self.sessions.len() as u64,
             labels: chronicle.note(&mut self.labels),
         })
+    }
+
+    /// Replaces `count` segments from `first` on by one segment that has the same documents, as their merge does. All documents, and the operations that the index
+    /// stands for, stay as they are. It takes no memory.
+    pub fn install_merged(&mut self, first: usize, count: usize, merged: Arc<Segment>)
+        requires some { 0 < count }
+        requires range { first + count ≤ length self.old.segments }
+        requires decodes { DecodeUnder self.old.labels self.old.config (arc_value merged ∷ []) }
+        requires same { docs_under self.old.labels (arc_value merged ∷ []) ≡ docs_under self.old.labels (take count (drop first self.old.segments)) }
+        requires own { IsSegment (seg_bytes (arc_value merged)) (arc_value merged) }
+        ensures list { self.new.segments ≡ take first self.old.segments ++ arc_value merged ∷ drop (first + count) self.old.segments }
+        ensures rest { self.new ≡ record self.old { segments = self.new.segments } }
+        ensures stands { (history : List Added) → StandsFor self.old history → StandsFor self.new history }
+    {
+        put_merged(&mut self.segments, first, count, merged);
     }
 
     /// The segments of all documents but those that wait.

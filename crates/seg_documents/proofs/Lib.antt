@@ -1,6 +1,7 @@
 pub mod Ordinals
 pub mod Live
 pub mod Decoded
+pub mod Joined
 pub mod Stored
 pub mod Few
 pub mod Prefixes

@@ -39,7 +39,7 @@ module _ {A : Type 0} (passes : A → Bool) where
       by true rest = (omega (arith, size), rest)
       by false rest = rest
 
-  no_places : (xs : List A) (n : ℕ) → list_any passes xs ≡ false → places_from passes n xs ≡ []
+  pub no_places : (xs : List A) (n : ℕ) → list_any passes xs ≡ false → places_from passes n xs ≡ []
   no_places [] n none = refl
   no_places (x ∷ xs) n none = by (passes x) none (no_places xs (n + 1))
     where

@@ -1,5 +1,6 @@
 pub mod Tables
 mod Noted
+pub mod Behind
 pub mod Pieces
 pub mod TermLists
 pub mod DocPlaces

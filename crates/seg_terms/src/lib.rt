@@ -11,4 +11,5 @@ mod term_places;
 pub use collector::{word_end, write_word_term};
 pub use entry::Entry;
 pub use laws::{terms_are_found, terms_rise};
+pub use table::TermTable;
 pub use term_places::{TermPlaces, terms_of};

@@ -1,8 +1,8 @@
-ghost use Rattle.std.specs.Prelude.{◌≡◌, ◌<◌, ℕ, List, [], ◌∷◌, true, Some, None, IfSome, length, map, option_map, slice_get, IfOk, OnOk};
+ghost use Rattle.std.specs.Prelude.{◌≡◌, ◌<◌, ℕ, List, [], ◌∷◌, ◌++◌, true, Some, None, IfSome, length, map, option_map, slice_get, IfOk, OnOk};
 ghost use Rattle.std.specs.List.Sorted.{IsStrictlySortedBy};
 ghost use Rattle.std.specs.Map.{keys_of};
 ghost use Rattle.facet_model.specs.Words.{word_cmp};
-ghost use Rattle.seg_terms.specs.Noting.{put_place, found, AreNoted};
+ghost use Rattle.seg_terms.specs.Noting.{put_place, found, AreNoted, AreNotedBehind};
 ghost use Rattle.seg_terms.specs.Places.{term_view};
 
 use crate::recent::{RecentTerms, slot_of};
@@ -38,6 +38,14 @@ fn put_place(places: &mut Vec<u32>, place: u32) -> Result<(), NoMemory>
         }
     }
     places.push(place)?;
+    Ok(())
+}
+
+// Puts places behind the others.
+fn put_all(noted: &mut Vec<u32>, places: &[u32]) -> Result<(), NoMemory>
+    ensures { OnOk result (noted.new.items ≡ noted.old.items ++ places.now) }
+{
+    noted.extend_from_slice(places)?;
     Ok(())
 }
 
@@ -102,6 +110,24 @@ impl TermTable {
         let mut places = Vec::new(alloc);
         places.push(place)?;
         self.terms.insert(String::from_str(alloc, term)?, places)?;
+        Ok(())
+    }
+
+    /// Notes places of a term behind those that it has, in the order given. A term that has no place is not noted. It takes memory for the term's text where the
+    /// term is new, and for the places.
+    pub fn note_all(&mut self, term: &str, places: &[u32]) -> Result<(), NoMemory>
+        ensures { OnOk result (AreNotedBehind term.now places.now self.old self.new) }
+    {
+        if places.is_empty() {
+            return Ok(());
+        }
+        if let Some(noted) = self.terms.get_mut(term) {
+            return put_all(noted, places);
+        }
+        let alloc = *self.terms.allocator();
+        let mut noted = Vec::new(alloc);
+        put_all(&mut noted, places)?;
+        self.terms.insert(String::from_str(alloc, term)?, noted)?;
         Ok(())
     }
 

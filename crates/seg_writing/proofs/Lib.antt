@@ -1,3 +1,3 @@
-mod Puts
+pub mod Puts
 mod Facts
-mod Limits
+pub mod Limits

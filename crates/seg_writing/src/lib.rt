@@ -6,4 +6,5 @@ mod sizes;
 mod terms;
 mod writing;
 
-pub use writing::{Written, write_segment};
+pub use terms::put_terms;
+pub use writing::{Written, put_head, write_segment};

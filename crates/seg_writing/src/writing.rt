@@ -27,8 +27,8 @@ pub struct Written {
 
 const MAGIC: u32 = 0x46534547;
 
-// `FSEG`, the version and how many documents there are.
-fn put_head(out: &mut Vec<u8>, docs: u32) -> Result<(), facet_codec::NoMemory>
+/// Appends `FSEG`, the version and how many documents there are.
+pub fn put_head(out: &mut Vec<u8>, docs: u32) -> Result<(), facet_codec::NoMemory>
     ensures { OnOk result (out.new.items ≡ out.old.items ++ (be32 0x46534547 ++ (be32 1 ++ be32 docs))) }
 {
     put_u32(out, MAGIC)?;

@@ -8,6 +8,8 @@ mod codec;
 #[cfg(test)]
 mod making;
 #[cfg(test)]
+mod merging;
+#[cfg(test)]
 mod places;
 #[cfg(test)]
 mod plans;

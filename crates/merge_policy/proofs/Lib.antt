@@ -1,0 +1,3 @@
+mod Tiers
+mod Walking
+mod Moving

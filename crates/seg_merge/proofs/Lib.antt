@@ -1,0 +1,5 @@
+mod Moved
+mod Places
+mod Puts
+mod Built
+mod Standing
