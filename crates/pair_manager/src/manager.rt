@@ -8,7 +8,7 @@ ghost use Rattle.facet_model.specs.Flags.{Config};
 ghost use Rattle.facet_model.specs.Histories.{docs};
 ghost use Rattle.facet_model.specs.Stored.{Decodes};
 ghost use Rattle.chronicle.specs.History.{entries};
-ghost use Rattle.chronicle.specs.Shown.{mine, IsNoteOf, MayTake, SameToken, SeesOn, EntersBehind};
+ghost use Rattle.chronicle.specs.Shown.{mine, MayEnter, MayTake, SameToken, SeesOn, EntersBehind};
 ghost use Rattle.seg_documents.specs.Entries.{IsEntry};
 ghost use Rattle.taxo_cache.specs.Seen.{labels_of, SeesLabels};
 ghost use Rattle.taxo_list.specs.declared.fault.TaxoFault.TheVariants.{NoMemory as ListNoMemory};
@@ -17,7 +17,7 @@ ghost use Rattle.index_state.specs.Index.{opened, docs_under, DecodeUnder, AreOw
 ghost use Rattle.index_state.specs.Frames.{index_frame};
 ghost use Rattle.index_state.specs.declared.fault.AppendFault.TheVariants.{DocsFull};
 ghost use Rattle.pair_manager.specs.Published.{ArePublications, publication_of, frame_of, pair_frame, StandsFor, IsLast, IsNewest, seen_of};
-ghost use Rattle.pair_manager.specs.Kept.{IsPair};
+ghost use Rattle.pair_manager.specs.Next.{Ends, GoOn, IsNext};
 ghost use Rattle.pair_manager.specs.Passes.{IsOf, IsFirst, SamePass, all_seen};
 ghost use Rattle.pair_manager.specs.Appended.{HasNoRoom, IsPlaced};
 
@@ -249,15 +249,8 @@ impl<N: Name> Manager<N> {
         requires last { IsPrefix last.now.labels.seen labels.old.seen }
         requires tied { operations.old.frame.identities ≡ self.now.writer.labels ∷ [] }
         requires config { config_texts last.now.config ≡ operations.old.frame.texts }
-        ensures labels { SameToken labels.old labels.new × (labels.new.holds_turn ≡ false) }
-        ensures more_labels { SeesOn labels.old labels.new }
-        ensures operations { SameToken operations.old operations.new × (operations.new.holds_turn ≡ false) }
-        ensures more_operations { SeesOn operations.old operations.new }
-        ensures list { SeesLabels labels.new }
-        ensures history { IfOk result (λ p. IsNoteOf operations.new p.history) }
-        ensures known { IfOk result (λ p. IsNoteOf labels.new p.labels) }
-        ensures config { IfOk result (λ p. p.config ≡ last.now.config) }
-        ensures is { IfOk result IsPair }
+        ensures tokens { GoOn labels.old labels.new operations.old operations.new }
+        ensures next { IfOk result (IsNext last.now.config operations.new labels.new) }
     {
         let IndexView {
             segments,
@@ -291,15 +284,8 @@ impl<N: Name> Manager<N> {
         requires last { IsPrefix last.now.labels.seen labels.old.seen }
         requires tied { operations.old.frame.identities ≡ self.now.writer.labels ∷ [] }
         requires config { config_texts last.now.config ≡ operations.old.frame.texts }
-        ensures labels { SameToken labels.old labels.new × (labels.new.holds_turn ≡ false) }
-        ensures more_labels { SeesOn labels.old labels.new }
-        ensures operations { SameToken operations.old operations.new × (operations.new.holds_turn ≡ false) }
-        ensures more_operations { SeesOn operations.old operations.new }
-        ensures list { SeesLabels labels.new }
-        ensures history { IfOk result (λ p. IsNoteOf operations.new p.history) }
-        ensures known { IfOk result (λ p. IsNoteOf labels.new p.labels) }
-        ensures config { IfOk result (λ p. p.config ≡ last.now.config) }
-        ensures is { IfOk result IsPair }
+        ensures tokens { GoOn labels.old labels.new operations.old operations.new }
+        ensures next { IfOk result (IsNext last.now.config operations.new labels.new) }
     {
         let pair = self.make_pair(rt, last, labels, operations)?;
         PairState::new(
@@ -364,6 +350,34 @@ impl<N: Name> Manager<N> {
         last
     }
 
+    // Ends the turn of the pairs: publishes the next pair, or gives the last one back where none was made.
+    fn end_turn(
+        &self,
+        pairs: &mut Token<Publication>,
+        last: PairState,
+        next: Result<PairState, NoMemory>,
+    ) -> Result<u64, NoMemory>
+        requires own { pairs.old.identity ≡ self.now.pairs }
+        requires turn { MayEnter pairs.old }
+        requires last { StandsFor last (entries pairs.old.seen) × (frame_of last ≡ pairs.old.frame) }
+        requires next { IfOk next (λ p. StandsFor p (entries pairs.old.seen ++ publication_of p ∷ []) × (frame_of p ≡ pairs.old.frame)) }
+        ensures pairs { SameToken pairs.old pairs.new × (pairs.new.holds_turn ≡ false) }
+        ensures ended { Ends next result pairs.old pairs.new }
+    {
+        match next {
+            Ok(next) => {
+                let publication = next.publication();
+                self.pairs.enter(pairs, publication);
+                self.pairs.give(pairs, next);
+                Ok(publication.operations)
+            }
+            Err(error) => {
+                self.pairs.give(pairs, last);
+                Err(error)
+            }
+        }
+    }
+
     /// Publishes a pair with all operations and labels as they then stand, and answers how many operations it has. The pass has then seen just these. Without
     /// memory none is published.
     ///
@@ -385,18 +399,8 @@ impl<N: Name> Manager<N> {
         ensures none { OnErr result (mine pass.new.pairs ≡ mine pass.old.pairs) }
     {
         let last = self.take_last(rt, &mut pass.pairs, &mut pass.labels, &mut pass.operations);
-        match self.make_next(rt, &last, &mut pass.labels, &mut pass.operations) {
-            Ok(next) => {
-                let publication = next.publication();
-                self.pairs.enter(&mut pass.pairs, publication);
-                self.pairs.give(&mut pass.pairs, next);
-                Ok(publication.operations)
-            }
-            Err(NoMemory) => {
-                self.pairs.give(&mut pass.pairs, last);
-                Err(NoMemory)
-            }
-        }
+        let next = self.make_next(rt, &last, &mut pass.labels, &mut pass.operations);
+        self.end_turn(&mut pass.pairs, last, next)
     }
 
     /// The last published pair, which is no older than any that the pass had seen. The pass has then seen its operations and labels.

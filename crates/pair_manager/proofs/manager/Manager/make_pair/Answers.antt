@@ -11,7 +11,9 @@ use Rattle.chronicle.specs.History.{entries}
 use Rattle.chronicle.proofs.Prefixes.{prefix_trans}
 use Rattle.taxo_cache.specs.Seen.{labels_of}
 use Rattle.taxo_adding.proofs.Growing.{labels_begin, seen_goes_on}
+use Rattle.chronicle.specs.Shown.{Shown, IsNoteOf}
 use Rattle.pair_manager.specs.Published.{Published}
+use Rattle.pair_manager.proofs.Going.{same_self, same_on, sees_self, sees_on, go_as}
 use Rattle.pair_manager.proofs.manager.Manager.make_pair.Goals as goal
 
 pub renew-requires-clause-last : goal.renew-requires-clause-last
@@ -38,3 +40,58 @@ new-requires-clause-decodes g c =
     let shared : arc_value c.in_ok-config.config ≡ config = c.in_ok-config.ensures ∙ c.shared_config.ensures ∙ ap (λ (p : Published). p.config) (c.deref-2.ensures ∙ c.last.view_is) in
     subst (λ (x : Config). Decodes (labels_of labels.seen) x all (docs (entries history.seen))) (sym shared)
     (decodes_stay config (labels_of index.labels.seen) (labels_of labels.seen) c.in_ok-segments.ensures.labels list on all (docs (entries history.seen)) decodes)
+
+pub returns-in_err-segments-clause-tokens : goal.returns-in_err-segments-clause-tokens
+returns-in_err-segments-clause-tokens g c =
+    let labels = c.args.labels.now in
+    record {
+      known = (same_self labels, c.requires.idle.0.1);
+      more_labels = sees_self labels;
+      history = c.take_index.ensures.token;
+      more_operations = c.take_index.ensures.more;
+      list = c.requires.list;
+    }
+
+pub returns-in_err-view-clause-tokens : goal.returns-in_err-view-clause-tokens
+returns-in_err-view-clause-tokens g c =
+    let labels = c.args.labels.now in
+    record {
+      known = (same_on labels c.meet.new.into c.renew.new.token c.meet.ensures.same.0 c.renew.ensures.token.0, c.renew.ensures.token.1);
+      more_labels = sees_on labels c.meet.new.into c.renew.new.token c.meet.ensures.more c.renew.ensures.more;
+      history = c.take_index.ensures.token;
+      more_operations = c.take_index.ensures.more;
+      list = c.renew.ensures.labels;
+    }
+
+pub returns-in_err-config-clause-tokens : goal.returns-in_err-config-clause-tokens
+returns-in_err-config-clause-tokens g c =
+    let labels = c.args.labels.now in
+    record {
+      known = (same_on labels c.meet.new.into c.renew.new.token c.meet.ensures.same.0 c.renew.ensures.token.0, c.renew.ensures.token.1);
+      more_labels = sees_on labels c.meet.new.into c.renew.new.token c.meet.ensures.more c.renew.ensures.more;
+      history = c.take_index.ensures.token;
+      more_operations = c.take_index.ensures.more;
+      list = c.renew.ensures.labels;
+    }
+
+pub returns-clause-tokens : goal.returns-clause-tokens
+returns-clause-tokens g c =
+    let labels = c.args.labels.now in
+    go_as labels c.renew.new.token c.note-2.new.of c.args.operations.now c.take_index.new.token c.note.new.of c.note-2.ensures.of c.note.ensures.of (record {
+      known = (same_on labels c.meet.new.into c.renew.new.token c.meet.ensures.same.0 c.renew.ensures.token.0, c.renew.ensures.token.1);
+      more_labels = sees_on labels c.meet.new.into c.renew.new.token c.meet.ensures.more c.renew.ensures.more;
+      history = c.take_index.ensures.token;
+      more_operations = c.take_index.ensures.more;
+      list = c.renew.ensures.labels;
+    })
+
+pub returns-clause-next : goal.returns-clause-next
+returns-clause-next g c =
+    let pair = c.new.ensures.pair in
+    let shared : arc_value c.in_ok-config.config ≡ c.args.last.now.config = c.in_ok-config.ensures ∙ c.shared_config.ensures ∙ ap (λ (p : Published). p.config) (c.deref-2.ensures ∙ c.last.view_is) in
+    record {
+      history = subst (λ (n : Shown Operation). IsNoteOf c.note.new.of n) (sym (ap (λ (p : Published). p.history) pair)) (subst (λ (t : Shown Operation). IsNoteOf t c.note.result) (sym c.note.ensures.of) c.note.ensures.note);
+      known = subst (λ (n : Shown (List (List ℕ))). IsNoteOf c.note-2.new.of n) (sym (ap (λ (p : Published). p.labels) pair)) (subst (λ (t : Shown (List (List ℕ))). IsNoteOf t c.note-2.result) (sym c.note-2.ensures.of) c.note-2.ensures.note);
+      under = ap (λ (p : Published). p.config) pair ∙ shared;
+      is = c.new.ensures.is;
+    }

@@ -1,76 +1,181 @@
-use Rattle.std.proofs.Common.{◌≡◌, ◌∙◌, ◌++◌, ◌∷◌, [], ℕ, List, ap, sym, subst, length}
-use mathlib.Core.List.{IsPrefix}
-use Rattle.facet_model.specs.Histories.{Operation}
+use Rattle.std.proofs.Common.{◌≡◌, ◌∙◌, ◌∷◌, [], sym, ap}
+use Rattle.atomic_table.specs.Seated.{TableId}
 use Rattle.chronicle.specs.Frame.{Frame}
-use Rattle.chronicle.specs.History.{entries, own_of}
-use Rattle.chronicle.proofs.Prefixes.{prefix_trans}
-use Rattle.taxo_cache.specs.Seen.{labels_of}
-use Rattle.pair_manager.specs.declared.publication.Publication.{Publication}
-use Rattle.pair_manager.specs.Published.{publication_of, ArePublications, pair_frame, frame_of}
-use Rattle.pair_manager.proofs.Publishing.{still_right, stands_next}
+use Rattle.pair_manager.proofs.Going.{rests_on, same_on, same_self, sees_on}
+use Rattle.pair_manager.proofs.Refreshed.{may_publish, refreshed}
 use Rattle.pair_manager.proofs.manager.Manager.refresh.Goals as goal
 
-pub invariant_of-pass-in-Err-clause-right : goal.invariant_of-pass-in-Err-clause-right
-invariant_of-pass-in-Err-clause-right g c =
+pub end_turn-requires-clause-next : goal.end_turn-requires-clause-next
+end_turn-requires-clause-next g c =
     let t = c.take_last-last in
-    let m = c.make_next in
-    let on = prefix_trans t.result.labels.seen t.new.labels.seen m.new.labels.seen t.ensures.told.1 c.in-Err.ensures.more_labels.0 in
-    let more = prefix_trans t.result.history.seen t.new.operations.seen m.new.operations.seen t.ensures.told.0 c.in-Err.ensures.more_operations.0 in
-    subst (λ (l : List (ℕ × Publication)). ArePublications m.new.labels.seen m.new.operations.seen (entries l)) (sym c.give-in-Err.ensures.seen.0)
-    (still_right t.result.labels.seen m.new.labels.seen t.result.history.seen m.new.operations.seen on more (entries t.new.pairs.seen) t.ensures.last.right)
+    let m = c.make_next-next in
+    may_publish t.result c.args.pass.now.pairs t.new.pairs c.args.pass.now.labels t.new.labels m.new.labels c.args.pass.now.operations t.new.operations m.new.operations t.ensures.last t.ensures.told t.ensures.more_labels t.ensures.more_operations m.ensures.tokens
+    m.result m.ensures.next t.ensures.frame (ap (λ (f : Frame). f.identities) t.ensures.pairs.0.4 ∙ c.args.pass.now.pairs_tied) t.ensures.labels.0.3 t.ensures.operations.0.3
 
-pub give-requires-clause-value : goal.give-requires-clause-value
-give-requires-clause-value g c =
+pub returns-clause-same : goal.returns-clause-same
+returns-clause-same g c =
+    let pass = c.args.pass.now in
     let t = c.take_last-last in
-    let m = c.make_next in
-    let next = c.in-Ok.next in
-    let on : IsPrefix t.result.labels.seen next.labels.seen = subst (IsPrefix t.result.labels.seen) (sym c.in-Ok.ensures.known.2) (prefix_trans t.result.labels.seen t.new.labels.seen m.new.labels.seen t.ensures.told.1 c.in-Ok.ensures.more_labels.0) in
-    let more : IsPrefix t.result.history.seen next.history.seen = subst (IsPrefix t.result.history.seen) (sym c.in-Ok.ensures.history.2) (prefix_trans t.result.history.seen t.new.operations.seen m.new.operations.seen t.ensures.told.0 c.in-Ok.ensures.more_operations.0) in
-    let entered : entries c.enter.new.token.seen ≡ entries t.new.pairs.seen ++ publication_of next ∷ [] = c.enter.ensures.entries ∙ ap (λ (p : Publication). entries t.new.pairs.seen ++ p ∷ []) c.publication-publication.ensures in
-    let ids : t.result.history.identity ∷ t.result.labels.identity ∷ [] ≡ c.args.pass.now.operations.identity ∷ c.args.pass.now.labels.identity ∷ [] = ap (λ (f : Frame). f.identities) (t.ensures.frame ∙ t.ensures.pairs.0.4) ∙ c.args.pass.now.pairs_tied in
-    let old_history : t.result.history.identity ≡ c.args.pass.now.operations.identity = cc in
-    let old_labels : t.result.labels.identity ≡ c.args.pass.now.labels.identity = cc in
-    let history : next.history.identity ≡ c.args.pass.now.operations.identity = c.in-Ok.ensures.history.3 ∙ c.in-Ok.ensures.operations.0.3 ∙ t.ensures.operations.0.3 in
-    let labels : next.labels.identity ≡ c.args.pass.now.labels.identity = c.in-Ok.ensures.known.3 ∙ c.in-Ok.ensures.labels.0.3 ∙ t.ensures.labels.0.3 in
-    let framed : frame_of next ≡ c.enter.new.token.frame = (λ i. pair_frame (c.in-Ok.ensures.config i) ((history ∙ sym old_history) i) ((labels ∙ sym old_labels) i)) ∙ t.ensures.frame ∙ sym c.enter.ensures.turn.0.4 in
-    (stands_next t.result next (entries t.new.pairs.seen) (entries c.enter.new.token.seen) t.ensures.last c.in-Ok.ensures.is on more entered, framed)
+    let m = c.make_next-next in
+    record {
+      labels = same_on pass.labels t.new.labels m.new.labels t.ensures.labels.0 m.ensures.tokens.known.0;
+      operations = same_on pass.operations t.new.operations m.new.operations t.ensures.operations.0 m.ensures.tokens.history.0;
+      pairs = same_on pass.pairs t.new.pairs c.end_turn.new.pairs t.ensures.pairs.0 c.end_turn.ensures.pairs.0;
+      commits = same_self pass.commits;
+    }
 
-pub returns-in-Ok-clause-pairs : goal.returns-in-Ok-clause-pairs
-returns-in-Ok-clause-pairs g c =
-    let t = c.take_last-last in
-    prefix_trans c.args.pass.now.pairs.seen t.new.pairs.seen c.give.new.token.seen t.ensures.more_pairs.0 (subst (IsPrefix t.new.pairs.seen) (sym c.give.ensures.seen.0) c.enter.ensures.more)
+pub returns-clause-labels : goal.returns-clause-labels
+returns-clause-labels g c = sees_on c.args.pass.now.labels c.take_last-last.new.labels c.make_next-next.new.labels c.take_last-last.ensures.more_labels c.make_next-next.ensures.tokens.more_labels
+
+pub returns-clause-operations : goal.returns-clause-operations
+returns-clause-operations g c = sees_on c.args.pass.now.operations c.take_last-last.new.operations c.make_next-next.new.operations c.take_last-last.ensures.more_operations c.make_next-next.ensures.tokens.more_operations
 
 pub invariant_of-pass-clause-right : goal.invariant_of-pass-clause-right
 invariant_of-pass-clause-right g c =
     let t = c.take_last-last in
-    let m = c.make_next in
-    let next = c.in-Ok.next in
-    let on : IsPrefix t.result.labels.seen next.labels.seen = subst (IsPrefix t.result.labels.seen) (sym c.in-Ok.ensures.known.2) (prefix_trans t.result.labels.seen t.new.labels.seen m.new.labels.seen t.ensures.told.1 c.in-Ok.ensures.more_labels.0) in
-    let more : IsPrefix t.result.history.seen next.history.seen = subst (IsPrefix t.result.history.seen) (sym c.in-Ok.ensures.history.2) (prefix_trans t.result.history.seen t.new.operations.seen m.new.operations.seen t.ensures.told.0 c.in-Ok.ensures.more_operations.0) in
-    let entered : entries c.enter.new.token.seen ≡ entries t.new.pairs.seen ++ publication_of next ∷ [] = c.enter.ensures.entries ∙ ap (λ (p : Publication). entries t.new.pairs.seen ++ p ∷ []) c.publication-publication.ensures in
-    let stands = stands_next t.result next (entries t.new.pairs.seen) (entries c.enter.new.token.seen) t.ensures.last c.in-Ok.ensures.is on more entered in
-    subst (λ (l : List (ℕ × Publication)). ArePublications m.new.labels.seen m.new.operations.seen (entries l)) (sym c.give.ensures.seen.0)
-    (subst (λ (l : List (ℕ × List (List ℕ))). ArePublications l m.new.operations.seen (entries c.enter.new.token.seen)) c.in-Ok.ensures.known.2
-    (subst (λ (l : List (ℕ × Operation)). ArePublications next.labels.seen l (entries c.enter.new.token.seen)) c.in-Ok.ensures.history.2 stands.right))
+    let m = c.make_next-next in
+    let e = c.end_turn in
+    (refreshed t.result c.args.pass.now.pairs t.new.pairs c.args.pass.now.labels t.new.labels m.new.labels c.args.pass.now.operations t.new.operations m.new.operations t.ensures.last t.ensures.told t.ensures.more_labels t.ensures.more_operations m.ensures.tokens
+    e.new.pairs m.result e.result m.ensures.next t.ensures.pairs.0 t.ensures.more_pairs e.ensures.pairs.0 e.ensures.ended).right
 
-pub returns-in-Ok-clause-last : goal.returns-in-Ok-clause-last
-returns-in-Ok-clause-last g c =
+pub returns-clause-pairs : goal.returns-clause-pairs
+returns-clause-pairs g c =
     let t = c.take_last-last in
-    let m = c.make_next in
-    let next = c.in-Ok.next in
-    let is : publication_of next ≡ record { operations = length m.new.operations.seen; labels = length (labels_of m.new.labels.seen) } = λ i. record { operations = length (c.in-Ok.ensures.history.2 i); labels = length (labels_of (c.in-Ok.ensures.known.2 i)) } in
-    (entries t.new.pairs.seen, ap entries c.give.ensures.seen.0 ∙ c.enter.ensures.entries ∙ ap (λ (p : Publication). entries t.new.pairs.seen ++ p ∷ []) (c.publication-publication.ensures ∙ is))
+    let m = c.make_next-next in
+    let e = c.end_turn in
+    (refreshed t.result c.args.pass.now.pairs t.new.pairs c.args.pass.now.labels t.new.labels m.new.labels c.args.pass.now.operations t.new.operations m.new.operations t.ensures.last t.ensures.told t.ensures.more_labels t.ensures.more_operations m.ensures.tokens
+    e.new.pairs m.result e.result m.ensures.next t.ensures.pairs.0 t.ensures.more_pairs e.ensures.pairs.0 e.ensures.ended).pairs
 
-pub returns-in-Ok-clause-enters : goal.returns-in-Ok-clause-enters
-returns-in-Ok-clause-enters g c =
+pub returns-clause-answer : goal.returns-clause-answer
+returns-clause-answer g c =
     let t = c.take_last-last in
-    let m = c.make_next in
-    let next = c.in-Ok.next in
-    let is : publication_of next ≡ record { operations = length m.new.operations.seen; labels = length (labels_of m.new.labels.seen) } = λ i. record { operations = length (c.in-Ok.ensures.history.2 i); labels = length (labels_of (c.in-Ok.ensures.known.2 i)) } in
-    let entry = c.publication-publication.ensures ∙ is in
-    record {
-      between = t.new.pairs.seen;
-      on = t.ensures.more_pairs.0;
-      none = (λ i. own_of (sym t.ensures.pairs.0.2 i) (sym t.ensures.pairs.0.0 i) t.new.pairs.seen) ∙ t.ensures.more_pairs.1;
-      seen = c.give.ensures.seen.0 ∙ c.enter.ensures.added ∙ (λ i. t.new.pairs.seen ++ (t.ensures.pairs.0.0 i, entry i) ∷ []);
-    }
+    let m = c.make_next-next in
+    let e = c.end_turn in
+    (refreshed t.result c.args.pass.now.pairs t.new.pairs c.args.pass.now.labels t.new.labels m.new.labels c.args.pass.now.operations t.new.operations m.new.operations t.ensures.last t.ensures.told t.ensures.more_labels t.ensures.more_operations m.ensures.tokens
+    e.new.pairs m.result e.result m.ensures.next t.ensures.pairs.0 t.ensures.more_pairs e.ensures.pairs.0 e.ensures.ended).answer
+
+pub returns-clause-fresh : goal.returns-clause-fresh
+returns-clause-fresh g c =
+    let t = c.take_last-last in
+    let m = c.make_next-next in
+    let e = c.end_turn in
+    (refreshed t.result c.args.pass.now.pairs t.new.pairs c.args.pass.now.labels t.new.labels m.new.labels c.args.pass.now.operations t.new.operations m.new.operations t.ensures.last t.ensures.told t.ensures.more_labels t.ensures.more_operations m.ensures.tokens
+    e.new.pairs m.result e.result m.ensures.next t.ensures.pairs.0 t.ensures.more_pairs e.ensures.pairs.0 e.ensures.ended).fresh
+
+pub returns-clause-covers : goal.returns-clause-covers
+returns-clause-covers g c =
+    let t = c.take_last-last in
+    let m = c.make_next-next in
+    let e = c.end_turn in
+    (refreshed t.result c.args.pass.now.pairs t.new.pairs c.args.pass.now.labels t.new.labels m.new.labels c.args.pass.now.operations t.new.operations m.new.operations t.ensures.last t.ensures.told t.ensures.more_labels t.ensures.more_operations m.ensures.tokens
+    e.new.pairs m.result e.result m.ensures.next t.ensures.pairs.0 t.ensures.more_pairs e.ensures.pairs.0 e.ensures.ended).covers
+
+pub returns-clause-enters : goal.returns-clause-enters
+returns-clause-enters g c =
+    let t = c.take_last-last in
+    let m = c.make_next-next in
+    let e = c.end_turn in
+    (refreshed t.result c.args.pass.now.pairs t.new.pairs c.args.pass.now.labels t.new.labels m.new.labels c.args.pass.now.operations t.new.operations m.new.operations t.ensures.last t.ensures.told t.ensures.more_labels t.ensures.more_operations m.ensures.tokens
+    e.new.pairs m.result e.result m.ensures.next t.ensures.pairs.0 t.ensures.more_pairs e.ensures.pairs.0 e.ensures.ended).enters
+
+pub returns-clause-last : goal.returns-clause-last
+returns-clause-last g c =
+    let t = c.take_last-last in
+    let m = c.make_next-next in
+    let e = c.end_turn in
+    (refreshed t.result c.args.pass.now.pairs t.new.pairs c.args.pass.now.labels t.new.labels m.new.labels c.args.pass.now.operations t.new.operations m.new.operations t.ensures.last t.ensures.told t.ensures.more_labels t.ensures.more_operations m.ensures.tokens
+    e.new.pairs m.result e.result m.ensures.next t.ensures.pairs.0 t.ensures.more_pairs e.ensures.pairs.0 e.ensures.ended).newest
+
+pub returns-clause-none : goal.returns-clause-none
+returns-clause-none g c =
+    let t = c.take_last-last in
+    let m = c.make_next-next in
+    let e = c.end_turn in
+    (refreshed t.result c.args.pass.now.pairs t.new.pairs c.args.pass.now.labels t.new.labels m.new.labels c.args.pass.now.operations t.new.operations m.new.operations t.ensures.last t.ensures.told t.ensures.more_labels t.ensures.more_operations m.ensures.tokens
+    e.new.pairs m.result e.result m.ensures.next t.ensures.pairs.0 t.ensures.more_pairs e.ensures.pairs.0 e.ensures.ended).none
+
+pub make_next-next-requires-clause-own : goal.make_next-next-requires-clause-own
+make_next-next-requires-clause-own g c =
+    let pass = c.args.pass.now in
+    let t = c.take_last-last in
+    (t.ensures.labels.0.3 ∙ c.requires.own.labels, t.ensures.operations.0.3 ∙ c.requires.own.operations)
+
+pub make_next-next-requires-clause-idle : goal.make_next-next-requires-clause-idle
+make_next-next-requires-clause-idle g c =
+    let pass = c.args.pass.now in
+    let t = c.take_last-last in
+    (rests_on pass.labels t.new.labels t.ensures.labels.0 t.ensures.labels.1 pass.labels_rest, rests_on pass.operations t.new.operations t.ensures.operations.0 t.ensures.operations.1 pass.operations_rest)
+
+pub make_next-next-requires-clause-config : goal.make_next-next-requires-clause-config
+make_next-next-requires-clause-config g c =
+    let pass = c.args.pass.now in
+    let t = c.take_last-last in
+    ap (λ (f : Frame). f.texts) (t.ensures.frame ∙ t.ensures.pairs.0.4) ∙ pass.one_config.0 ∙ sym (ap (λ (f : Frame). f.texts) t.ensures.operations.0.4)
+
+pub end_turn-requires-clause-turn : goal.end_turn-requires-clause-turn
+end_turn-requires-clause-turn g c =
+    let pass = c.args.pass.now in
+    let t = c.take_last-last in
+    (t.ensures.pairs.0.2 ∙ pass.pairs_rest.0, (t.ensures.pairs.1, t.ensures.pairs.0.5 ∙ pass.pairs_rest.2))
+
+pub invariant_of-pass-clause-labels_rest : goal.invariant_of-pass-clause-labels_rest
+invariant_of-pass-clause-labels_rest g c =
+    let pass = c.args.pass.now in
+    let t = c.take_last-last in
+    let m = c.make_next-next in
+    rests_on pass.labels m.new.labels (same_on pass.labels t.new.labels m.new.labels t.ensures.labels.0 m.ensures.tokens.known.0) m.ensures.tokens.known.1 pass.labels_rest
+
+pub invariant_of-pass-clause-operations_rest : goal.invariant_of-pass-clause-operations_rest
+invariant_of-pass-clause-operations_rest g c =
+    let pass = c.args.pass.now in
+    let t = c.take_last-last in
+    let m = c.make_next-next in
+    rests_on pass.operations m.new.operations (same_on pass.operations t.new.operations m.new.operations t.ensures.operations.0 m.ensures.tokens.history.0) m.ensures.tokens.history.1 pass.operations_rest
+
+pub invariant_of-pass-clause-pairs_rest : goal.invariant_of-pass-clause-pairs_rest
+invariant_of-pass-clause-pairs_rest g c =
+    let pass = c.args.pass.now in
+    let t = c.take_last-last in
+    let e = c.end_turn in
+    rests_on pass.pairs e.new.pairs (same_on pass.pairs t.new.pairs e.new.pairs t.ensures.pairs.0 e.ensures.pairs.0) e.ensures.pairs.1 pass.pairs_rest
+
+pub invariant_of-pass-clause-list : goal.invariant_of-pass-clause-list
+invariant_of-pass-clause-list g c =
+    c.make_next-next.ensures.tokens.list
+
+pub invariant_of-pass-clause-index_tied : goal.invariant_of-pass-clause-index_tied
+invariant_of-pass-clause-index_tied g c =
+    let pass = c.args.pass.now in
+    let t = c.take_last-last in
+    let m = c.make_next-next in
+    let labels : m.new.labels.identity ≡ pass.labels.identity = m.ensures.tokens.known.0.3 ∙ t.ensures.labels.0.3 in
+    let framed = m.ensures.tokens.history.0.4 ∙ t.ensures.operations.0.4 in
+    ap (λ (f : Frame). f.identities) framed ∙ pass.index_tied ∙ ap (λ (i : TableId). i ∷ []) (sym labels)
+
+pub invariant_of-pass-clause-pairs_tied : goal.invariant_of-pass-clause-pairs_tied
+invariant_of-pass-clause-pairs_tied g c =
+    let pass = c.args.pass.now in
+    let t = c.take_last-last in
+    let m = c.make_next-next in
+    let labels : m.new.labels.identity ≡ pass.labels.identity = m.ensures.tokens.known.0.3 ∙ t.ensures.labels.0.3 in
+    let operations : m.new.operations.identity ≡ pass.operations.identity = m.ensures.tokens.history.0.3 ∙ t.ensures.operations.0.3 in
+    let pairs = c.end_turn.ensures.pairs.0.4 ∙ t.ensures.pairs.0.4 in
+    ap (λ (f : Frame). f.identities) pairs ∙ pass.pairs_tied ∙ (λ i. sym operations i ∷ sym labels i ∷ [])
+
+pub invariant_of-pass-clause-commits_tied : goal.invariant_of-pass-clause-commits_tied
+invariant_of-pass-clause-commits_tied g c =
+    let pass = c.args.pass.now in
+    let t = c.take_last-last in
+    let m = c.make_next-next in
+    let labels : m.new.labels.identity ≡ pass.labels.identity = m.ensures.tokens.known.0.3 ∙ t.ensures.labels.0.3 in
+    let operations : m.new.operations.identity ≡ pass.operations.identity = m.ensures.tokens.history.0.3 ∙ t.ensures.operations.0.3 in
+    pass.commits_tied ∙ (λ i. sym operations i ∷ sym labels i ∷ [])
+
+pub invariant_of-pass-clause-one_config : goal.invariant_of-pass-clause-one_config
+invariant_of-pass-clause-one_config g c =
+    let pass = c.args.pass.now in
+    let t = c.take_last-last in
+    let m = c.make_next-next in
+    let framed = m.ensures.tokens.history.0.4 ∙ t.ensures.operations.0.4 in
+    let pairs = c.end_turn.ensures.pairs.0.4 ∙ t.ensures.pairs.0.4 in
+    (ap (λ (f : Frame). f.texts) pairs ∙ pass.one_config.0 ∙ sym (ap (λ (f : Frame). f.texts) framed), pass.one_config.1 ∙ sym (ap (λ (f : Frame). f.texts) framed))
