@@ -43,6 +43,39 @@ READ: list[tuple[str, dict | None]] = [
     ('{"s":65,"cmd":"hold","name":""}', {"fault": "bad_shape", "line": 2}),
 ]
 
+# Command-line arguments, and what they ask for: the directory, and how many documents are generated; or None for a usage error.
+WORDS: list[tuple[list[bytes], tuple[bytes, int | None] | None]] = [
+    ([b"d"], (b"d", None)),
+    ([b""], (b"", None)),
+    ([b"-"], (b"-", None)),
+    ([b"--", b"--generate"], (b"--generate", None)),
+    ([b"--sessions", b"8", b"d"], (b"d", None)),
+    ([b"d", b"--sessions=1"], (b"d", None)),
+    ([b"--generate", b"12", b"d"], (b"d", 12)),
+    ([b"d", b"--generate=1000000", b"--sessions", b"8"], (b"d", 1_000_000)),
+    ([b"--generate=1", b"--", b"d"], (b"d", 1)),
+    ([b"--generate=+7", b"d"], (b"d", 7)),
+    ([b"--generate=007", b"d"], (b"d", 7)),
+    ([], None),
+    ([b"d", b"e"], None),
+    ([b"--", b"d", b"--generate"], None),
+    ([b"--generate", b"0", b"d"], None),
+    ([b"--generate=1000001", b"d"], None),
+    ([b"--generate", b"-1", b"d"], None),
+    ([b"--generate=", b"d"], None),
+    ([b"--generate", b"d"], None),
+    ([b"--generate", b"12"], None),
+    ([b"--generate", b"--", b"d"], None),
+    ([b"--generate", b"1", b"--generate", b"1", b"d"], None),
+    ([b"--sessions", b"9", b"d"], None),
+    ([b"--sessions=1.0", b"d"], None),
+    ([b"--gen", b"1", b"d"], None),
+    ([b"-h", b"d"], None),
+    ([b"---", b"d"], None),
+    ([b"--=1", b"d"], None),
+    ([b"\xff"], None),
+]
+
 # The lines behind the config line of a script on an empty store whose output is the only right one, and that output.
 ALONE: list[tuple[str, list[str], list[str]]] = [
     (CONFIG, [], ['{"labels":[],"opened":[0,1],"order":[]}']),

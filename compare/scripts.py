@@ -3,9 +3,7 @@ session holds lasts across phases."""
 
 from __future__ import annotations
 
-import json
 from dataclasses import dataclass
-from typing import Any
 
 from shapes import is_phase
 
@@ -53,9 +51,3 @@ def script_of(values: list[dict]) -> Script:
         else:
             phases[-1].append(Order(len(phases) - 1, value["s"], line, value))
     return Script(values[0], phases)
-
-
-def values_of(script: bytes) -> list[Any]:
-    """The values of a script's lines, for scripts that Python's reader of JSON reads as RFC 8259 does."""
-    lines = script.split(b"\n")
-    return [json.loads(line) for line in (lines if lines[-1] else lines[:-1])]

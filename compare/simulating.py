@@ -9,6 +9,7 @@ from random import Random
 from typing import Any
 
 import making
+import reading
 import reference
 import scripts
 import sessions
@@ -94,6 +95,25 @@ def eight_sessions() -> list[dict]:
     values += [{"s": session, "cmd": "refresh"} for session in range(1, 9)]
     values += [{"s": session, "cmd": "search", "hits": 1, "ask": [{"top": ["Author"], "n": 3}, {"top": ["Date"], "n": 9}]} for session in range(1, 9)]
     return [*values, {"s": 8, "cmd": "commit"}]
+
+
+def all_sessions() -> list[dict]:
+    """All 64 sessions add fifty documents each, beside each other, refresh once, and hold a pair over the next phase, in which each looks and one commits."""
+    values: list[dict] = [{"cmd": "config", "dims": [{"dim": "Date", "hierarchical": True}]}]
+    sessions = range(1, 65)
+    for at in range(50):
+        for session in sessions:
+            facets = [["Author", f"a{at % 10}"], ["Date", f"{2000 + session}", f"{at % 12}"]]
+            values.append({"s": session, "cmd": "add", "id": f"{session}-{at}", "facets": facets})
+            if at == session % 50:
+                values.append({"s": session, "cmd": "refresh"})
+    values += [{"s": session, "cmd": "hold", "name": "a"} for session in sessions]
+    values += [{"cmd": "phase"}, {"s": 64, "cmd": "commit"}]
+    values += [{"s": session, "cmd": "refresh"} for session in sessions if session % 8 == 1]
+    for session in sessions:
+        values.append({"s": session, "cmd": "search", "on": "a", "hits": 1, "ask": [{"top": ["Author"], "n": 3}]})
+        values += [{"s": session, "cmd": "stats", "on": "a"}, {"s": session, "cmd": "stats"}]
+    return values
 
 
 def opened_of(random: Random, dims: list[dict]) -> dict[str, bytes]:
@@ -279,7 +299,7 @@ class Ran:
     def last(self) -> dict:
         opened = (len(self.opened.documents), len(self.opened.labels))
         line = sessions.last_line(self.world.labels, opened, self.world.owners)
-        return scripts.values_of(line)[0]
+        return reading.value_of(line)
 
     def output(self) -> bytes:
         return output_of(self.lines(), self.last())
