@@ -157,10 +157,6 @@ durable_by _ reply = None
 abbrev pub durable : Answered → Option ℕ
 durable a = durable_by a.order.command a.reply
 
-abbrev pub is_commit : Command → Bool
-is_commit commit = true
-is_commit _ = false
-
 -- no commit, or one that tells of the failure at this count, or had no memory
 abbrev pub tells_of_failure : ℕ → Command → Reply → Bool
 tells_of_failure count commit (refused (closed c)) = c == count
