@@ -12,6 +12,7 @@ use Rattle.commit_store.specs.Committers.{CommitterView}
 use Rattle.commit_store.specs.Committing.{HasFiles}
 use Rattle.store_opening.specs.Quiet.{IsUnchanged}
 use Rattle.commit_turns.specs.Commits.{Keeps, Stands}
+use Rattle.commit_turns.specs.DiskStates.{DiskState, state_of}
 use Rattle.commit_turns.specs.Opening.{IsOpenedAs, WasSettled}
 use Rattle.commit_turns.specs.Points.{made}
 use Rattle.commit_turns.specs.Recovery.{AreFirst, Holds}
@@ -23,8 +24,9 @@ use Rattle.commit_turns.proofs.Prefixed.{first_all}
 all_one : (P : CommitPoint → Type 0) (p : CommitPoint) → P p → All P (p ∷ [])
 all_one P p holds = All-push P [] p (All-nil P) holds
 
-module _ {D : Type 0} (disk : Ghosts D) (only_now : (d : D) (c : Image) → disk.left_since d (disk.moment d) c → disk.may_leave d c) (told settled : Type 0) (start : D) (committer : CommitterView D) (labels : Labels) (docs : List Doc)
-    (o : IsOpenedAs disk start committer labels docs) (was_told : told → (s : Told) × (disk.told start ≡ Some s)) (was_settled : settled → WasSettled disk committer.config start) where
+module _ {D : Type 0} (disk : Ghosts D) (only_now : (d : D) (c : Image) → disk.left_since d (disk.moment d) c → disk.may_leave d c) (told settled : Type 0) (quiet : DiskState → Type 0) (start : D) (committer : CommitterView D) (labels : Labels) (docs : List Doc)
+    (o : IsOpenedAs disk start committer labels docs) (was_told : told → (s : Told) × (disk.told start ≡ Some s)) (was_settled : settled → WasSettled disk committer.config start)
+    (is_quiet : quiet (state_of disk committer.disk)) where
   abbrev point : CommitPoint
   point = made (length docs) (length labels)
 
@@ -47,7 +49,7 @@ module _ {D : Type 0} (disk : Ghosts D) (only_now : (d : D) (c : Image) → disk
         (λ c left. let before = o.opened.quiet.passes.now c left in subst Holding (sym before.2) (at_first is before.0 before.1));
   }
 
-  pub stands_opened : Stands disk told settled start committer.state committer point labels docs (point ∷ [])
+  pub stands_opened : Stands disk told settled quiet start committer.state committer point labels docs (point ∷ [])
   stands_opened = record {
     points = record {
       before = [];
@@ -82,4 +84,5 @@ module _ {D : Type 0} (disk : Ghosts D) (only_now : (d : D) (c : Image) → disk
       first = first;
       count = ap length o.documents;
     };
+    untouched = λ few. is_quiet;
   }

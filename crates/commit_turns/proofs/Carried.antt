@@ -23,6 +23,7 @@ use Rattle.commit_store.specs.Promised.{IsHere, OfBoth, PassesThree, LeavesThree
 use Rattle.store_opening.specs.Files.{files}
 use Rattle.store_opening.proofs.Held.{files_stand}
 use Rattle.commit_turns.specs.Commits.{IsLast, Keeps, IsFollowed, Stands}
+use Rattle.commit_turns.specs.DiskStates.{DiskState, state_of}
 use Rattle.commit_turns.specs.Points.{count_after, made, failed_after, first_of}
 use Rattle.commit_turns.specs.Recovery.{AreFirst, Holds}
 use Rattle.pair_manager.specs.declared.point.CommitPoint.{CommitPoint}
@@ -49,9 +50,9 @@ module _ {D : Type 0} (disk : Ghosts D) where
   last_files config committer labels segments at c left =
       files_stand config committer.state.next at.taxonomy at.index c (record { labels = labels; segments = segments }) (at.stands c left) at.known.files
 
-  module _ (told settled : Type 0) (start : D) (begun : Committed) where
+  module _ (told settled : Type 0) (quiet : DiskState → Type 0) (start : D) (begun : Committed) where
     abbrev pub On : CommitterView D → CommitPoint → Labels → List Doc → List CommitPoint → Type 0
-    On = Stands disk told settled start begun
+    On = Stands disk told settled quiet start begun
 
     -- ---- longer notes
 
@@ -93,6 +94,7 @@ module _ {D : Type 0} (disk : Ghosts D) where
         first = first_on (docs_in l.known l.segments) docs docs' l.first first;
         count = l.count;
       };
+      untouched = st.untouched;
     }
 
     -- ---- a commit
@@ -101,6 +103,12 @@ module _ {D : Type 0} (disk : Ghosts D) where
         (none : old.closed ≡ None) (same : new.config ≡ old.config) (list : IsLabelList view) (all : docs_in view segments ≡ docs) (st : On old last view docs es) where
       unfailed : last.failed ≡ None
       unfailed = st.closed ∙ none
+
+      -- with one more there is more than one
+      several : (p : CommitPoint) (A : Type 0) → length (es ++ p ∷ []) ≤ 1 → A
+      several p A few =
+          let some : length es ≡ length st.points.before + 1 = ap length st.points.ends ∙ one_longer last st.points.before in
+          absurd (omega (arith, few, one_longer p es, some))
 
       abbrev Holding : CommitPoint → Image → Type 0
       Holding p c = Holds old.config view docs p c
@@ -192,6 +200,7 @@ module _ {D : Type 0} (disk : Ghosts D) where
             let w = was is in
             keeps_with is (failed_after last count) (leaves w.tells.0 w.known w.segments w.tells.1 w.here w.goes_on) (has_failed is count (ends w.tells.0 w.known w.segments w.tells.1 w.here w.goes_on));
         committed = λ is unshut. absurd (cc (closed, unshut));
+        untouched = several (failed_after last count) (quiet (state_of disk new.disk));
       }
 
       -- the files were followed, and the commit was made
@@ -243,4 +252,5 @@ module _ {D : Type 0} (disk : Ghosts D) where
               first = subst (λ (d : List Doc). AreFirst d docs) (sym all) (first_all docs);
               count = ap length all;
             };
+        untouched = several (made (length docs) (length view)) (quiet (state_of disk new.disk));
       }

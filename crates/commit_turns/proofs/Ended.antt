@@ -11,6 +11,7 @@ use Rattle.commit_store.specs.Committers.{CommitterView}
 use Rattle.store_opening.specs.Settled.{IsSettled}
 use Rattle.store_opening.proofs.Held.{stands_settled}
 use Rattle.commit_turns.specs.Commits.{IsLast}
+use Rattle.commit_turns.specs.DiskStates.{DiskState}
 use Rattle.commit_turns.specs.Ending.{Lasts, FailsWith}
 use Rattle.commit_turns.specs.Points.{count_after, last_of}
 use Rattle.commit_turns.specs.Recovery.{HoldsJust}
@@ -22,8 +23,8 @@ use Rattle.commit_turns.proofs.Pointed.{last_push}
 abbrev AtFailure : (ℕ → Type 0) → CommitPoint → Type 0
 AtFailure P p = (count : ℕ) → p.failed ≡ Some count → P count
 
-module _ {D : Type 0} (disk : Ghosts D) (told settled : Type 0) (start : D) (begun : Committed) (committer : CommitterView D) (last : CommitPoint) (labels : Labels) (docs : List Doc) (es : List CommitPoint)
-    (st : On disk told settled start begun committer last labels docs es) where
+module _ {D : Type 0} (disk : Ghosts D) (told settled : Type 0) (quiet : DiskState → Type 0) (start : D) (begun : Committed) (committer : CommitterView D) (last : CommitPoint) (labels : Labels) (docs : List Doc) (es : List CommitPoint)
+    (st : On disk told settled quiet start begun committer last labels docs es) where
   -- what holds of the last count holds of each
   each_failed : (P : ℕ → Type 0) → AtFailure P last → All (AtFailure P) es
   each_failed P here = subst (λ (l : List CommitPoint). All (AtFailure P) l) (sym st.points.ends)

@@ -13,6 +13,7 @@ use Rattle.store_opening.specs.Newest.{AreListed}
 use Rattle.commit_plan.specs.Committed.{Committed}
 use Rattle.commit_store.specs.Committers.{CommitterView}
 use Rattle.commit_store.specs.Promised.{HasNamed, IsHere}
+use Rattle.commit_turns.specs.DiskStates.{DiskState, state_of}
 use Rattle.commit_turns.specs.Points.{count_after, first_of}
 use Rattle.commit_turns.specs.Recovery.{AreFirst, Holds}
 use Rattle.pair_manager.specs.declared.point.CommitPoint.{CommitPoint}
@@ -60,8 +61,9 @@ module _ {D : Type 0} (disk : Ghosts D) where
     pub unfailed : committer.closed ≡ None → disk.failures committer.disk ≡ disk.failures start
     pub failed : (count : ℕ) → committer.closed ≡ Some count → Rose (disk.failures start) (disk.failures committer.disk)
 
-  -- The value stands for these points, of which the first is the opened one. A commit takes at most 1,000,003 file numbers.
-  pub record Stands (told settled : Type 0) (start : D) (begun : Committed) (committer : CommitterView D) (last : CommitPoint) (labels : List (List (List ℕ))) (docs : List Doc) (es : List CommitPoint) : Type 0 where
+  -- The value stands for these points, of which the first is the opened one. A commit takes at most 1,000,003 file numbers. Where there is no other point, the
+  -- disk is as it was when opening began.
+  pub record Stands (told settled : Type 0) (quiet : DiskState → Type 0) (start : D) (begun : Committed) (committer : CommitterView D) (last : CommitPoint) (labels : List (List (List ℕ))) (docs : List Doc) (es : List CommitPoint) : Type 0 where
     pub points : ArePoints (disk.faults committer.disk) (length labels) (length docs) last es
     pub closed : last.failed ≡ committer.closed
     pub counted : disk.faults start ≤ disk.faults committer.disk
@@ -72,3 +74,4 @@ module _ {D : Type 0} (disk : Ghosts D) where
     pub followed : told → IsFollowed start committer
     pub keeps : settled → Keeps start committer labels docs es
     pub committed : settled → committer.closed ≡ None → IsLast committer last labels docs
+    pub untouched : length es ≤ 1 → quiet (state_of disk committer.disk)

@@ -1,3 +1,4 @@
+pub mod DiskStates
 pub mod Seen
 pub mod Points
 pub mod Frames

@@ -13,7 +13,7 @@ use Rattle.commit_turns.specs.declared.turn.CommitTurn.{CommitTurn}
 module _ {D N : Type 0} {d : Disks D} {n : Names N} where
   -- the value stands for these points
   abbrev pub StandsFor : CommitTurn D N d n → List CommitPoint → Type 0
-  StandsFor v es = Stands d n.told n.settled v.start.value v.begun.value.state v.committer v.last (labels_of v.labels.seen) (docs_of v.operations.seen) es
+  StandsFor v es = Stands d n.told n.settled n.quiet v.start.value v.begun.value.state v.committer v.last (labels_of v.labels.seen) (docs_of v.operations.seen) es
 
   -- what never changes of it
   abbrev pub frame_of : CommitTurn D N d n → Frame

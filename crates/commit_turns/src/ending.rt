@@ -1,4 +1,4 @@
-ghost use Rattle.std.specs.Prelude.{◌≡◌, ◌≤◌, ◌∷◌, [], ℕ, Some, All};
+ghost use Rattle.std.specs.Prelude.{◌≡◌, ◌≤◌, ◌∷◌, [], ℕ, Some, length, All};
 ghost use Rattle.chronicle.specs.History.{entries};
 ghost use Rattle.chronicle.specs.Shown.{SeesOn, EndsWith, MayTake};
 ghost use Rattle.facet_disk.specs.Calls.{Rose};
@@ -6,6 +6,7 @@ ghost use Rattle.facet_disk.specs.Images.{Told};
 ghost use Rattle.facet_model.specs.ConfigTexts.{config_texts};
 ghost use Rattle.facet_model.specs.Flags.{Config};
 ghost use Rattle.taxo_cache.specs.Seen.{labels_of};
+ghost use Rattle.commit_turns.specs.DiskStates.{state_of};
 ghost use Rattle.commit_turns.specs.Ending.{Lasts, FailsWith};
 ghost use Rattle.commit_turns.specs.Frames.{HasNumbers};
 ghost use Rattle.commit_turns.specs.Points.{count_after, last_of};
@@ -59,6 +60,9 @@ pub fn end_commits<
     ensures lasts { (config : Config) (first moment faults failures : ℕ) → N.settled → config_texts config ≡ token.old.frame.texts
         → HasNumbers first moment faults failures token.old.frame
         → Lasts D.Disk config moment (labels_of seen_labels.new.seen) (docs_of seen_operations.new.seen) (entries token.new.seen) result }
+
+    // Where no commit has entered a point behind the opened one, the disk is as it was when opening began.
+    ensures quiet { length (entries token.new.seen) ≤ 1 → N.quiet (state_of D.Disk result) }
 
     // The tokens are the same, and see on.
     ensures labels { ComesBack seen_labels.old seen_labels.new }

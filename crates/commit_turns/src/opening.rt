@@ -11,6 +11,7 @@ ghost use Rattle.store_opening.specs.Files.{files, greatest_number};
 ghost use Rattle.store_opening.specs.Newest.{next_after};
 ghost use Rattle.store_opening.specs.Quiet.{IsQuiet};
 ghost use Rattle.taxo_cache.specs.Seen.{labels_of, SeesLabels};
+ghost use Rattle.commit_turns.specs.DiskStates.{state_of};
 ghost use Rattle.commit_turns.specs.Frames.{begun_frame};
 ghost use Rattle.commit_turns.specs.Opening.{IsOpened, IsOpenedAs, WasSettled};
 ghost use Rattle.commit_turns.specs.Points.{made};
@@ -95,6 +96,7 @@ pub fn open_commits<D: Disk, N: Start, L: Standing<Entry = Path>, I: Standing<En
     requires opened { IsOpenedAs D.Disk start.value committer (labels_of seen_labels.old.seen) (docs_of seen_operations.old.seen) }
     requires told { N.told → (s : Told) × (D.told start.value ≡ Some s) }
     requires settled { N.settled → WasSettled D.Disk committer.config start.value }
+    requires quiet { N.quiet (state_of D.Disk committer.disk) }
     requires point { opened ≡ made (length seen_operations.old.seen) (length (labels_of seen_labels.old.seen)) }
     ensures tokens { (seen_labels.new ≡ seen_labels.old) × (seen_operations.new ≡ seen_operations.old) }
     ensures own { IfOk result (λ r. (r.1.identity ≡ r.0) × (r.1.frame ≡ begun_frame D.Disk start.value committer operations.now labels.now)) }

@@ -1,4 +1,4 @@
-ghost use Rattle.std.specs.Prelude.{◌≡◌, ◌≤◌, ℕ, Some, All, map};
+ghost use Rattle.std.specs.Prelude.{◌≡◌, ◌≤◌, ℕ, Some, All, length, map};
 ghost use Rattle.chronicle.specs.History.{entries};
 ghost use Rattle.facet_disk.specs.Calls.{Rose};
 ghost use Rattle.facet_disk.specs.Images.{Told};
@@ -6,6 +6,7 @@ ghost use Rattle.facet_model.specs.ConfigTexts.{config_texts};
 ghost use Rattle.facet_model.specs.Flags.{Config};
 ghost use Rattle.facet_names.specs.Labels.{IsLabelList};
 ghost use Rattle.facet_output.specs.Seen.{IsTold, labels_of};
+ghost use Rattle.commit_turns.specs.DiskStates.{state_of};
 ghost use Rattle.commit_turns.specs.Ending.{Lasts, FailsWith};
 ghost use Rattle.commit_turns.specs.Frames.{HasNumbers};
 ghost use Rattle.commit_turns.specs.Points.{count_after, last_of};
@@ -79,6 +80,9 @@ impl<D: Disk, N: Name + Start> System<D, N> {
             → HasNumbers next moment faults failures first.commits.frame
             → Lasts D.Disk config moment (labels_of (noted result.notes)) (docs_of result.notes.operations.seen)
             (entries result.notes.commits.seen) result.disk }
+
+        // Where there is no point of a commit but the opened one, nothing was written.
+        ensures quiet { length (entries result.notes.commits.seen) ≤ 1 → N.quiet (state_of D.Disk result.disk) }
     {
         let Pass {
             mut labels,

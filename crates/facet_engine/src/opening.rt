@@ -11,6 +11,7 @@ ghost use Rattle.store_opening.specs.Files.{files, greatest_number};
 ghost use Rattle.store_opening.specs.Newest.{next_after};
 ghost use Rattle.store_opening.specs.Quiet.{IsQuiet};
 ghost use Rattle.store_opening.specs.Settled.{IsSettled};
+ghost use Rattle.commit_turns.specs.DiskStates.{state_of};
 ghost use Rattle.commit_turns.specs.Frames.{HasNumbers};
 ghost use Rattle.index_state.specs.Frames.{index_frame};
 ghost use Rattle.index_state.specs.Index.{opened, docs_under, DecodeUnder, AreOwn};
@@ -175,6 +176,7 @@ impl<D: Disk, N: Name + Start> System<D, N> {
         requires told { (N.told → (t : Told) × (D.told store.start.value ≡ Some t)) × ((t : Told) → D.told store.start.value ≡ Some t → N.told) }
         requires settled { (N.settled → WasSettled D.Disk settings.config store.start.value)
             × ((t : Told) → D.told store.start.value ≡ Some t → IsSettled D.Disk settings.config t store.start.value → N.settled) }
+        requires quiet { N.quiet (state_of D.Disk store.committer.disk) × ((d : D) → N.quiet (state_of D.Disk d) → IsQuiet D.Disk store.start.value d) }
 
         // The pass has seen what was opened.
         ensures own { IfOk result (λ r. BelongsTo r.0 r.1) }

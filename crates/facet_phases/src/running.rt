@@ -9,6 +9,7 @@ ghost use Rattle.facet_output.specs.Outputs.{sessions_in};
 ghost use Rattle.facet_output.specs.Seen.{history_of, labels_of};
 ghost use Rattle.facet_words.specs.Sessions.CommandViews.{order_view};
 ghost use Rattle.facet_words.specs.Sessions.Laws.{lines_rise};
+ghost use Rattle.commit_turns.specs.DiskStates.{state_of};
 ghost use Rattle.commit_turns.specs.Ending.{Lasts, FailsWith};
 ghost use Rattle.commit_turns.specs.Frames.{HasNumbers};
 ghost use Rattle.commit_turns.specs.Points.{count_after, last_of};
@@ -134,6 +135,9 @@ pub fn run_to_end<
         → HasNumbers next moment faults failures first.commits.frame
         → Lasts D.Disk config moment (labels_of (noted result.ended.notes)) (docs_of result.ended.notes.operations.seen)
         (entries result.ended.notes.commits.seen) result.ended.disk }
+
+    // Where there is no point of a commit but the opened one, nothing was written.
+    ensures quiet { length (entries result.ended.notes.commits.seen) ≤ 1 → N.quiet (state_of D.Disk result.ended.disk) }
 {
     let mut first = first;
     let mut lanes: Vec<Lane<C>> = Vec::new(alloc);

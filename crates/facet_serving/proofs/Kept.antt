@@ -1,5 +1,5 @@
 -- What the disk keeps when sessions end, in terms of what there is at the end.
-use Rattle.std.proofs.Common.{◌≡◌, ◌∙◌, ℕ, ◌≤◌, List, [], ◌∷◌, map, Some, refl, sym, ap, subst}
+use Rattle.std.proofs.Common.{◌≡◌, ◌∙◌, ℕ, ◌≤◌, List, [], ◌∷◌, length, map, Some, refl, sym, ap, subst}
 use Rattle.std.specs.Prelude.{All}
 use Rattle.chronicle.specs.History.{entries}
 use Rattle.commit_turns.specs.Ending.{FailsWith, Lasts}
@@ -16,6 +16,7 @@ use Rattle.facet_model.specs.Flags.{Config}
 use Rattle.facet_model.specs.Histories.{Operation, docs}
 use Rattle.facet_output.specs.Seen.{CommitPoint as Point, history_of, labels_of}
 use Rattle.pair_manager.specs.declared.point.CommitPoint.{CommitPoint}
+use Rattle.store_opening.specs.Quiet.{IsQuiet}
 use Rattle.store_opening.specs.Settled.{IsSettled}
 use Rattle.facet_serving.specs.Runs.{CountsFault, Keeps, points_of}
 
@@ -35,6 +36,7 @@ module _ {D : Type 0} (ghosts : Ghosts D) (config : Config) (notes : Notes) (old
     pub exact : ghosts.faults new ≡ count_after (ghosts.faults old) (last_of (entries notes.commits.seen)).failed
     pub tells : told → (s : Told) × (ghosts.told new ≡ Some s)
     pub failed : told → FailsWith ghosts (ghosts.failures old) (last_of (entries notes.commits.seen)).failed new
+    pub untouched : length (entries notes.commits.seen) ≤ 1 → IsQuiet ghosts old new
     pub lasts : settled → Lasts ghosts config (ghosts.moment old) (labels_of (noted notes)) (docs_of notes.operations.seen) (entries notes.commits.seen) new
 
   pub keeps : ((t : Told) → ghosts.told old ≡ Some t → told) → ((t : Told) → ghosts.told old ≡ Some t → IsSettled ghosts config t old → settled) → Leaves → Keeps ghosts config (noted notes) old new
@@ -45,6 +47,7 @@ module _ {D : Type 0} (ghosts : Ghosts D) (config : Config) (notes : Notes) (old
         counted = subst (λ (l : List CommitPoint). All (CountsFault ghosts old new) l) (sym points) (λ k p lt count failed. (leaves.rose k p lt count failed, leaves.counts k p lt count failed));
         exact = leaves.exact ∙ ap (λ (l : List CommitPoint). count_after (ghosts.faults old) (last_of l).failed) (sym points);
         tells = λ t tells. leaves.tells (is_told t tells);
+        untouched = λ few. leaves.untouched (subst (λ (l : List CommitPoint). length l ≤ 1) points few);
         failed = λ t tells. subst (λ (l : List CommitPoint). FailsWith ghosts (ghosts.failures old) (last_of l).failed new) (sym points) (leaves.failed (is_told t tells));
         lasts = λ t tells was.
             subst (λ (l : List CommitPoint). Lasts ghosts config (ghosts.moment old) (labels_of (noted notes)) (docs (history_of (noted notes))) l new) (sym points)

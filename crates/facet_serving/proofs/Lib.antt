@@ -1,5 +1,6 @@
 pub mod Opened
 pub mod Begun
+pub mod Untouched
 pub mod Kept
 pub mod Sessions
 pub mod Whole

@@ -97,7 +97,7 @@ points_of commits = map (λ e. record { operations = e.1.operations; labels = e.
 
 -- What the disk keeps of the labels, the operations and the commits that there are at the end. Its count of faults is what the last commit was told, where that
 -- failed on it, and else as it was. It tells its files where it told them; there the device failed exactly where a commit did. Where it was settled too, what was
--- committed lasts.
+-- committed lasts. Where no commit was acknowledged or failed on it, so that there is just the opened point, nothing was written to it.
 pub record Keeps {D : Type 0} (ghosts : Ghosts D) (config : Config) (last : Seen) (old new : D) : Type 0 where
   pub counted : All (CountsFault ghosts old new) (points_of last.commits)
   pub exact : ghosts.faults new ≡ count_after (ghosts.faults old) (last_of (points_of last.commits)).failed
@@ -105,6 +105,7 @@ pub record Keeps {D : Type 0} (ghosts : Ghosts D) (config : Config) (last : Seen
   pub failed : (t : Told) → ghosts.told old ≡ Some t → FailsWith ghosts (ghosts.failures old) (last_of (points_of last.commits)).failed new
   pub lasts : (t : Told) → ghosts.told old ≡ Some t → IsSettled ghosts config t old
       → Lasts ghosts config (ghosts.moment old) (labels_of last) (docs (history_of last)) (points_of last.commits) new
+  pub untouched : length (points_of last.commits) ≤ 1 → IsQuiet ghosts old new
 
 -- ---- sessions
 

@@ -1,4 +1,5 @@
 ghost use Rattle.std.specs.Prelude.{◌≡◌, ◌⊎◌, Some, IfErr, IfOk, OnErr};
+ghost use Rattle.commit_turns.specs.DiskStates.{state_of};
 ghost use Rattle.commit_turns.specs.Opening.{WasSettled};
 ghost use Rattle.facet_disk.specs.Calls.{Rose};
 ghost use Rattle.facet_disk.specs.Images.{Told};
@@ -58,6 +59,7 @@ fn carry_out_over<
     requires told { (N.told → (t : Told) × (D.told store.start.value ≡ Some t)) × ((t : Told) → D.told store.start.value ≡ Some t → N.told) }
     requires settled { (N.settled → WasSettled D.Disk script.settings.config store.start.value)
         × ((t : Told) → D.told store.start.value ≡ Some t → IsSettled D.Disk script.settings.config t store.start.value → N.settled) }
+    requires quiet { N.quiet (state_of D.Disk store.committer.disk) × ((d : D) → N.quiet (state_of D.Disk d) → IsQuiet D.Disk store.start.value d) }
     ensures carried { IfOk result (λ c. IsCarried D.Disk (script_view script) store.start.value (O.flushes out.old out.new)
         (BreaksBehind O.flushes O.breaks out.old out.new) c.opened c.ran) }
     ensures quiet { IfErr result (λ disk. IsQuiet D.Disk store.start.value disk) }

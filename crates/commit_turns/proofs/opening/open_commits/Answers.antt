@@ -15,6 +15,6 @@ open-requires g c =
     let k = c.args.committer in
     let labels = c.args.seen_labels.now.seen in
     let operations = c.args.seen_operations.now.seen in
-    let st = stands_opened d only_now n.told n.settled c.args.start.value k (labels_of labels) (docs_of operations) c.requires.opened c.requires.told c.requires.settled in
+    let st = stands_opened d only_now n.told n.settled n.quiet c.args.start.value k (labels_of labels) (docs_of operations) c.requires.opened c.requires.told c.requires.settled c.requires.quiet in
     let point : made (length (docs_of operations)) (length (labels_of labels)) ≡ c.args.opened = ap (λ (n : ℕ). made n (length (labels_of labels))) (docs_count operations) ∙ sym c.requires.point in
-    subst (λ (T : Type 0). T) (λ i. Stands d n.told n.settled c.args.start.value (sym c.of-begun.ensures i).state k (point i) (labels_of (sym c.note-2.ensures.note.2 i)) (docs_of (sym c.note.ensures.note.2 i)) (point i ∷ [])) st
+    subst (λ (T : Type 0). T) (λ i. Stands d n.told n.settled n.quiet c.args.start.value (sym c.of-begun.ensures i).state k (point i) (labels_of (sym c.note-2.ensures.note.2 i)) (docs_of (sym c.note.ensures.note.2 i)) (point i ∷ [])) st

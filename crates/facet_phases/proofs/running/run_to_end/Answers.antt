@@ -1,4 +1,4 @@
-use Rattle.std.proofs.Common.{◌≡◌, ◌∙◌, ◌≤◌, ℕ, List, Some, map, sym, ap, subst}
+use Rattle.std.proofs.Common.{◌≡◌, ◌∙◌, ◌≤◌, ℕ, List, Some, length, map, sym, ap, subst}
 use Rattle.std.specs.Prelude.{All}
 use Rattle.std.specs.Global.{Vec}
 use Rattle.chronicle.specs.Frame.{Frame}
@@ -70,6 +70,9 @@ returns-clause-lasts g c config next moment faults failures settled texts number
     subst (λ (n : Notes). Lasts g.D.Disk config moment (labels_of (noted n)) (docs_of n.operations.seen) (entries n.commits.seen) c.end-ended.result.disk) (sym c.spread_all.ensures.notes)
     (c.end-ended.ensures.lasts config next moment faults failures settled (texts ∙ ap (λ (f : Frame). f.texts) (sym c.run_sessions-result.ensures.frames.1))
     (subst (λ (f : Frame). HasNumbers next moment faults failures f) (sym c.run_sessions-result.ensures.frames.1) numbers))
+
+pub returns-clause-quiet : goal.returns-clause-quiet
+returns-clause-quiet g c few = c.end-ended.ensures.quiet (subst (λ (n : Notes). length (entries n.commits.seen) ≤ 1) c.spread_all.ensures.notes few)
 
 pub returns-clause-ran : goal.returns-clause-ran
 returns-clause-ran g c =

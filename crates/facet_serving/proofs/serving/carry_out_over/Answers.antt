@@ -59,6 +59,7 @@ returns-in-Ok-clause-carried g c =
         exact = r.exact _ _ _ _ e.numbers;
         tells = r.tells;
         failed = λ told. r.failed _ _ _ _ told e.numbers;
+        untouched = λ few. c.requires.quiet.1 ended.disk (r.quiet few);
         lasts = λ settled. r.lasts s.settings.config _ _ _ _ settled texts e.numbers;
       });
       ended = r.ran s.settings (opened_of store) e.settings e.seen (rooted store);

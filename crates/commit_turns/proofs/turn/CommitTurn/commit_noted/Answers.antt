@@ -35,16 +35,16 @@ returns-in-Ok-clause-stands g c points st =
     let docs = docs_of v.operations.seen in
     let new = c.commit.new.self in
     let e = c.in-Ok.ensures in
-    let before : On d n.told n.settled v.start.value v.begun.value.state v.committer v.last view docs points =
-    subst (λ (l : Labels). On d n.told n.settled v.start.value v.begun.value.state v.committer v.last l docs points) (sym c.requires.labels) st in
+    let before : On d n.told n.settled n.quiet v.start.value v.begun.value.state v.committer v.last view docs points =
+    subst (λ (l : Labels). On d n.told n.settled n.quiet v.start.value v.begun.value.state v.committer v.last l docs points) (sym c.requires.labels) st in
     let all : docs_in view segments ≡ docs = decoded view v.committer.config segments docs c.requires.decodes in
     let decodes = subst (λ (ds : List Doc). Decodes view v.committer.config segments ds) (sym all) c.requires.decodes in
-    let followed = follows_made d n.told n.settled v.start.value v.begun.value.state v.committer new v.last view docs segments points e.open.0 e.config c.requires.list all before e.open.1 e.listed e.named e.fresh e.unfailed in
-    let after = stands_made d n.told n.settled v.start.value v.begun.value.state v.committer new v.last view docs segments points e.open.0 e.config c.requires.list all before
+    let followed = follows_made d n.told n.settled n.quiet v.start.value v.begun.value.state v.committer new v.last view docs segments points e.open.0 e.config c.requires.list all before e.open.1 e.listed e.named e.fresh e.unfailed in
+    let after = stands_made d n.told n.settled n.quiet v.start.value v.begun.value.state v.committer new v.last view docs segments points e.open.0 e.config c.requires.list all before
     e.open.1 decodes (own_some view segments c.requires.own) e.still e.takes.1 e.tells followed (e.any_moment e.open.0) e.acknowledged in
     let count : length docs ≡ c.args.operations = docs_count v.operations.seen ∙ sym c.requires.operations in
     let many : length view ≡ c.size.result = sym c.size.ensures.size in
-    subst (λ (T : Type 0). T) (λ i. On d n.told n.settled v.start.value v.begun.value.state new (made (count i) (many i)) (c.requires.labels i) docs (points ++ made (count i) (length view) ∷ [])) after
+    subst (λ (T : Type 0). T) (λ i. On d n.told n.settled n.quiet v.start.value v.begun.value.state new (made (count i) (many i)) (c.requires.labels i) docs (points ++ made (count i) (length view) ∷ [])) after
 
 pub returns-in-Err-Disk-clause-stands : goal.returns-in-Err-Disk-clause-stands
 returns-in-Err-Disk-clause-stands g c points st =
@@ -56,14 +56,14 @@ returns-in-Err-Disk-clause-stands g c points st =
     let docs = docs_of v.operations.seen in
     let new = c.commit.new.self in
     let e = c.in-Err-Disk.ensures in
-    let before : On d n.told n.settled v.start.value v.begun.value.state v.committer v.last view docs points =
-    subst (λ (l : Labels). On d n.told n.settled v.start.value v.begun.value.state v.committer v.last l docs points) (sym c.requires.labels) st in
+    let before : On d n.told n.settled n.quiet v.start.value v.begun.value.state v.committer v.last view docs points =
+    subst (λ (l : Labels). On d n.told n.settled n.quiet v.start.value v.begun.value.state v.committer v.last l docs points) (sym c.requires.labels) st in
     let all : docs_in view segments ≡ docs = decoded view v.committer.config segments docs c.requires.decodes in
     let none = none_unless v.committer.closed (λ k some. cc ((e.closed k).0 some, c.in-Err-Disk.field-0-is)) in
     let closes = e.disk c.in-Err-Disk.count c.in-Err-Disk.field-0-is in
-    let after = stands_failed d n.told n.settled v.start.value v.begun.value.state v.committer new v.last view docs segments points none e.config c.requires.list all before
+    let after = stands_failed d n.told n.settled n.quiet v.start.value v.begun.value.state v.committer new v.last view docs segments points none e.config c.requires.list all before
     c.in-Err-Disk.count closes.2 closes.0 closes.1 e.later e.known e.tells (e.failed c.in-Err-Disk.count c.in-Err-Disk.field-0-is) (e.any_moment none) (e.now none) in
-    subst (λ (T : Type 0). T) (λ i. On d n.told n.settled v.start.value v.begun.value.state new (failed_after v.last c.in-Err-Disk.count) (c.requires.labels i) docs (points ++ failed_after v.last c.in-Err-Disk.count ∷ [])) after
+    subst (λ (T : Type 0). T) (λ i. On d n.told n.settled n.quiet v.start.value v.begun.value.state new (failed_after v.last c.in-Err-Disk.count) (c.requires.labels i) docs (points ++ failed_after v.last c.in-Err-Disk.count ∷ [])) after
 
 pub returns-in-Err-Disk-clause-closed : goal.returns-in-Err-Disk-clause-closed
 returns-in-Err-Disk-clause-closed g c count = ((λ some. absurd (cc ((c.in-Err-Disk.ensures.closed count).0 some, c.in-Err-Disk.field-0-is))), λ is. absurd (cc is))
@@ -74,8 +74,8 @@ returns-in-Err-Closed-clause-stands g c points st =
     let n = g.N.Start in
     let v = c.args.self.now in
     let unchanged = c.in-Err-Closed.ensures.refused (λ n is. cc (c.in-Err-Closed.field-0-is, is)) in
-    subst (λ k. On d n.told n.settled v.start.value v.begun.value.state k v.last (labels_of v.labels.seen) (docs_of v.operations.seen) (points ++ [])) (sym unchanged)
-    (subst (λ (es : List CommitPoint). On d n.told n.settled v.start.value v.begun.value.state v.committer v.last (labels_of v.labels.seen) (docs_of v.operations.seen) es) (sym (append-nil points)) st)
+    subst (λ k. On d n.told n.settled n.quiet v.start.value v.begun.value.state k v.last (labels_of v.labels.seen) (docs_of v.operations.seen) (points ++ [])) (sym unchanged)
+    (subst (λ (es : List CommitPoint). On d n.told n.settled n.quiet v.start.value v.begun.value.state v.committer v.last (labels_of v.labels.seen) (docs_of v.operations.seen) es) (sym (append-nil points)) st)
 
 pub returns-in-Err-Closed-clause-closed : goal.returns-in-Err-Closed-clause-closed
 returns-in-Err-Closed-clause-closed g c count = (
@@ -89,8 +89,8 @@ returns-in-Err-NoMemory-clause-stands g c points st =
     let n = g.N.Start in
     let v = c.args.self.now in
     let unchanged = c.in-Err-NoMemory.ensures.refused (λ n is. cc (c.in-Err-NoMemory.field-0-is, is)) in
-    subst (λ k. On d n.told n.settled v.start.value v.begun.value.state k v.last (labels_of v.labels.seen) (docs_of v.operations.seen) (points ++ [])) (sym unchanged)
-    (subst (λ (es : List CommitPoint). On d n.told n.settled v.start.value v.begun.value.state v.committer v.last (labels_of v.labels.seen) (docs_of v.operations.seen) es) (sym (append-nil points)) st)
+    subst (λ k. On d n.told n.settled n.quiet v.start.value v.begun.value.state k v.last (labels_of v.labels.seen) (docs_of v.operations.seen) (points ++ [])) (sym unchanged)
+    (subst (λ (es : List CommitPoint). On d n.told n.settled n.quiet v.start.value v.begun.value.state v.committer v.last (labels_of v.labels.seen) (docs_of v.operations.seen) es) (sym (append-nil points)) st)
 
 pub returns-in-Err-NoMemory-clause-closed : goal.returns-in-Err-NoMemory-clause-closed
 returns-in-Err-NoMemory-clause-closed g c count = ((λ some. absurd (cc ((c.in-Err-NoMemory.ensures.closed count).0 some, c.in-Err-NoMemory.field-0-is))), λ is. absurd (cc is))
@@ -101,8 +101,8 @@ returns-in-Err-NumbersSpent-clause-stands g c points st =
     let n = g.N.Start in
     let v = c.args.self.now in
     let unchanged = c.in-Err-NumbersSpent.ensures.refused (λ n is. cc (c.in-Err-NumbersSpent.field-0-is, is)) in
-    subst (λ k. On d n.told n.settled v.start.value v.begun.value.state k v.last (labels_of v.labels.seen) (docs_of v.operations.seen) (points ++ [])) (sym unchanged)
-    (subst (λ (es : List CommitPoint). On d n.told n.settled v.start.value v.begun.value.state v.committer v.last (labels_of v.labels.seen) (docs_of v.operations.seen) es) (sym (append-nil points)) st)
+    subst (λ k. On d n.told n.settled n.quiet v.start.value v.begun.value.state k v.last (labels_of v.labels.seen) (docs_of v.operations.seen) (points ++ [])) (sym unchanged)
+    (subst (λ (es : List CommitPoint). On d n.told n.settled n.quiet v.start.value v.begun.value.state v.committer v.last (labels_of v.labels.seen) (docs_of v.operations.seen) es) (sym (append-nil points)) st)
 
 pub returns-in-Err-NumbersSpent-clause-closed : goal.returns-in-Err-NumbersSpent-clause-closed
 returns-in-Err-NumbersSpent-clause-closed g c count = ((λ some. absurd (cc ((c.in-Err-NumbersSpent.ensures.closed count).0 some, c.in-Err-NumbersSpent.field-0-is))), λ is. absurd (cc is))

@@ -1,4 +1,4 @@
-use Rattle.std.proofs.Common.{◌≡◌, ◌∙◌, ◌≤◌, ℕ, List, Some, All, map, sym, ap, subst}
+use Rattle.std.proofs.Common.{◌≡◌, ◌∙◌, ◌≤◌, ℕ, List, Some, All, length, map, sym, ap, subst}
 use mathlib.Core.List.{IsPrefix}
 use Rattle.chronicle.specs.History.{entries}
 use Rattle.chronicle.proofs.Prefixes.{prefix_trans}
@@ -90,6 +90,10 @@ returns-clause-lasts g c config next moment faults failures settled texts number
     subst (λ (l : List (ℕ × CommitPoint)). Lasts g.D.Disk config moment (labels_of labels) (docs_of operations) (entries l) e.result) (sym n.ensures.commits.1.2)
     (lasts_more config (labels_of e.new.seen_labels.seen) (labels_of labels) (docs_of e.new.seen_operations.seen) (docs_of operations) (seen_goes_on e.new.seen_labels.seen labels more_labels) (docs_on e.new.seen_operations.seen operations more_operations)
     g.D.Disk moment points e.result (e.ensures.lasts config next moment faults failures settled texts numbers))
+
+pub returns-clause-quiet : goal.returns-clause-quiet
+returns-clause-quiet g c few =
+    c.end_commits-disk.ensures.quiet (subst (λ (l : List (ℕ × CommitPoint)). length (entries l) ≤ 1) c.note_each-notes.ensures.commits.1.2 few)
 
 pub returns-clause-exact : goal.returns-clause-exact
 returns-clause-exact g c next moment faults failures is =
