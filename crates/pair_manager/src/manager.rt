@@ -22,7 +22,7 @@ ghost use Rattle.pair_manager.specs.Passes.{IsOf, IsFirst, SamePass, all_seen};
 ghost use Rattle.pair_manager.specs.Appended.{HasNoRoom, IsPlaced};
 
 use crate::lease::Lease;
-use crate::opening::open_index;
+use crate::opening::open_both;
 use crate::pair::Pair;
 use crate::pass::Pass;
 use crate::publication::Publication;
@@ -97,36 +97,9 @@ impl<N: Name> Manager<N> {
         ensures index_frame { IfOk result (λ r. r.1.frame ≡ index_frame (arc_value config) max_docs writer.labels) }
         ensures pair_frame { IfOk result (λ r. r.2.frame ≡ pair_frame (arc_value config) r.0.operations writer.labels) }
     {
-        let (index, taken) = open_index(
-            alloc,
-            keys,
-            writer.labels(),
-            labels,
-            segments,
-            &config,
-            max_docs,
+        let (operations, first, pairs, token) = open_both(
+            alloc, keys, &writer, labels, view, segments, config, max_docs,
         )?;
-        let view = Arc::new(alloc, view)?;
-        let Ok((operations, mut first)) = Chronicle::open(alloc, index) else {
-            return Err(NoMemory);
-        };
-        let pair = Pair::new(
-            view,
-            taken.segments,
-            config,
-            taken.operations,
-            operations.note(&mut first),
-            writer.note(labels),
-        );
-        let state = PairState::new(
-            alloc,
-            pair,
-            operations.note(&mut first),
-            writer.note(labels),
-        )?;
-        let Ok((pairs, token)) = Chronicle::open(alloc, state) else {
-            return Err(NoMemory);
-        };
         let manager = Manager {
             alloc,
             writer,
