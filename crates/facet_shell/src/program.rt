@@ -124,11 +124,11 @@ fn run_read<R: Threads + Wait + Sync, S: Source, K: Sink, D: Disk, G: Gate + Syn
 /// Reads a script from the source to its end, opens the store of the disk, carries out the orders of its sessions, and writes their replies to the sink. Or,
 /// where the words ask for it, generates documents in place of reading, and writes one line, the summary of the replies.
 ///
-/// `rt` gives the memory and the threads, `keys` hash labels and terms, and the words are those behind the program's name. The sessions of a phase run each on a thread of its own, one phase
-/// after the other; the gate is called before and after each order. The replies of a phase are written before the next begins, and the last line at the end. It
-/// waits for the sessions of each phase, and where the gate waits. It keeps the script, the documents and the replies of one phase in memory, of generated
-/// documents a summary of the replies. Commits go to the disk as they come, so what they acknowledged is kept however the run ends; `Ended` hands the disk
-/// back.
+/// `rt` gives the memory and the threads, `keys` hash labels, terms and declared dimensions, and the words are those behind the program's name. The sessions of
+/// a phase run each on a thread of its own, one phase after the other; the gate is called before and after each order. The replies of a phase are written before
+/// the next begins, and the last line at the end. It waits for the sessions of each phase, and where the gate waits. It keeps the script, the documents and the
+/// replies of one phase in memory, of generated documents a summary of the replies. Commits go to the disk as they come, so what they acknowledged is kept
+/// however the run ends; `Ended` hands the disk back.
 pub fn run<R: AllocGlobal + Threads + Wait + Sync, S: Source, K: Sink, D: Disk, G: Gate + Sync>(
     rt: &R,
     keys: RandomState,
