@@ -13,11 +13,12 @@ use std::sync::Wait;
 use taxo_cache::Name;
 
 impl<D: Disk, N: Name + Start> System<D, N> {
-    /// Adds a document behind all others, and answers its place. Its labels are resolved first, and stay where it is refused then. What the config does not
-    /// accept is refused before that.
+    /// Adds a document after all others and returns its place, from 0. The document is not copied.
     ///
-    /// Where a label is not in the cache it waits for the turn of the labels, once for all of them, and then for that of the operations; it holds one at a
-    /// time. The document is not copied.
+    /// Locks: if a label is missing from the cache, that of the labels, once for all labels; then that of the operations. It holds one at a time.
+    ///
+    /// Errors: `Broken` if the config rejects the document; then nothing changes. `LabelsFull` and `DocsFull` at the limits of the settings; out of memory.
+    /// Labels that were added before the failure stay.
     pub fn add<R: Wait>(
         &self,
         rt: &R,

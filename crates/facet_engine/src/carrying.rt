@@ -166,7 +166,8 @@ fn ask_of(line: SearchLine) -> SearchAsk
     }
 }
 
-/// Carries out one command of a session, and answers it. It is one step of the session, after which that holds what it then has to hold.
+/// Carries out one command of a session and returns the reply. Costs, locks and errors are those of the command's call of [`System`]; an error is the reply
+/// `Refused`.
 pub fn carry_out<D: Disk, N: Name + Start, R: Wait>(
     rt: &R,
     system: &System<D, N>,

@@ -16,10 +16,13 @@ use std::sync::Wait;
 use taxo_cache::Name;
 
 impl<D: Disk, N: Name + Start> System<D, N> {
-    /// Makes all operations and labels durable that are there when it takes them, and answers how many operations these are. It publishes no pair.
+    /// Makes all operations and labels that there are durable, and returns the number of operations. It publishes no pair.
     ///
-    /// It waits for the turn of the commits and holds it for the whole call. Within it, it waits for the turn of the operations and then for that of the
-    /// labels; neither is held while the disk is written.
+    /// Locks: that of the commits, for the whole call. In it, that of the operations and then that of the labels; both are released before the disk is
+    /// called, so adds and searches do not wait for the disk.
+    ///
+    /// Errors: `Disk` if the disk failed, after which every commit fails with `Closed` until the store is reopened; `NumbersSpent` if a file number would be
+    /// 2^63 or more; out of memory. Memory and disk calls are those of `commit_store::Committer::commit`.
     pub fn commit<R: Wait>(&self, rt: &R, session: &mut Session) -> Result<u64, CommitFault>
         requires own { BelongsTo self.now session.old.pass }
         ensures same { SameSession session.old session.new }

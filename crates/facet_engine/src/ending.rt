@@ -27,14 +27,14 @@ use std::sync::Wait;
 use taxo_cache::Name;
 use taxo_list::Taxonomy;
 
-/// What a run has entered: the labels, and of each operation the number of its session, in their orders.
+/// What sessions have added: the labels, and for each operation the number of its session, in order.
 #[derive(Drop)]
 pub struct Trace {
     pub labels: Taxonomy,
     pub sessions: Vec<u32>,
 }
 
-/// What a system leaves: its trace, its disk, and notes of all that was ever entered of labels, operations and commits.
+/// What remains of a system: its trace, its disk, and notes of all labels, operations and commits that were ever entered.
 #[derive(Drop)]
 pub struct EndedSystem<D: Disk> {
     pub trace: Trace,
@@ -43,8 +43,10 @@ pub struct EndedSystem<D: Disk> {
 }
 
 impl<D: Disk, N: Name + Start> System<D, N> {
-    /// Takes the turns of the commits, the operations and the labels for good, in this order, and waits for each. Whoever asks for one of them later waits for
-    /// ever, so all sessions are done before. It writes nothing, and takes no memory.
+    /// Ends the system and returns its disk. It allocates nothing and writes nothing: what was not committed is lost.
+    ///
+    /// Locks: those of the commits, the operations and the labels, in this order and for good. A later call that needs one of them waits for ever, so end the
+    /// sessions first.
     pub fn end<R: Wait>(&self, rt: &R, first: Pass) -> EndedSystem<D>
         requires own { BelongsTo self.now first }
         requires numbers { HaveOneNumber 0 first }

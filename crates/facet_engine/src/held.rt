@@ -7,14 +7,14 @@ use pair_manager::Lease;
 use std::alloc::Global;
 use std::marker::Model;
 
-/// A pair that a session holds, under its name.
+/// A pair that a session holds, with its name.
 #[derive(Drop)]
 pub struct Held {
     pub name: String,
     pub lease: Lease,
 }
 
-/// The pairs that a session holds, each under a name of its own, in the order of holding. A name is looked up by going through them.
+/// The pairs that a session holds, in the order of holding. No two have the same name. A lookup compares one name after the other.
 #[derive(Drop)]
 pub struct HeldPairs {
     items: Vec<Held>,
@@ -33,7 +33,7 @@ impl Model for HeldPairs {
 }
 
 impl HeldPairs {
-    /// No pair is held. It takes no memory.
+    /// Returns a list that holds no pair. It allocates nothing.
     pub fn new(alloc: Global) -> HeldPairs
         ensures { result ≡ [] }
     {
@@ -42,7 +42,7 @@ impl HeldPairs {
         }
     }
 
-    /// The pair that is held under a name.
+    /// Returns the pair that is held under a name, or `None`. It compares one name after the other.
     pub fn find(&self, name: &str) -> Option<&Lease>
         ensures { MatchOption result (pair_under self.now name.now ≡ None) (λ lease. pair_under self.now name.now ≡ Some lease.now) }
     {
@@ -54,7 +54,7 @@ impl HeldPairs {
         None
     }
 
-    /// Holds a pair under a name under which none is held.
+    /// Holds a pair under a name under which none is held. If it runs out of memory, nothing changes.
     pub(crate) fn push(&mut self, name: String, lease: Lease) -> Result<(), NoMemory>
         requires apart { pair_under self.old (string_bytes name) ≡ None }
         ensures ok { OnOk result (self.new ≡ self.old ++ record { name = string_bytes name; pair = lease } ∷ []) }
@@ -64,7 +64,7 @@ impl HeldPairs {
         Ok(())
     }
 
-    /// Lets the pair go that is held under a name, and answers how many operations it has. It takes no memory.
+    /// Releases the pair that is held under a name and returns the number of its operations, or `None`. It allocates nothing.
     pub(crate) fn release(&mut self, name: &str) -> Option<u64>
         ensures pair { MatchOption result (pair_under self.old name.now ≡ None)
             (λ n. (p : Published) × (pair_under self.old name.now ≡ Some p) × (n ≡ length p.history.seen)) }

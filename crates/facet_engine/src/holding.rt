@@ -10,22 +10,24 @@ use facet_disk::Disk;
 use std::sync::Wait;
 use taxo_cache::Name;
 
-/// Why a pair is not held: one is held under the name already, or there was no memory.
+/// Why a pair was not held: one is held under the name already, or out of memory.
 #[derive(Drop, Clone, Copy, Debug, PartialEq, Eq)]
 pub enum HoldFault {
     HeldAlready,
     NoMemory,
 }
 
-/// Nothing is held under the name.
+/// The session holds no pair under the name.
 #[derive(Drop, Clone, Copy, Debug, PartialEq, Eq)]
 pub struct NotHeld;
 
 impl<D: Disk, N: Name + Start> System<D, N> {
-    /// Holds the pair that was published last under a name, and answers how many operations it has. It stays as it is until it is released, and so long its
-    /// segments and labels stay in memory.
+    /// Holds the pair that was published last under a name, and returns the number of its operations. The pair does not change until it is released, and its
+    /// segments and labels stay in memory that long.
     ///
-    /// It waits for the turn of the pairs, where nothing is held under the name.
+    /// Locks: that of the pairs, unless a pair is held under the name. So it waits for a refresh in progress.
+    ///
+    /// Errors: `HeldAlready` if the session holds a pair under the name; out of memory. Then nothing changes.
     pub fn hold<R: Wait>(&self, rt: &R, session: &mut Session, name: &str) -> Result<u64, HoldFault>
         requires own { BelongsTo self.now session.old.pass }
         ensures same { SameSession session.old session.new }
@@ -48,7 +50,7 @@ impl<D: Disk, N: Name + Start> System<D, N> {
         }
     }
 
-    /// Lets the pair go that is held under a name, and answers how many operations it has. It takes no memory, and waits for nothing.
+    /// Releases the pair that is held under a name and returns the number of its operations. It allocates nothing and takes no lock.
     pub fn release(&self, session: &mut Session, name: &str) -> Result<u64, NotHeld>
         requires own { BelongsTo self.now session.old.pass }
         ensures pass { session.new.pass ≡ session.old.pass }

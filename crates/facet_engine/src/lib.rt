@@ -1,4 +1,6 @@
-//! Sessions over one store. Each call of a session is one step of four histories: those of the labels, the operations, the published pairs and the commits.
+//! Sessions over one store: open a [`Store`], make a [`System`] of it, and call the system with a [`Session`] per thread.
+//!
+//! Each call of a session is one step of four histories: those of the labels, the operations, the published pairs and the commits.
 #![tactic(auto)]
 
 mod adding;

@@ -8,7 +8,7 @@ use facet_names::Path;
 use index_state::Operation;
 use pair_manager::{CommitPoint, Publication};
 
-/// Notes of what a pass has seen, one of each chronicle. They enter nothing, so they may be handed on, and outlast the turns.
+/// Notes of what a pass has seen, one per chronicle. A note cannot add an entry. It can be passed on, and is valid after the locks were taken for good.
 #[derive(Drop)]
 pub struct Notes {
     pub labels: Token<Path>,

@@ -45,7 +45,7 @@ use taxo_cache::Name;
 use taxo_list::{Labelled, TaxoView};
 use taxo_writer::{LabelList, TaxoWriter};
 
-/// A disk whose store was opened, with the chronicle of its labels: what a system is made of.
+/// A disk with an opened store, and the chronicle of its labels. A [`System`] is made of it.
 #[derive(Drop)]
 pub struct Store<D: Disk> {
     pub(crate) keys: RandomState,
@@ -58,7 +58,10 @@ pub struct Store<D: Disk> {
 }
 
 impl<D: Disk> Store<D> {
-    /// Opens the store of a disk, and writes nothing: it reads all files, with the costs of [`Committer::open`], and copies the labels.
+    /// Opens the store of a disk. It writes nothing. It reads the newest commit of each directory and the segments that it names, each file once, and copies
+    /// the labels; see `commit_store::Committer::open` for the costs. `keys` are hash keys; no result depends on them.
+    ///
+    /// Errors: the first fault of the files, a failing call of the disk, or out of memory. Each comes with the disk.
     pub fn open(
         alloc: Global,
         keys: RandomState,
@@ -164,8 +167,10 @@ fn open_manager<N: Name>(
 }
 
 impl<D: Disk, N: Name + Start> System<D, N> {
-    /// A system over a store, whose labels the name names, with its first pass. The pair of what was opened is published. It takes memory for the cache of
-    /// labels and four bytes for each document.
+    /// Makes a system of a store, with its first pass, and publishes the pair of what was opened. `N` has to name the labels of the store. It allocates the
+    /// cache of labels, and four bytes per document.
+    ///
+    /// Errors: out of memory, with the disk.
     pub fn open(
         alloc: Global,
         store: Store<D>,

@@ -12,9 +12,12 @@ use std::sync::Wait;
 use taxo_cache::Name;
 
 impl<D: Disk, N: Name + Start> System<D, N> {
-    /// Publishes a pair with all operations and labels as they then stand, and answers how many operations it has: at least those that the session had seen.
+    /// Publishes a pair of all operations and labels that there are, and returns the number of its operations. These include all that the session had seen.
     ///
-    /// It waits for the turn of the pairs, and within it for that of the operations and then for that of the labels.
+    /// Locks: that of the pairs; in it, that of the operations and then that of the labels. The documents that were added since the last refresh become a
+    /// segment. All labels are copied if one is new.
+    ///
+    /// Errors: out of memory. Then no pair is published.
     pub fn refresh<R: Wait>(&self, rt: &R, session: &mut Session) -> Result<u64, NoMemory>
         requires own { BelongsTo self.now session.old.pass }
         ensures same { SameSession session.old session.new }

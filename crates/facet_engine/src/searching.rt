@@ -16,10 +16,12 @@ use std::sync::Wait;
 use taxo_cache::Name;
 
 impl<D: Disk, N: Name + Start> System<D, N> {
-    /// A search over the documents of the pair that is held under the name `on`; without a name, over those of the pair that was published last. The first
-    /// ask that is refused is told after that pair was taken.
+    /// Searches the documents of the pair that is held under the name `on`. Without a name, it searches those of the pair that was published last.
     ///
-    /// Without a name it waits for the turn of the pairs, and holds none while it searches.
+    /// Locks: without a name, that of the pairs, which is released before the search. So it waits for a refresh in progress, and counts without a lock.
+    ///
+    /// Errors: `NotHeld`; the first ask that is rejected, which is checked after the pair was taken; out of memory. For the costs see
+    /// `pair_search::search_pair`.
     pub fn search<R: Wait>(
         &self,
         rt: &R,

@@ -4,10 +4,9 @@ ghost use Rattle.facet_engine.specs.Sessions.{HaveOneNumber, HasSeen, NamesSessi
 use crate::held::HeldPairs;
 use pair_manager::Pass;
 
-/// A session: its number, its token of each chronicle, all under that number, and the pairs that it holds, all of which it has seen. Each operation that it
-/// has entered has its number.
+/// A session: its number, its token of each chronicle, and the pairs that it holds. All operations that it adds have its number.
 ///
-/// Sessions run beside each other, each on a thread of its own.
+/// Use each session on one thread at a time. Sessions on different threads work concurrently.
 #[derive(Drop)]
 pub struct Session {
     pub number: u32,

@@ -14,10 +14,11 @@ use std::sync::Wait;
 use taxo_cache::Name;
 
 impl<D: Disk, N: Name + Start> System<D, N> {
-    /// The document at a place of the pair that is held under the name `on`; without a name, of the pair that was published last. That there is none is told
-    /// after that pair was taken.
+    /// Returns the document at a place, from 0, of the pair that is held under the name `on`. Without a name, it takes the pair that was published last.
     ///
-    /// Without a name it waits for the turn of the pairs.
+    /// Locks: without a name, that of the pairs, which is released before the document is read.
+    ///
+    /// Errors: `NotHeld`; `NoSuchDocument` with the number of documents, which is checked after the pair was taken; out of memory.
     pub fn document<R: Wait>(
         &self,
         rt: &R,

@@ -15,10 +15,10 @@ use taxo_cache::Name;
 use taxo_list::Labelled;
 
 impl<D: Disk, N: Name + Start> System<D, N> {
-    /// How many operations, labels with the root, and documents the pair has that is held under the name `on`; without a name, the pair that was published
-    /// last. It takes no memory.
+    /// Returns the numbers of operations, of labels with the root, and of documents of the pair that is held under the name `on`. Without a name, it takes
+    /// the pair that was published last. It allocates nothing.
     ///
-    /// Without a name it waits for the turn of the pairs.
+    /// Locks: without a name, that of the pairs.
     pub fn stats<R: Wait>(
         &self,
         rt: &R,

@@ -10,7 +10,7 @@ use std::marker::Model;
 use std::sync::Arc;
 use taxo_cache::Name;
 
-/// A store that is open, for sessions on any threads: the chronicles of labels, operations, pairs and commits, and the config of its documents.
+/// An open store that sessions on any threads share: the chronicles of labels, operations, pairs and commits, and the config of its documents.
 #[derive(Drop)]
 pub struct System<D: Disk, N: Name + Start> {
     pub(crate) alloc: Global,
@@ -30,7 +30,7 @@ impl<D: Disk, N: Name + Start> Model for System<D, N> {
 }
 
 impl<D: Disk, N: Name + Start> System<D, N> {
-    /// How many documents were opened, and how many labels with the root: the numbers of the first publication. It takes no memory.
+    /// Returns how many documents were opened, and how many labels with the root. It allocates nothing.
     pub fn opened(&self) -> (u64, u32)
         ensures { result ≡ self.now.opened }
     {

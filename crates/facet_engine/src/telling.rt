@@ -54,7 +54,7 @@ impl<D: Disk, N: Name + Start> System<D, N> {
         }
     }
 
-    /// Notes of what the pass has seen. It takes no memory, and waits for nothing, as all calls that tell.
+    /// Returns notes of what the pass has seen. It allocates nothing and takes no lock.
     pub fn notes(&self, of: &mut Pass) -> Notes
         requires own { BelongsTo self.now of.old }
         ensures pass { of.new ≡ of.old }
@@ -106,7 +106,7 @@ impl<D: Disk, N: Name + Start> System<D, N> {
         self.commits.meet(&mut pass.commits, commits);
     }
 
-    /// The next session, which has seen what the first pass has: the k-th call answers session k.
+    /// Makes the next session, which has seen what the first pass has. The k-th call returns session k. It allocates nothing and takes no lock.
     pub fn session(&self, first: &mut Pass) -> Session
         requires own { BelongsTo self.now first.old }
         requires numbers { HaveOneNumber 0 first.old }
@@ -138,7 +138,7 @@ impl<D: Disk, N: Name + Start> System<D, N> {
         }
     }
 
-    /// Tells the first pass what a session has seen.
+    /// Shows the first pass what a session has seen. It allocates nothing and takes no lock.
     pub fn gather(&self, first: &mut Pass, from: &mut Session)
         requires own { BelongsTo self.now first.old × BelongsTo self.now from.old.pass }
         requires numbers { HaveOneNumber 0 first.old }
@@ -149,7 +149,7 @@ impl<D: Disk, N: Name + Start> System<D, N> {
         self.meet_all(first, notes);
     }
 
-    /// Tells a session what notes show, also after the end.
+    /// Shows a session what is in the notes, also after the system has ended. It allocates nothing and takes no lock.
     pub fn spread(&self, to: &mut Session, notes: &mut Notes)
         requires own { BelongsTo self.now to.old.pass × AreOf self.now notes.old }
         ensures notes { notes.new ≡ notes.old }
@@ -162,7 +162,7 @@ impl<D: Disk, N: Name + Start> System<D, N> {
         self.meet_all(&mut to.pass, notes);
     }
 
-    /// Tells a session what another has seen.
+    /// Shows a session what another one has seen. It allocates nothing and takes no lock.
     pub fn tell(&self, to: &mut Session, from: &mut Session)
         requires own { BelongsTo self.now to.old.pass × BelongsTo self.now from.old.pass }
         ensures from { from.new ≡ from.old }
