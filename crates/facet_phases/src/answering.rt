@@ -25,9 +25,11 @@ fn take_last(orders: &mut Vec<Order>) -> Option<Order>
     last
 }
 
-/// Carries out orders of a session, one after the other, and keeps what is wanted of their replies. Without memory for that it stops.
+/// Carries out the commands of a session, one after the other, and collects what is kept of their replies. It waits where the gate and the calls wait.
 ///
-/// It waits where the gate and the calls wait. The orders left take at most twice their memory, so what is made of those before has room there.
+/// The commands that are left use at most twice their memory, so what is made of the earlier ones fits there.
+///
+/// Errors: out of memory for a reply. Then it stops; the commands so far were carried out.
 pub fn answer_all<D: Disk, N: Name + Start, R: Wait, G: Gate, C: Collector>(
     rt: &R,
     alloc: Global,

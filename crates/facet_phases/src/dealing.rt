@@ -39,7 +39,7 @@ fn deal_each<C>(lanes: &mut [Lane<C>], orders: Vec<Order>) -> Result<(), NoMemor
     Ok(())
 }
 
-/// Gives each session its orders, in their order. Where memory is wanting, some were not given. One session alone takes them without a copy.
+/// Gives each session its commands, in order. If it runs out of memory, some were not given. A single session takes them without a copy.
 pub(crate) fn deal<C>(lanes: &mut [Lane<C>], orders: Vec<Order>) -> Result<(), NoMemory>
     requires idle { AreIdle lanes.old }
     requires sessions { All (λ o. (1 ≤ o.session) × (o.session ≤ length lanes.old)) orders.items }

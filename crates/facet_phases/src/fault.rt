@@ -1,8 +1,8 @@
-/// Why a phase is the last that runs.
+/// Why a phase was the last one that ran.
 #[derive(Clone, Copy, Debug, PartialEq, Eq)]
 pub enum PhaseFault {
-    /// What was kept of the last phase that was carried out could not be handed over: of its lines, only a beginning was written.
+    /// What was kept of the last phase could not be handed over. For lines, only a prefix was written.
     Write,
-    /// There was no memory for the sessions, for the orders of a phase, or to keep their replies. Nothing of that phase was handed over.
+    /// Out of memory for the sessions, for the commands of a phase, or to keep their replies. Nothing of that phase was handed over.
     NoMemory,
 }

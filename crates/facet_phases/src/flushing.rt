@@ -6,7 +6,7 @@ use crate::collector::{Collector, Output};
 use crate::lane::Lane;
 use facet_io::Failed;
 
-/// Whether each session has kept the replies to all its orders.
+/// Returns whether each session has kept the replies to all its commands.
 pub(crate) fn are_whole<C>(lanes: &[Lane<C>]) -> bool
     ensures { IsTrue result ↔ All (λ l. IsOk l.replies) lanes.now }
 {
@@ -25,7 +25,7 @@ fn flush_lane<O: Output<C>, C: Collector>(out: &mut O, lane: &mut Lane<C>) -> Re
     }
 }
 
-/// Hands over what all sessions keep, the first session first.
+/// Hands over what all sessions keep, the first session first. It stops at the first failure.
 pub(crate) fn flush_all<O: Output<C>, C: Collector>(
     out: &mut O,
     lanes: &mut [Lane<C>],

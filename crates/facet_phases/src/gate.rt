@@ -1,13 +1,13 @@
-/// Stands between a session and its orders: a test holds one session back until another one was answered.
+/// Is called before and after each command of a session. A test uses it to hold one session until another was answered.
 pub trait Gate {
-    /// Is called before the order of the line is carried out, on the session's thread.
+    /// Is called on the session's thread before the command of the line is carried out. The session waits until it returns.
     fn before(&self, session: u32, line: u64);
 
-    /// Is called when it was answered.
+    /// Is called on the session's thread after the command was answered. The session waits until it returns.
     fn after(&self, session: u32, line: u64);
 }
 
-/// A gate that holds nobody.
+/// A gate that delays nobody.
 #[derive(Drop)]
 pub struct OpenGate;
 

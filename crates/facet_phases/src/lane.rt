@@ -16,7 +16,7 @@ use std::thread::Threads;
 use std::{mem, thread};
 use taxo_cache::Name;
 
-/// A session with its orders of a phase, and what it keeps of its replies once it has run.
+/// A session with its commands of a phase, and what it keeps of its replies once it has run.
 #[derive(Drop)]
 pub struct Lane<C> {
     pub session: Session,
@@ -51,8 +51,8 @@ fn threads_for<C>(lanes: &[Lane<C>]) -> usize
     }
 }
 
-/// Carries out the orders of all lanes at once, each lane on a thread of its own, and waits for all of them. Where at most one lane has orders no thread is
-/// made.
+/// Carries out the commands of all lanes concurrently, each lane on its own thread, and waits for all of them. If at most one lane has commands, it makes no
+/// thread.
 pub(crate) fn run_at_once<
     D: Disk,
     N: Name + Start + Send + Sync,

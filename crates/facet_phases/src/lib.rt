@@ -1,7 +1,7 @@
-//! Sessions that run at once, each on a thread of its own, phase after phase, over one engine.
+//! Concurrent sessions over one system, each on its own thread, phase after phase.
 //!
-//! In a phase each session carries out its orders, one after the other, beside the other sessions. Between two phases each session is told what all others have
-//! seen.
+//! In a phase each session carries out its commands, one after the other, concurrently with the other sessions. Between two phases each session is shown what
+//! all others have seen.
 #![tactic(auto)]
 
 mod answering;

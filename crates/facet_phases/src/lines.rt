@@ -4,7 +4,7 @@ use facet_names::NoMemory;
 use facet_replies::{Reply, write_reply};
 use std::alloc::Global;
 
-/// The lines of replies, which a session of a script keeps and a sink is given.
+/// The lines of replies, which a session of a script keeps until a sink takes them.
 #[derive(Drop)]
 pub struct Lines {
     bytes: Vec<u8>,

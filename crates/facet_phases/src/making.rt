@@ -14,7 +14,9 @@ use pair_manager::Pass;
 use std::alloc::Global;
 use taxo_cache::Name;
 
-/// The sessions 1 to `sessions`, which have seen what the first pass has, hold nothing and have no orders. Without memory for all of them none is made.
+/// Makes the sessions 1 to `sessions`. They have seen what the first pass has, hold no pair and have no commands.
+///
+/// Errors: out of memory. Then no session is made.
 pub fn make_lanes<D: Disk, N: Name + Start, C: Collector>(
     alloc: Global,
     system: &System<D, N>,

@@ -2,7 +2,7 @@ use crate::fault::PhaseFault;
 use facet_disk::Disk;
 use facet_engine::EndedSystem;
 
-/// What a run leaves: whether all phases were carried out and written, and in each case the system at its end.
+/// How phases ended: whether all of them were carried out and handed over; and what remains of the system.
 #[derive(Drop)]
 pub struct RanToEnd<D: Disk> {
     pub result: Result<(), PhaseFault>,

@@ -24,10 +24,11 @@ use std::sync::Wait;
 use std::thread::Threads;
 use taxo_cache::Name;
 
-/// Carries out the orders of a phase, all sessions at once, and tells each session what all others have seen.
+/// Carries out the commands of a phase, all sessions concurrently, and then shows each session what all others have seen. It waits until all sessions have
+/// ended.
 ///
-/// It waits until all sessions have ended. A session without memory to keep a reply stops; the others end their orders, and all are told. Where there was no
-/// memory to give the sessions their orders, none is carried out.
+/// Errors: out of memory to keep a reply, at which a session stops while the others finish; or to give the sessions their commands, of which none is then
+/// carried out.
 pub fn carry_out_phase<
     D: Disk,
     N: Name + Start + Send + Sync,
@@ -63,7 +64,10 @@ pub fn carry_out_phase<
     }
 }
 
-/// Carries out the orders of a phase, as `carry_out_phase` does, and hands over what is kept of their replies: sessions rising, each session's in line order.
+/// Carries out the commands of a phase as `carry_out_phase` does, and hands over what is kept of their replies: by ascending session, each session's in line
+/// order.
+///
+/// Errors: as for `carry_out_phase`, and then nothing is handed over; or handing over failed.
 pub fn run_phase<
     D: Disk,
     N: Name + Start + Send + Sync,
@@ -101,10 +105,10 @@ pub fn run_phase<
     }
 }
 
-/// Carries out phases, one after the other, and hands over what is kept of each before the next begins. The first whose replies could not all be kept or handed
-/// over is the last: of the later ones no order is carried out.
+/// Carries out phases, one after the other, and hands over what is kept of each before the next begins. It keeps the replies of one phase in memory, and
+/// frees the commands of a phase as they are answered.
 ///
-/// It keeps what is wanted of one phase in memory, and lets the orders of each phase go when they were answered.
+/// Errors: those of `run_phase`. That phase is the last one: no command of a later one is carried out.
 pub fn run_phases<
     D: Disk,
     N: Name + Start + Send + Sync,

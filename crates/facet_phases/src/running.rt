@@ -78,12 +78,12 @@ fn run_sessions<
     }
 }
 
-/// Carries out phases by the sessions 1 to `sessions`, each on a thread of its own, and hands over what is kept of each phase before the next begins. The first
-/// phase whose replies could not all be kept or handed over is the last. Then it ends the system, in each case, and tells each session what there is at the
-/// end.
+/// Carries out phases with the sessions 1 to `sessions`, each on its own thread, hands over what is kept of each phase before the next begins, and then ends
+/// the system. It ends the system in each case. The result says whether all phases were carried out and handed over; otherwise the first one that was not is
+/// the last.
 ///
-/// It waits until all sessions have ended, and for the turns that the end takes. It keeps what is wanted of one phase in memory, and lets the orders of each
-/// phase go when they were answered.
+/// It waits until all sessions have ended, and for the locks that `System::end` takes. It keeps the replies of one phase in memory, and frees the commands of
+/// a phase as they are answered.
 pub fn run_to_end<
     D: Disk,
     N: Name + Start + Send + Sync,

@@ -63,7 +63,7 @@ fn tell_lane<D: Disk, N: Name + Start, C>(
     system.spread(&mut lane.session, notes);
 }
 
-/// Tells all sessions what the notes show. It takes no memory, and waits for nothing.
+/// Shows all sessions what is in the notes. It allocates nothing and takes no lock.
 pub(crate) fn spread_all<D: Disk, N: Name + Start, C>(
     system: &System<D, N>,
     lanes: &mut [Lane<C>],
@@ -80,7 +80,7 @@ pub(crate) fn spread_all<D: Disk, N: Name + Start, C>(
     }
 }
 
-/// Tells the first pass what all sessions have seen, and then each session what the first pass has. It takes no memory, and waits for nothing.
+/// Shows the first pass what all sessions have seen, and then each session what the first pass has. It allocates nothing and takes no lock.
 pub(crate) fn tell_all<D: Disk, N: Name + Start, C>(
     system: &System<D, N>,
     first: &mut Pass,
