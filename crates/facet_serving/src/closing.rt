@@ -24,7 +24,7 @@ fn end_line(alloc: Global, opened: (u64, u32), trace: &Trace) -> Result<Vec<u8>,
     Ok(line)
 }
 
-/// Writes a line.
+/// Writes a line. Returns `WriteFault` if a write failed, else `Done`.
 pub(crate) fn write<K: Sink>(sink: &mut K, line: &[u8]) -> Status
     ensures { IsWritten line.now K.Sink sink.old sink.new result }
 {
@@ -34,7 +34,7 @@ pub(crate) fn write<K: Sink>(sink: &mut K, line: &[u8]) -> Status
     }
 }
 
-/// Ends a run whose phases ended so, with the last line where all were carried out, and without memory with the line of that.
+/// Ends an invocation after its phases: writes the last line if all were carried out, or the line of `NoMemory` if memory ran out.
 pub(crate) fn close<K: Sink, D: Disk>(
     alloc: Global,
     sink: &mut K,

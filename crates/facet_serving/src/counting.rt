@@ -18,7 +18,7 @@ fn greatest_of(orders: &[Order], least: u32) -> u32
     greatest
 }
 
-/// The greatest session of all orders; 0 where there are none.
+/// Returns the greatest session number of all commands, and 0 if there are none.
 pub(crate) fn count_sessions(phases: &[Vec<Order>]) -> u32
     requires { All (λ phase. All (λ o. o.session ≤ 64) phase.items) phases.now }
     ensures most { result ≤ 64 }

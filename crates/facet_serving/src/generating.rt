@@ -131,9 +131,9 @@ fn run_generated_script<R: Threads + Wait + Sync, K: Sink, D: Disk, G: Gate + Sy
     }
 }
 
-/// Generates documents on the store of a disk by sessions at once, and writes one line, the summary of the replies.
+/// Generates documents on the store of a disk with concurrent sessions, and writes one line, the summary of the replies. It keeps all documents in memory.
 ///
-/// It takes memory for all documents at once. Where memory was wanting for a command the summary is not written.
+/// If a command runs out of memory, the line of `NoMemory` is written in place of the summary.
 pub fn run_generated<R: Threads + Wait + Sync, K: Sink, D: Disk, G: Gate + Sync>(
     rt: &R,
     alloc: Global,

@@ -5,7 +5,7 @@ ghost use Rattle.facet_serving.specs.Laws.{AcknowledgedIsReopened, LeavesStore};
 
 use facet_disk::Disk;
 
-/// What a run acknowledged, the next one opens, and the files that it left stand for a store.
+/// States that the next invocation opens what this one acknowledged, and that the files that it left represent a store. The call does nothing.
 pub fn runs_go_on<D: Disk>(disk: &D)
     ensures reopened { AcknowledgedIsReopened D.Disk }
     ensures stands { LeavesStore D.Disk }
@@ -13,8 +13,8 @@ pub fn runs_go_on<D: Disk>(disk: &D)
     let _ = disk;
 }
 
-/// Each operation that a run added is that of one add, which was answered with its place, and each add that was answered so stands there, under its session. An
-/// add whose document is accepted, whose labels fit and for which there is room is answered so, or finds no memory.
+/// States that each added operation belongs to one add, which returned its place; and that the document of each such add is there, under its session. An add
+/// whose document is accepted, whose labels fit and for which there is room returns a place, or is out of memory. The call does nothing.
 pub fn adds_stand<D: Disk>(disk: &D)
     ensures once { EachIsAddedOnce D.Disk }
     ensures stands { EachAddStands D.Disk }
@@ -23,9 +23,9 @@ pub fn adds_stand<D: Disk>(disk: &D)
     let _ = disk;
 }
 
-/// Whatever a crash leaves at the end of a run has all that each acknowledged commit has acknowledged: the documents of the adds that came before it, and the
-/// labels that its session had been shown. Where the disk's count of faults does not rise and there are numbers, a commit is acknowledged, or finds no memory,
-/// in scripts that are read as in those of generated documents.
+/// States that whatever a crash leaves at the end has what each acknowledged commit has acknowledged: the documents of the adds before it, and the labels
+/// that its session had been shown. If the disk's count of faults does not rise and file numbers are left, a commit is acknowledged or is out of memory. This
+/// holds for scripts that are read and for generated ones. The call does nothing.
 pub fn commits_stay<D: Disk>(disk: &D)
     ensures stays { AcknowledgedStays D.Disk }
     ensures acknowledged { CommitsAreAcknowledged D.Disk }
@@ -34,7 +34,8 @@ pub fn commits_stay<D: Disk>(disk: &D)
     let _ = disk;
 }
 
-/// Runs of one session over stores whose files stand for the same are answered alike: byte for byte, where no reply tells of its store or of want of memory.
+/// States that one session gets the same replies over stores that represent the same labels and documents. They are equal byte for byte, if no reply is about
+/// the store or out of memory. The call does nothing.
 pub fn equal_stores_reply_alike<D: Disk>(disk: &D)
     ensures opened { EqualFilesOpenTheSame D.Disk }
     ensures alike { EqualStoresReplyAlike D.Disk }

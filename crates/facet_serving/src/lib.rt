@@ -1,5 +1,5 @@
-//! A script that was read, or that is generated, is carried out on the store of a disk: the store is opened, the sessions run, what they reply is written, and
-//! the run ends with a status. And the laws of such runs.
+//! Carries out a script, read or generated, on the store of a disk: opens the store, runs the sessions, writes their replies, and ends with a status. Also
+//! the laws of such invocations.
 #![tactic(auto)]
 
 mod closing;

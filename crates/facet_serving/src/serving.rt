@@ -79,7 +79,9 @@ fn carry_out_over<
     }
 }
 
-/// Carries out a script on a store, and hands over what is kept of the replies behind each phase. Without memory for the system it gives the disk back.
+/// Carries out a script on a store, and hands over what is kept of the replies after each phase.
+///
+/// Errors: out of memory for the system. The error is the disk.
 pub(crate) fn carry_out<
     R: Threads + Wait + Sync,
     O: Output<C>,
@@ -127,7 +129,8 @@ fn serve<R: Threads + Wait + Sync, K: Sink, D: Disk, G: Gate + Sync>(
     }
 }
 
-/// Carries out a script on the store of a disk: the sessions at once, phase after phase, and writes the replies after each phase.
+/// Carries out a script on the store of a disk: runs the sessions concurrently, phase after phase, and writes the replies after each phase. The status of the
+/// result says how it ended.
 pub fn run_script<R: Threads + Wait + Sync, K: Sink, D: Disk, G: Gate + Sync>(
     rt: &R,
     alloc: Global,

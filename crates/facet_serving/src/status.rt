@@ -5,33 +5,33 @@ use facet_disk::Disk;
 use facet_engine::Trace;
 use store_opening::OpenFault;
 
-/// How a run ended.
+/// How an invocation ended.
 #[derive(Clone, Copy, Debug, PartialEq, Eq)]
 pub enum Status {
-    /// Every order was answered, and all replies and the last line were written.
+    /// Every command was answered, and all replies and the last line were written.
     Done,
-    /// The words are not the command's: a directory, and the options `--sessions` and `--generate`.
+    /// Usage error: the arguments are a directory and the options `--sessions` and `--generate`.
     BadWords,
     /// A read failed.
     ReadFault,
     /// A write of replies or of the last line failed.
     WriteFault,
-    /// What was read is no script.
+    /// The input is not a script.
     BadScript,
     /// A call of the disk failed while the store was opened.
     DiskFault,
-    /// The disk's files stand for no store.
+    /// The files of the disk are not a store.
     BadStore,
-    /// An allocation was refused.
+    /// Out of memory.
     NoMemory,
-    /// More than 67,108,864 bytes came.
+    /// The input has more than 67,108,864 bytes.
     TooLong,
-    /// The store was written under other flags of a dimension.
+    /// A dimension is declared with other flags than in the store.
     OtherConfig,
 }
 
 impl Status {
-    /// How a run ends whose store was not opened.
+    /// Returns the status for a store that was not opened.
     pub(crate) fn of(fault: &OpenFault) -> Status
         ensures { result ≡ fault_status fault.now }
     {
@@ -47,7 +47,7 @@ impl Status {
         }
     }
 
-    /// The exit status of the program.
+    /// Returns the exit status of the program.
     pub fn code(self) -> u8
         ensures { result ≡ exit_code self }
     {
@@ -65,7 +65,8 @@ impl Status {
         }
     }
 
-    /// The line that tells of a fault; empty at Done, at WriteFault, and at BadScript, BadStore and OtherConfig, whose lines name more.
+    /// Returns the line that reports the status. It is empty at `Done` and `WriteFault`, and at `BadScript`, `BadStore` and `OtherConfig`, which have a line
+    /// with details.
     pub fn line(self) -> &'static [u8]
         ensures { result.now ≡ status_line self }
     {
@@ -84,7 +85,8 @@ impl Status {
     }
 }
 
-/// What a run leaves behind: how it ended, and the disk. Where its sessions began, the trace tells all labels, and of each operation the number of its session.
+/// What remains of an invocation: how it ended, and the disk. If its sessions began, the trace has all labels, and the number of the session of each
+/// operation.
 #[derive(Drop)]
 pub struct Ended<D: Disk> {
     pub status: Status,

@@ -6,7 +6,7 @@ use generator::Tally;
 use std::alloc::Global;
 use std::mem;
 
-/// What a session keeps of its replies where documents are generated: what their summary needs.
+/// What a session keeps of its replies if documents are generated: what their summary needs.
 #[derive(Drop)]
 pub(crate) struct Counted {
     tally: Tally,

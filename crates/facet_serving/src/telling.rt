@@ -24,7 +24,7 @@ fn ended<D: Disk>(status: Status, disk: D) -> Ended<D>
     }
 }
 
-/// Writes the line that tells of a fault; the status stays where it cannot be written.
+/// Writes the line of a status, and returns the status, also if the line cannot be written.
 pub fn tell_line<K: Sink>(sink: &mut K, status: Status) -> Status
     ensures status { result ≡ status }
     ensures line { WritesLine K.Sink sink.old sink.new (status_line status) }
@@ -33,7 +33,7 @@ pub fn tell_line<K: Sink>(sink: &mut K, status: Status) -> Status
     status
 }
 
-/// Tells of a fault before the sessions begin; the status stays where its line cannot be written.
+/// Ends an invocation before its sessions begin: writes the line of the status. The status stays if the line cannot be written.
 pub fn tell<K: Sink, D: Disk>(sink: &mut K, status: Status, disk: D) -> Ended<D>
     ensures status { result.status ≡ status }
     ensures line { WritesLine K.Sink sink.old sink.new (status_line status) }
@@ -43,7 +43,8 @@ pub fn tell<K: Sink, D: Disk>(sink: &mut K, status: Status, disk: D) -> Ended<D>
     ended(tell_line(sink, status), disk)
 }
 
-/// Tells of the first fault of a script.
+/// Ends an invocation at the first fault of a script: writes the line of the fault. The status is `BadScript`, also if the line cannot be written, or
+/// `NoMemory` if there is no memory for the line.
 pub fn tell_of_script<K: Sink, D: Disk>(
     alloc: Global,
     sink: &mut K,
@@ -133,7 +134,8 @@ fn open_line(alloc: Global, fault: &OpenFault) -> Result<Vec<u8>, NoMemory>
     }
 }
 
-/// Tells why a store was not opened.
+/// Ends an invocation whose store was not opened: writes the line of the fault. The status is that of the fault, also if the line cannot be written, or
+/// `NoMemory` if there is no memory for the line.
 pub fn tell_of_store<K: Sink, D: Disk>(
     alloc: Global,
     sink: &mut K,
