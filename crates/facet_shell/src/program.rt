@@ -27,7 +27,9 @@ use std::thread::Threads;
 
 const SCRIPT_LIMIT: usize = 67_108_864;
 
-/// The directory of the store, which the words name. None for words that `run` does not take.
+/// Returns the directory of the store that the command-line arguments name, or `None` if `run` rejects the arguments.
+///
+/// Errors: out of memory.
 pub fn place(alloc: Global, words: &[String]) -> Result<Option<String>, NoMemory>
     ensures { IfOk result (λ place. option_map string_bytes place ≡ option_map (λ w. w.dir) (words_of (map string_bytes words.now))) }
 {
@@ -121,14 +123,17 @@ fn run_read<R: Threads + Wait + Sync, S: Source, K: Sink, D: Disk, G: Gate + Syn
     }
 }
 
-/// Reads a script from the source to its end, opens the store of the disk, carries out the orders of its sessions, and writes their replies to the sink. Or,
-/// where the words ask for it, generates documents in place of reading, and writes one line, the summary of the replies.
+/// Reads a script to its end, opens the store of the disk, carries out the commands of its sessions, and writes their replies. If the arguments ask for
+/// generated documents, it reads nothing, generates them, and writes one line, the summary of the replies.
 ///
-/// `rt` gives the memory and the threads, `keys` hash labels, terms and declared dimensions, and the words are those behind the program's name. The sessions of
-/// a phase run each on a thread of its own, one phase after the other; the gate is called before and after each order. The replies of a phase are written before
-/// the next begins, and the last line at the end. It waits for the sessions of each phase, and where the gate waits. It keeps the script, the documents and the
-/// replies of one phase in memory, of generated documents a summary of the replies. Commits go to the disk as they come, so what they acknowledged is kept
-/// however the run ends; `Ended` hands the disk back.
+/// - `rt` provides memory and threads. `keys` are hash keys; no result depends on them. `words` are the command-line arguments without the program's name.
+/// - The sessions of a phase run concurrently, each on its own thread. The gate is called before and after each command.
+/// - The replies of a phase are written before the next one begins, and the last line at the end.
+/// - It keeps the script, the documents and the replies of one phase in memory. For generated documents it keeps a summary of the replies.
+/// - It waits for the sessions of each phase, and where the gate waits.
+/// - A commit is written to the disk when it is carried out. Acknowledged commits are durable however the invocation ends.
+///
+/// The result is the status, the disk, and, if sessions began, a trace of what they added. A failure is a status.
 pub fn run<R: AllocGlobal + Threads + Wait + Sync, S: Source, K: Sink, D: Disk, G: Gate + Sync>(
     rt: &R,
     keys: RandomState,
