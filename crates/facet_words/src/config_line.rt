@@ -170,7 +170,7 @@ fn config_in(alloc: Global, keys: RandomState, value: &Value) -> Result<Settings
     }
 }
 
-/// The settings of the first line's bytes, or why they are none. Look-ups of declared dimensions hash names with `keys`.
+/// Reads the settings of the first line, or the fault of that line. `keys` are hash keys for the declared dimensions; no result depends on them.
 #[tactic(auto, unfolding(crate::specs::Scripts::config_at))]
 pub fn read_settings(alloc: Global, keys: RandomState, line: &[u8]) -> Result<Settings, ScriptFault>
     ensures ok { IfOk result (λ s. config_at line.now ≡ Ok (settings_view s)) }

@@ -1,4 +1,4 @@
-//! The words of scripts: the commands that the lines of a script are, and which replies to them are right.
+//! Reads scripts: the lines, their commands, and the first fault. Its specs define which replies to the commands are right.
 #![tactic(auto)]
 
 mod asking;

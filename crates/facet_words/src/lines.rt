@@ -14,7 +14,7 @@ fn feed_at(rest: &[u8]) -> Option<usize>
     memchr(b'\n', rest)
 }
 
-/// The first line, and what comes behind its line feed.
+/// Returns the first line, and what follows its line feed. It copies nothing.
 pub fn cut_line(rest: &[u8]) -> (&[u8], &[u8])
     requires { 0 < length rest.now }
     ensures cut { lines_of rest.now ≡ result.0.now ∷ lines_of result.1.now }
@@ -30,7 +30,9 @@ pub fn cut_line(rest: &[u8]) -> (&[u8], &[u8])
     }
 }
 
-/// The JSON value of a line's bytes, or None where they are none.
+/// Returns the JSON value of a line, or `None` if the bytes are not JSON.
+///
+/// Errors: out of memory.
 pub fn line_value(alloc: Global, line: &[u8]) -> Result<Option<Value>, NoMemory>
     ensures { IfOk result (λ o. option_map view o ≡ line_data line.now) }
 {

@@ -1,4 +1,4 @@
-//! The parts of commands that scripts of one session and of several have in common.
+//! The parts of commands, whichever sessions a script has.
 ghost use Rattle.std.specs.Prelude.{◌≡◌, ◌≤◌, [], IfOk, IsTrue, option_map, length, map, codes};
 ghost use Rattle.serde_json.specs.View.{view};
 ghost use Rattle.facet_model.specs.Queries.{all};
@@ -45,7 +45,9 @@ pub(crate) fn new_document(
     }
 }
 
-/// The document of an add.
+/// Reads the document of an add, or returns `None` if the object does not have the form of one.
+///
+/// Errors: out of memory.
 #[tactic(auto, unfolding(crate::specs::Orders::added_of))]
 pub fn added_in(alloc: Global, value: &Value) -> Result<Option<Document>, NoMemory>
     ensures { IfOk result (λ o. o ≡ added_of (view value.now)) }
@@ -116,7 +118,9 @@ fn parts_in(
     }))
 }
 
-/// A search that has no other keys than these.
+/// Reads a search, or returns `None` if the object does not have the form of one or has keys that are not in `keys`.
+///
+/// Errors: out of memory.
 pub fn searched_in(
     alloc: Global,
     value: &Value,
@@ -136,7 +140,7 @@ pub fn searched_in(
     parts_in(alloc, value, sideways, hits as u32)
 }
 
-/// The place of a document, beside no other keys than these.
+/// Returns the place that a `document` asks for, or `None` if it is not a number of 32 bits or the object has keys that are not in `keys`.
 #[tactic(auto, unfolding(crate::specs::Orders::place_with))]
 pub fn place_in(value: &Value, keys: &[&str]) -> Option<u32>
     ensures { result ≡ place_with (map (λ k. k.now) keys.now) (view value.now) }
@@ -149,7 +153,7 @@ pub fn place_in(value: &Value, keys: &[&str]) -> Option<u32>
     }
 }
 
-/// A command without further keys.
+/// Returns a command that has no further keys, or `None` if the object has some.
 #[tactic(auto, unfolding(crate::specs::Orders::plain_of))]
 pub fn plain_in<C: Drop>(value: &Value, command: C) -> Option<C>
     ensures { result ≡ plain_of command (view value.now) }
@@ -161,7 +165,7 @@ pub fn plain_in<C: Drop>(value: &Value, command: C) -> Option<C>
     }
 }
 
-/// The number of the session, whether there is such a session or not, and the name of the command.
+/// Returns the number of the session, whether it is valid or not, and the name of the command; or `None` if one of them is missing or has another type.
 #[tactic(auto, unfolding(crate::specs::Orders::heading_of))]
 pub fn heading_in<'a>(value: &'a Value) -> Option<(u64, &'a str)>
     ensures { option_map (λ h. (h.0, h.1.now)) result ≡ heading_of (view value.now) }

@@ -1,4 +1,4 @@
-//! The usual form of a line that adds a document, read token by token: no value is made of it. Every other line is read as it stands.
+//! Reads the usual form of a line that adds a document, token by token, without making a JSON value. Every other line is read from its value.
 mod found;
 mod line;
 mod member;

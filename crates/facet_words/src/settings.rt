@@ -2,17 +2,17 @@ ghost use Rattle.std.specs.Prelude.{◌≤◌};
 
 use facet_config::FacetsConfig;
 
-/// What the config line sets.
+/// The settings of the first line of a script.
 #[derive(Drop)]
 pub struct Settings {
     pub config: FacetsConfig,
-    /// How many documents there may be: 1 to 1,000,000.
+    /// The greatest number of documents: 1 to 1,000,000.
     pub max_docs: u32,
-    /// How many labels there may be, with the root: 1 to 1,000,000.
+    /// The greatest number of labels, with the root: 1 to 1,000,000.
     pub max_labels: u32,
-    /// Of how many parts the cache of labels is made: 1 to 64.
+    /// The number of parts of the label cache: 1 to 64.
     pub stripes: u32,
-    /// How many labels each of these parts holds: 1 to 65,536.
+    /// The number of labels that each part holds: 1 to 65,536.
     pub cache: u32,
     ghost some_docs: { 1 ≤ max_docs },
     ghost few_docs: { max_docs ≤ 1000000 },

@@ -20,7 +20,7 @@ fn whole_in(value: &Value, low: u64, high: u64) -> Option<u64>
     if low <= n && n <= high { Some(n) } else { None }
 }
 
-/// A whole number of 32 bits.
+/// Returns a whole number of 32 bits, or `None` if the value is not one.
 pub fn index_in(value: &Value) -> Option<u32>
     ensures { result ≡ whole_within 0 4294967295 (view value.now) }
 {
@@ -30,7 +30,7 @@ pub fn index_in(value: &Value) -> Option<u32>
     }
 }
 
-/// The whole number in these limits under a key, or the default where the key is not there.
+/// Returns the whole number under a key, or the default if there is no such key. `None` if the value is not a whole number in these limits.
 pub fn whole_or(value: &Value, name: &str, default: u64, low: u64, high: u64) -> Option<u64>
     requires low { low ≤ default }
     requires high { default ≤ high }
@@ -43,7 +43,7 @@ pub fn whole_or(value: &Value, name: &str, default: u64, low: u64, high: u64) ->
         .map_or(Some(default), |found| whole_in(found, low, high))
 }
 
-/// A text of so many bytes.
+/// Returns a text of `low` to `high` bytes, or `None` if the value is not one. It copies nothing.
 pub fn text_in<'a>(value: &'a Value, low: usize, high: usize) -> Option<&'a str>
     ensures { option_map (λ s. s.now) result ≡ text_within low high (view value.now) }
 {
@@ -55,7 +55,7 @@ pub fn text_in<'a>(value: &'a Value, low: usize, high: usize) -> Option<&'a str>
     }
 }
 
-/// The truth value under a key, false where the key is not there.
+/// Returns the truth value under a key, and `false` if there is no such key. `None` if the value is not a truth value.
 pub fn flag_at(value: &Value, name: &str) -> Option<bool>
     ensures { result ≡ key_or name.now false as_bool (view value.now) }
 {
@@ -74,7 +74,7 @@ fn all_listed(members: &Map<String, Value>, names: &[&str]) -> bool
     members.keys().all(|key| is_listed(key.as_str(), names))
 }
 
-/// Whether it is an object with no other keys.
+/// Returns whether the value is an object with no keys except these.
 pub fn keys_among(value: &Value, names: &[&str]) -> bool
     ensures { result ≡ among (map (λ k. k.now) names.now) (view value.now) }
 {
@@ -84,17 +84,19 @@ pub fn keys_among(value: &Value, names: &[&str]) -> bool
     all_listed(members, names)
 }
 
-/// What is read of a JSON value in its shape.
+/// What is read from a JSON value of a certain form.
 pub trait Shaped: Drop {
     /// The plain data of what is read.
     ghost Plain: { Type 0 };
 
     ghost plain: { Self → Plain };
 
-    /// What a JSON value means in this shape.
+    /// What a JSON value means in this form.
     ghost shape: { Data → Option Plain };
 
-    /// None where the value does not have the shape.
+    /// Reads a value, or returns `None` if the value has another form.
+    ///
+    /// Errors: out of memory.
     fn read(alloc: Global, value: &Value) -> Result<Option<Self>, NoMemory>
         ensures { IfOk result (λ o. option_map plain o ≡ shape (view value.now)) };
 }
@@ -113,7 +115,9 @@ fn each_in<T: Shaped>(alloc: Global, list: &[Value]) -> Result<Option<Vec<T>>, N
     Ok(Some(out))
 }
 
-/// The values of an array.
+/// Reads the values of an array, or returns `None` if it is not an array of such values.
+///
+/// Errors: out of memory.
 pub fn list_of_in<T: Shaped>(alloc: Global, value: &Value) -> Result<Option<Vec<T>>, NoMemory>
     ensures { IfOk result (λ o. option_map (λ v. map T.plain v.items) o ≡ list_of T.shape (view value.now)) }
 {
@@ -123,7 +127,9 @@ pub fn list_of_in<T: Shaped>(alloc: Global, value: &Value) -> Result<Option<Vec<
     each_in(alloc, list)
 }
 
-/// The values of an array of so many.
+/// Reads the `low` to `high` values of an array, or returns `None` if it is not such an array.
+///
+/// Errors: out of memory.
 #[tactic(auto, using(crate::proofs::Traversals::items_length))]
 pub fn list_in<T: Shaped>(
     alloc: Global,
@@ -144,7 +150,9 @@ pub fn list_in<T: Shaped>(
     }
 }
 
-/// The value of this shape under a key.
+/// Reads the value under a key, or returns `None` if there is no such key or the value has another form.
+///
+/// Errors: out of memory.
 pub fn read_at<T: Shaped>(alloc: Global, value: &Value, name: &str) -> Result<Option<T>, NoMemory>
     ensures { IfOk result (λ o. option_map T.plain o ≡ key name.now T.shape (view value.now)) }
 {
@@ -154,7 +162,9 @@ pub fn read_at<T: Shaped>(alloc: Global, value: &Value, name: &str) -> Result<Op
     }
 }
 
-/// The values of an array of so many under a key, none where the key is not there.
+/// Reads the values of an array of at most `high` under a key. No values if there is no such key. `None` if it is not such an array.
+///
+/// Errors: out of memory.
 pub fn list_or<T: Shaped>(
     alloc: Global,
     value: &Value,

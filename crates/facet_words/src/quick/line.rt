@@ -65,7 +65,9 @@ fn order_with(alloc: Global, line: u64, found: Found<'_>) -> Result<Option<Order
     }))
 }
 
-/// The order of a line's bytes, where they add a document in the usual form, or None, which says nothing.
+/// Returns the command of a line that adds a document in the usual form. `None` means that the line has to be read from its JSON value.
+///
+/// Errors: out of memory.
 pub fn read_add(
     alloc: Global,
     scratch: &mut Scratch,

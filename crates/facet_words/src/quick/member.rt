@@ -82,7 +82,7 @@ fn labels_next<'a>(
     Ok(true)
 }
 
-/// Reads the value of a key, and finds it there. False says nothing.
+/// Reads the value of a key and stores it. `false` means that the line has to be read from its JSON value.
 pub(crate) fn member_next<'a>(
     alloc: Global,
     reader: &mut Reader<'a>,

@@ -11,7 +11,7 @@ use facet_names::{NoMemory, Path, PathFault};
 use json::{Reader, Token};
 use std::alloc::Global;
 
-/// The text that comes next, or None, which says nothing.
+/// Returns the next text. `None` means that the line has to be read from its JSON value.
 pub(crate) fn text_next<'a>(reader: &mut Reader<'a>) -> Option<&'a str>
     ensures { IfSome result (λ t. reader.old ≡ SpecToken.string t.now ∷ reader.new) }
 {
@@ -109,7 +109,7 @@ fn paths_next(alloc: Global, reader: &mut Reader<'_>) -> Result<Option<Vec<Path>
     Ok(Some(paths))
 }
 
-/// At most 256 paths in the array that comes next, or None, which says nothing.
+/// Reads at most 256 paths in the next array. `None` means that the line has to be read from its JSON value.
 pub(crate) fn facets_next(
     alloc: Global,
     reader: &mut Reader<'_>,

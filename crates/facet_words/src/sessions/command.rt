@@ -2,7 +2,7 @@ use crate::parts::SearchLine;
 use crate::settings::Settings;
 use facet_model::{Document, Word};
 
-/// A command of a session. Where it has `on`, it sees the pair that the session holds under this name, and else the pair that was published last.
+/// A command of a session. If it has `on`, it sees the pair that the session holds under this name, and otherwise the pair that was published last.
 #[derive(Debug, Drop)]
 pub enum Command {
     /// Adds a document at the end of the history.
@@ -19,26 +19,26 @@ pub enum Command {
     Release {
         name: Word,
     },
-    /// Counts what is asked over the documents of the pair that match the query and pass the drill, and lists the first `hits` of them. With
-    /// `sideways` each dimension is counted as if the drill did not name it, as Lucene's `DrillSideways` does.
+    /// Answers the asks over the documents of the pair that match the query and pass the drill-down, and lists the first `hits` of them. With `sideways`,
+    /// each dimension is counted as if the drill-down did not name it, as in Lucene's `DrillSideways`.
     Search {
         on: Option<Word>,
         line: Box<SearchLine>,
     },
-    /// Shows the document at this place of the pair, from 0.
+    /// Returns the document at this place of the pair, from 0.
     Document {
         on: Option<Word>,
         at: u32,
     },
-    /// Tells how many documents and labels the pair has.
+    /// Returns how many documents and labels the pair has.
     Stats {
         on: Option<Word>,
     },
-    /// Makes all that was added so far durable.
+    /// Makes everything that was added so far durable.
     Commit,
 }
 
-/// A command with the number of its session, from 1 to 64, and of its line.
+/// A command with the number of its session, from 1 to 64, and of its line, from 1.
 #[derive(Debug, Drop)]
 pub struct Order {
     pub session: u32,
@@ -46,7 +46,7 @@ pub struct Order {
     pub command: Command,
 }
 
-/// The settings of a script and its orders, phase by phase and each phase in line order. The last phase ends with the script; a phase may be empty.
+/// The settings of a script and its commands, phase by phase, each phase in line order. The last phase ends with the script. A phase may be empty.
 #[derive(Drop)]
 pub struct Script {
     pub settings: Settings,

@@ -1,4 +1,4 @@
-//! The names that pairs are held under.
+//! The names under which pairs are held.
 ghost use Rattle.std.specs.Prelude.{◌≡◌, IfOk, codes};
 ghost use Rattle.serde_json.specs.View.{view};
 ghost use Rattle.facet_words.specs.Sessions.Orders.{held_name, name_of, on_of};
@@ -28,7 +28,9 @@ fn name_at(alloc: Global, value: &Value) -> Result<Option<Word>, NoMemory>
     }
 }
 
-/// The name of a hold or a release, beside no further keys.
+/// Returns the name of a hold or a release, or `None` if it has another form or the object has further keys.
+///
+/// Errors: out of memory.
 #[tactic(auto, unfolding(crate::specs::Sessions::Orders::name_of))]
 pub fn name_in(alloc: Global, value: &Value) -> Result<Option<Word>, NoMemory>
     ensures { IfOk result (λ o. o ≡ name_of (view value.now)) }
@@ -43,7 +45,9 @@ pub fn name_in(alloc: Global, value: &Value) -> Result<Option<Word>, NoMemory>
     }
 }
 
-/// The name under `on`, if there is one.
+/// Returns the name under `on`: `Some(None)` if there is no such key, and `None` if it has another form.
+///
+/// Errors: out of memory.
 pub fn on_at(alloc: Global, value: &Value) -> Result<Option<Option<Word>>, NoMemory>
     ensures { IfOk result (λ o. o ≡ on_of (view value.now)) }
 {

@@ -187,7 +187,9 @@ fn read_any(alloc: Global, line: u64, bytes: &[u8]) -> Result<Option<Order>, Scr
     }
 }
 
-/// The order of a line's bytes, None where they end a phase, or why they do neither. The scratch is kept from line to line.
+/// Returns the command of a line, or `None` if the line ends a phase. The scratch memory is used again from line to line.
+///
+/// Errors: the fault of the line, or out of memory.
 pub fn read_line(
     alloc: Global,
     scratch: &mut Scratch,

@@ -42,10 +42,10 @@ fn read_phases(alloc: Global, bytes: &[u8]) -> Result<Vec<Vec<Order>>, ScriptFau
     Ok(phases)
 }
 
-/// The script of several sessions that the bytes are, or the fault of their first faulty line.
+/// Reads a script of several sessions, line by line. It keeps memory for the commands only. `keys` are hash keys for the declared dimensions; no result
+/// depends on them.
 ///
-/// They are read line by line, and no line behind a faulty one is looked at. It keeps memory for the orders alone. Look-ups of declared dimensions hash
-/// names with `keys`.
+/// Errors: the fault of the first faulty line, and no later line is read; or out of memory.
 #[tactic(auto, unfolding(crate::specs::Sessions::Scripts::script))]
 pub fn read_script(alloc: Global, keys: RandomState, bytes: &[u8]) -> Result<Script, ScriptFault>
     ensures ok { IfOk result (λ s. script bytes.now ≡ Ok (script_view s)) }
