@@ -154,14 +154,18 @@ impl ToValue for FacetAnswer {
     }
 }
 
-/// Paths, in their order.
+/// Returns an array of paths, in order.
+///
+/// Errors: out of memory.
 pub fn paths_value(alloc: Global, paths: &[Path]) -> Result<Value, NoMemory>
     ensures { IfOk result (λ v. view v ≡ list_data path_data paths.now) }
 {
     list_value(alloc, paths)
 }
 
-/// The answers to the asks of a search, in their order.
+/// Returns an array of the answers to the asks of a search, in order.
+///
+/// Errors: out of memory.
 pub fn answers_value(alloc: Global, answers: &[FacetAnswer]) -> Result<Value, NoMemory>
     ensures { IfOk result (λ v. view v ≡ list_data answer_data (map answer_view answers.now)) }
 {

@@ -3,18 +3,18 @@ ghost use Rattle.std.specs.Prelude.{◌≡◌};
 use facet_names::NoMemory;
 use std::alloc::{AllocError, AllocFailed};
 
-/// Why bytes are no script. Lines count from 1, and the first faulty line decides; within one line the first of these that holds.
+/// Why bytes are not a script. Lines count from 1. The first faulty line decides, and in one line the first of these faults.
 #[derive(Clone, Copy, Debug, PartialEq, Eq)]
 pub enum ScriptFault {
-    /// The line is no JSON.
+    /// The line is not JSON.
     NotJson { line: u64 },
-    /// The first line is no object whose `cmd` is `config`, or there is no line.
+    /// The first line is not an object with `cmd` as `config`, or there is no line.
     NoConfigFirst,
-    /// The line is no command: a key is missing, is one too many, or has not the shape of a key of this name.
+    /// The line is not a command: a key is missing, is unknown, or has a value of another form.
     BadShape { line: u64 },
-    /// The number of the session is a whole number, but there is no such session.
+    /// The number of the session is a whole number, but not from 1 to 64.
     BadSession { line: u64 },
-    /// An allocation was refused.
+    /// Out of memory.
     NoMemory,
 }
 

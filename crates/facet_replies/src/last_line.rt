@@ -92,8 +92,11 @@ fn last_value(
     Ok(fields)
 }
 
-/// Appends the last line of an output: of the labels behind the opened ones each one's parent and last component, how many documents and labels were opened,
-/// and the sessions of the operations. `opened` counts the root. It looks up a parent for each label, and takes memory for the whole line.
+/// Appends the last line of an output: for each label after the opened ones its parent and its last component; how many documents and labels were opened; and
+/// the sessions of the operations. `documents` is the number of opened documents, and `opened` that of opened labels with the root. It looks up one parent
+/// per label, and allocates the whole line.
+///
+/// Errors: out of memory. Then nothing is appended.
 #[tactic(auto, unfolding(crate::specs::LastLine::last_line))]
 pub fn write_last_line(
     alloc: Global,

@@ -1,4 +1,4 @@
-//! Replies and faults, as the lines of JSON that they are written as.
+//! Replies and faults, and the lines of JSON that they are written as.
 #![tactic(auto)]
 
 mod answering;

@@ -9,12 +9,12 @@ use facet_names::NoMemory;
 use serde_json::{Map, Value, put};
 use std::alloc::{AllocError, Global};
 
-/// What the line of a fault tells under a key.
+/// A value in the line of a fault.
 #[derive(Clone, Copy, Debug)]
 pub enum Detail<'a> {
     Text(&'a str),
     Number(u64),
-    /// A digest, which is written as 64 hexadecimal digits in lower case.
+    /// A digest. It is written as 64 lower-case hexadecimal digits.
     Digest([u8; 32]),
 }
 
@@ -56,7 +56,9 @@ fn named_fault_value(
     Ok(Value::Object(fields))
 }
 
-/// Appends the line of a fault, with its name and what it tells besides, in the form of a reply's line.
+/// Appends the line of a fault, with its name and details, as a line of JSON in the form of a reply.
+///
+/// Errors: out of memory. Then nothing is appended.
 #[tactic(auto, unfolding(crate::specs::NamedFaults::named_fault_line))]
 pub fn write_named_fault(
     alloc: Global,

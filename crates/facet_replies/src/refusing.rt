@@ -9,7 +9,9 @@ use crate::reply::Refusal;
 use serde_json::{Map, Value, put};
 use std::alloc::{AllocError, Global};
 
-/// Puts a text under a key.
+/// Stores a text under a key.
+///
+/// Errors: out of memory.
 pub fn put_text(
     alloc: Global,
     fields: &mut Map<String, Value>,
@@ -48,7 +50,9 @@ fn put_not_hierarchical(
     put(fields, alloc, "len", Value::from(len))
 }
 
-/// Puts what the reply to a command that was refused has besides its line and its session.
+/// Stores the reason of a rejection, and what it counts. The line and the session of the reply are stored elsewhere.
+///
+/// Errors: out of memory.
 pub fn put_refusal(
     alloc: Global,
     fields: &mut Map<String, Value>,

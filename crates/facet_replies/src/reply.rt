@@ -7,24 +7,24 @@ pub struct HitLine {
     pub id: Word,
 }
 
-/// Why a command was refused.
+/// Why a command was rejected.
 #[derive(Clone, Copy, Debug, PartialEq, Eq)]
 pub enum Refusal {
-    /// The facet at this place, from 0, is a dimension alone.
+    /// The facet at this place, from 0, is a dimension without a label.
     NoComponent { facet: u64 },
-    /// The dimension of the facet at this place is not hierarchical, and `len` components stand behind it.
+    /// The dimension of the facet at this place is not hierarchical, but `len` components follow it.
     NotHierarchical { facet: u64, len: u64 },
-    /// The dimension of the facet at this place is not multi-valued, and an earlier facet has it too.
+    /// The dimension of the facet at this place is not multi-valued, but an earlier facet has it too.
     NotMultiValued { facet: u64 },
-    /// A label is missing, and the list of labels has this size, with the root, and may not grow.
+    /// A label is missing, and the list of labels may not grow. It has this size, with the root.
     LabelsFull { size: u64 },
-    /// There are this many documents, and there may be no more.
+    /// There are this many documents, and no more are allowed.
     DocsFull { count: u64 },
     /// The session holds no pair under the name.
     NotHeld,
     /// The session holds a pair under the name already.
     HeldAlready,
-    /// The ask at this place, from 0, asks for no child.
+    /// The ask at this place, from 0, asks for 0 children.
     TopZero { ask: u64 },
     /// The ask at this place asks for the value of a dimension alone, which is not kept.
     DimValueNotKept { ask: u64 },
@@ -32,40 +32,41 @@ pub enum Refusal {
     NoSuchDocument { count: u64 },
     /// The commit failed on the disk, which has counted this many faults.
     Disk { count: u64 },
-    /// An earlier commit failed on the disk at this count, and none is made after it.
+    /// An earlier commit failed on the disk at this count of faults. No commit is made after it.
     Closed { count: u64 },
-    /// The commit would take file numbers up to this one, which is 2^63 or more.
+    /// The commit needs file numbers up to this one, which is 2^63 or more.
     NumbersSpent { number: u64 },
-    /// An allocation was refused.
+    /// Out of memory.
     NoMemory,
 }
 
-/// What a command is answered.
+/// The reply to a command.
 #[derive(Debug, Drop)]
 pub enum Reply {
     /// To an add: the document's place in the history, from 0.
     Placed {
         at: u64,
     },
-    /// To a refresh: the number of documents that searches see from now on. To a commit: the number of documents that were committed.
+    /// To a refresh: the number of documents that searches see from now on. To a commit: the number of documents that are durable. To a hold or a release:
+    /// the number of documents of the pair.
     Number {
         n: u64,
     },
-    /// To a search: the number of documents that it saw, how many matched, the first of these in their order, and one answer for each ask.
+    /// To a search: the number of documents that it searched, how many matched, the first of these in order, and one answer per ask.
     Found {
         n: u64,
         hit_count: u64,
         hits: Vec<HitLine>,
         results: Vec<FacetAnswer>,
     },
-    /// To a document: the number of documents that searches see, the place, and what stands there with the ordinals of its labels, in their order.
+    /// To a document: the number of documents of the pair, the place, and the document there with the ordinals of its labels, in order.
     Shown {
         n: u64,
         at: u32,
         doc: Document,
         ordinals: Vec<u32>,
     },
-    /// To a question of numbers: how many operations the pair that was asked has, how many labels with the root, and how many documents.
+    /// To stats: how many operations the pair has, how many labels with the root, and how many documents.
     Stats {
         n: u64,
         labels: u32,

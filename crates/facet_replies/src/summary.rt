@@ -12,12 +12,12 @@ use facet_names::NoMemory;
 use serde_json::{Value, json};
 use std::alloc::{AllocError, Global};
 
-/// What is told of the replies to a script of generated documents.
+/// The summary of the replies to a script of generated documents.
 #[derive(Debug, Drop)]
 pub struct Summary {
-    /// How many adds were answered with a place.
+    /// How many adds returned a place.
     pub added: u64,
-    /// No commit was refused.
+    /// No commit was rejected.
     pub committed: bool,
     /// How many documents the pair has that was searched.
     pub documents: u32,
@@ -25,7 +25,7 @@ pub struct Summary {
     pub hit_count: u64,
     /// How many labels the pair has, with the root.
     pub labels: u32,
-    /// The answers to what the search asked, in their order.
+    /// The answers to the asks of the search, in order.
     pub results: Vec<FacetAnswer>,
 }
 
@@ -53,7 +53,9 @@ fn summary_value(alloc: Global, summary: &Summary) -> Result<Value, NoMemory>
     Ok(value)
 }
 
-/// Appends the line of a summary, in the form of a reply's line.
+/// Appends the line of a summary, as a line of JSON in the form of a reply.
+///
+/// Errors: out of memory. Then nothing is appended.
 #[tactic(auto, unfolding(crate::specs::Summaries::summary_line))]
 pub fn write_summary(alloc: Global, out: &mut Vec<u8>, summary: &Summary) -> Result<(), NoMemory>
     ensures ok { OnOk result (out.new.items ≡ out.old.items ++ summary_line (summary_view summary.now)) }

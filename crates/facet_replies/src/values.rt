@@ -36,7 +36,9 @@ impl ToValue for u32 {
     }
 }
 
-/// The array of these values, in their order.
+/// Returns the array of these values, in order.
+///
+/// Errors: out of memory.
 pub fn list_value<T: ToValue>(alloc: Global, items: &[T]) -> Result<Value, NoMemory>
     ensures { IfOk result (λ v. view v ≡ list_data T.json (map T.plain items.now)) }
 {

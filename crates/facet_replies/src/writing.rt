@@ -186,7 +186,9 @@ fn reply_text(alloc: Global, session: u32, line: u64, reply: &Reply) -> Result<S
     to_line(alloc, &value)
 }
 
-/// Appends the line of a reply: compact JSON, its keys in byte order, and a line feed.
+/// Appends the line of a reply: compact JSON with its keys in byte order, and a line feed.
+///
+/// Errors: out of memory. Then nothing is appended.
 pub fn write_reply(
     alloc: Global,
     out: &mut Vec<u8>,
@@ -221,7 +223,9 @@ fn fault_value(alloc: Global, fault: ScriptFault) -> Result<Value, AllocError>
     }
 }
 
-/// Appends the line that tells why bytes are no script, in the form of a reply's line.
+/// Appends the line that reports why bytes are not a script, as a line of JSON in the form of a reply.
+///
+/// Errors: out of memory. Then nothing is appended.
 #[tactic(auto, unfolding(crate::specs::ReplyLines::fault_line))]
 pub fn write_fault(alloc: Global, out: &mut Vec<u8>, fault: ScriptFault) -> Result<(), NoMemory>
     ensures ok { OnOk result (out.new.items ≡ out.old.items ++ fault_line fault) }
