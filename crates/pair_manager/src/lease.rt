@@ -4,7 +4,7 @@ use crate::pair::Pair;
 use std::marker::Model;
 use std::sync::Arc;
 
-/// A pair that was acquired, as a searcher that Lucene's manager hands out. It stays as it is until it is released, whatever is published since.
+/// A pair that was acquired, like a searcher of Lucene's `SearcherTaxonomyManager`. It does not change until it is released, whatever is published meanwhile.
 #[derive(Drop)]
 pub struct Lease {
     pub(crate) pair: Arc<Pair>,
@@ -20,7 +20,7 @@ impl Model for Lease {
 }
 
 impl Lease {
-    /// The pair, each time the same.
+    /// Returns the pair, each time the same one.
     pub fn pair(&self) -> &Pair
         ensures { result.now ≡ self.now }
     {
@@ -28,7 +28,7 @@ impl Lease {
     }
 }
 
-/// Lets a pair go. Its memory is free once nobody has it any more.
+/// Releases a pair. Its memory is freed once nobody holds it any more.
 pub fn release(lease: Lease) {
     let _ = lease;
 }

@@ -1,4 +1,4 @@
-//! Published pairs of an index and a taxonomy, which searches hold on to, as Lucene's `SearcherTaxonomyManager`.
+//! Published pairs of an index and a taxonomy, which searches hold, like Lucene's `SearcherTaxonomyManager`.
 #![tactic(auto)]
 
 mod lease;

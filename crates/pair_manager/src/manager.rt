@@ -41,7 +41,7 @@ use taxo_cache::Name;
 use taxo_list::{TaxoFault, TaxoView};
 use taxo_writer::{LabelList, TaxoWriter};
 
-/// How many operations, labels with the root, and documents the last published pair has.
+/// The numbers of the last published pair: operations, labels with the root, and documents.
 #[derive(Drop, Clone, Copy, Debug, PartialEq, Eq)]
 pub struct Stats {
     pub operations: u64,
@@ -49,10 +49,10 @@ pub struct Stats {
     pub documents: u32,
 }
 
-/// Publishes pairs, and hands out the last one, to callers on any threads, each with a pass of its own. It has the writer of labels and the chronicles of the
-/// operations and of the pairs.
+/// Publishes pairs, and hands out the last one, to callers on any threads. Each caller has a [`Pass`] of its own. The manager has the writer of labels and
+/// the chronicles of the operations and of the pairs.
 ///
-/// No call holds two turns but [`refresh`](Manager::refresh), which takes that of the pairs before any other; so no two callers wait for each other.
+/// No call holds two locks, except [`refresh`](Manager::refresh), which takes that of the pairs before any other. So no two callers wait for each other.
 #[derive(Drop)]
 pub struct Manager<N: Name> {
     alloc: Global,
@@ -70,8 +70,10 @@ impl<N: Name> Model for Manager<N> {
 }
 
 impl<N: Name> Manager<N> {
-    /// Publishes the pair of what was opened, over the writer's labels. Each opened document counts as added by session 0. It answers the first token of the
-    /// operations and that of the pairs.
+    /// Makes a manager over the writer's labels, and publishes the pair of what was opened. Each opened document counts as added by session 0. Also returns
+    /// the first tokens of the operations and of the pairs.
+    ///
+    /// Errors: out of memory.
     pub fn open(
         alloc: Global,
         keys: RandomState,
@@ -109,29 +111,32 @@ impl<N: Name> Manager<N> {
         Ok((manager, first, token))
     }
 
-    /// The writer of labels.
+    /// Returns the writer of labels.
     pub fn writer(&self) -> &TaxoWriter<N>
         ensures { result.now ≡ self.now.writer }
     {
         &self.writer
     }
 
-    /// The operations.
+    /// Returns the chronicle of the operations.
     pub fn operations(&self) -> &Chronicle<IndexState>
         ensures { result.now ≡ self.now.operations }
     {
         &self.operations
     }
 
-    /// The publications.
+    /// Returns the chronicle of the publications.
     pub fn pairs(&self) -> &Chronicle<PairState>
         ensures { result.now ≡ self.now.pairs }
     {
         &self.pairs
     }
 
-    /// The index as it stands, as [`IndexState::snapshot`]. The token has then seen exactly its operations. It waits for the operations' turn, in which the
-    /// documents that wait become a segment.
+    /// Returns the index as it is, as [`IndexState::snapshot`] does. The token has then seen exactly its operations.
+    ///
+    /// Locks: that of the operations. In it, the documents that wait become a segment.
+    ///
+    /// Errors: out of memory.
     pub fn take_index<R: Wait>(
         &self,
         rt: &R,
@@ -155,8 +160,11 @@ impl<N: Name> Manager<N> {
         view
     }
 
-    /// The ordinals of the prefixes of each path, as [`TaxoWriter::resolve_each`]. The labels have one turn together where any is missing, and it is not held
-    /// afterwards.
+    /// Returns the ordinals of the prefixes of each path, as [`TaxoWriter::resolve_each`] does. Missing labels are added.
+    ///
+    /// Locks: that of the labels, once, if any label is missing from the cache. It is not held afterwards.
+    ///
+    /// Errors: `LabelsFull`; out of memory. Labels that were added before stay.
     pub fn resolve_each<R: Wait>(
         &self,
         rt: &R,
@@ -174,10 +182,12 @@ impl<N: Name> Manager<N> {
         self.writer.resolve_each(rt, &mut pass.labels, paths)
     }
 
-    /// Puts the document of an entry behind all others, as an operation of this session, and answers its place. The entry is one under the labels that the
-    /// pass has seen.
+    /// Adds the document of an entry after all others, as an operation of this session, and returns its place, from 0. The entry has to be one under the
+    /// labels that the pass has seen.
     ///
-    /// It waits for the operations' turn, in which it only puts the document into memory, as [`IndexState::append`].
+    /// Locks: that of the operations. In it, the document is only moved into memory, as by [`IndexState::append`].
+    ///
+    /// Errors: `DocsFull`; out of memory. Then no operation is entered.
     pub fn append<R: Wait>(
         &self,
         rt: &R,
@@ -351,12 +361,12 @@ impl<N: Name> Manager<N> {
         }
     }
 
-    /// Publishes a pair with all operations and labels as they then stand, and answers how many operations it has. The pass has then seen just these. Without
-    /// memory none is published.
+    /// Publishes a pair of all operations and labels that there are, and returns the number of its operations. The pass has then seen exactly these.
     ///
-    /// It waits for the pairs' turn, and in it for that of the operations and then for that of the labels: the labels that it takes cover the documents that it
-    /// took. The documents that wait become a segment first, and every label is copied where one is new; where nothing is new it takes eight bytes for each
-    /// segment. Others can add documents while the labels are copied.
+    /// Locks: that of the pairs; in it, that of the operations and then that of the labels. So the labels cover the documents. The documents that wait become
+    /// a segment first. All labels are copied if one is new; others can add documents meanwhile. If nothing is new, it allocates eight bytes per segment.
+    ///
+    /// Errors: out of memory. Then no pair is published.
     pub fn refresh<R: Wait>(&self, rt: &R, pass: &mut Pass) -> Result<u64, NoMemory>
         requires own { IsOf self.now pass.old }
         ensures same { SamePass pass.old pass.new }
@@ -376,9 +386,12 @@ impl<N: Name> Manager<N> {
         self.end_turn(&mut pass.pairs, last, next)
     }
 
-    /// The last published pair, which is no older than any that the pass had seen. The pass has then seen its operations and labels.
+    /// Returns the last published pair, which is no older than any that the pass had seen. The pass has then seen its operations and labels. It copies
+    /// nothing.
     ///
-    /// It waits for the pairs' turn, so for a refresh that goes on. It copies nothing; for want of memory it is refused where there are too many leases.
+    /// Locks: that of the pairs. So it waits for a refresh in progress.
+    ///
+    /// Errors: out of memory, if there are too many leases.
     pub fn acquire<R: Wait>(&self, rt: &R, pass: &mut Pass) -> Result<Lease, NoMemory>
         requires own { IsOf self.now pass.old }
         ensures same { SamePass pass.old pass.new }
@@ -400,9 +413,9 @@ impl<N: Name> Manager<N> {
         }
     }
 
-    /// The numbers of the last published pair, without memory. The pass has then seen its operations and labels.
+    /// Returns the numbers of the last published pair. The pass has then seen its operations and labels. It allocates nothing.
     ///
-    /// It waits for the pairs' turn.
+    /// Locks: that of the pairs. So it waits for a refresh in progress.
     pub fn stats<R: Wait>(&self, rt: &R, pass: &mut Pass) -> Stats
         requires own { IsOf self.now pass.old }
         ensures same { SamePass pass.old pass.new }

@@ -26,7 +26,9 @@ use taxo_cache::Name;
 use taxo_list::TaxoView;
 use taxo_writer::{LabelList, TaxoWriter};
 
-/// The index of segments that were opened, and how it stands before the first operation.
+/// Makes the index of segments that were opened, as it is before the first operation.
+///
+/// Errors: out of memory.
 pub fn open_index(
     alloc: Global,
     keys: RandomState,
@@ -63,7 +65,9 @@ pub fn open_index(
     Ok((index, view))
 }
 
-/// A chronicle over the value, with its first token. Without memory the value is dropped.
+/// Makes a chronicle over the value, with its first token.
+///
+/// Errors: out of memory. Then the value is dropped.
 pub fn open_chronicle<V: Standing + Drop>(
     alloc: Global,
     value: V,
@@ -80,7 +84,9 @@ pub fn open_chronicle<V: Standing + Drop>(
     }
 }
 
-/// The chronicle of the pairs, of which the first one has this view and this index, with notes of the labels and of the operations.
+/// Makes the chronicle of the pairs. Its first pair has this view and this index, with notes of the labels and of the operations.
+///
+/// Errors: out of memory.
 pub fn open_pairs<N: Name>(
     alloc: Global,
     writer: &TaxoWriter<N>,
@@ -115,7 +121,9 @@ pub fn open_pairs<N: Name>(
     open_chronicle(alloc, state)
 }
 
-/// The chronicles of the operations and of the pairs, with their first tokens. The first pair is of what was opened, over the writer's labels.
+/// Makes the chronicles of the operations and of the pairs, with their first tokens. The first pair is of what was opened, over the writer's labels.
+///
+/// Errors: out of memory.
 pub fn open_both<N: Name>(
     alloc: Global,
     keys: RandomState,

@@ -17,10 +17,10 @@ use std::marker::Model;
 use std::sync::Arc;
 use taxo_list::TaxoView;
 
-/// A published pair of an index and a taxonomy. It never changes, and may be shared by threads. Its segments decode, under its own view, to the documents of
-/// its operations.
+/// A published pair of an index and a taxonomy. It never changes, and threads may share it. Its segments decode, under its own view, to the documents of its
+/// operations.
 ///
-/// It shares its segments and its view with the pairs before it where these are the same.
+/// It shares its segments with the pairs before it, and its view if no label is new.
 #[derive(Drop)]
 pub struct Pair {
     view: Arc<TaxoView>,
@@ -73,21 +73,21 @@ impl Pair {
         }
     }
 
-    /// How many operations there were.
+    /// Returns how many operations there were.
     pub fn operations(&self) -> u64
         ensures { result ≡ length self.now.history.seen }
     {
         self.operations
     }
 
-    /// How many documents there are, at most 1,000,000. Each operation added one.
+    /// Returns how many documents there are, at most 1,000,000. Each operation added one.
     pub fn documents(&self) -> u32
         ensures { result ≡ length (docs (entries self.now.history.seen)) }
     {
         self.operations as u32
     }
 
-    /// The labels.
+    /// Returns the labels.
     pub fn view(&self) -> &TaxoView
         ensures { result.now ≡ labels_of self.now.labels.seen }
     {
@@ -101,7 +101,7 @@ impl Pair {
         &self.view
     }
 
-    /// The segments, which have all documents.
+    /// Returns the segments, which have all documents.
     pub fn segments(&self) -> &[Arc<Segment>]
         ensures segments { map arc_value result.now ≡ self.now.segments }
         ensures decodes { DecodesTo self.now.labels self.now.config self.now.segments self.now.history }
@@ -111,7 +111,7 @@ impl Pair {
         &self.segments
     }
 
-    /// The config of its documents.
+    /// Returns the config of the documents.
     pub fn config(&self) -> &FacetsConfig
         ensures { result.now ≡ self.now.config }
     {

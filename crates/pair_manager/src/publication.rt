@@ -1,4 +1,4 @@
-/// An entry of the pairs chronicle: how many operations and labels a published pair has, the root among the labels.
+/// An entry of the pairs chronicle: how many operations and labels a published pair has, including the root.
 #[derive(Drop, Clone, Copy, Debug, PartialEq, Eq)]
 pub struct Publication {
     pub operations: u64,
