@@ -1,4 +1,4 @@
-//! Lists of segments: one segment more, one in the place of several, the same segments shared, and how many documents they have.
+//! Lists of segments: adding one, replacing several by one, sharing them, and counting their documents.
 ghost use Rattle.std.specs.Prelude.{◌≡◌, ◌≢◌, ◌≤◌, ◌<◌, ◌+◌, ◌++◌, [], ◌∷◌, length, map, take, drop, replicate, IfErr, IfOk, OnOk};
 ghost use Rattle.std.specs.Arc.{arc_value};
 ghost use Rattle.seg_grammar.specs.Spelling.{IsSegment, seg_bytes};
@@ -11,7 +11,9 @@ use std::alloc::Global;
 use std::hash::RandomState;
 use std::sync::Arc;
 
-/// Turns the entries, if there are any, into one segment behind these, and tells how many documents it has. Without memory all stays as it was.
+/// Makes one segment of the entries, if there are any, after the other segments, and returns how many documents it has.
+///
+/// Errors: out of memory. Then nothing changes.
 pub fn flush(
     alloc: Global,
     keys: RandomState,
@@ -37,7 +39,7 @@ pub fn flush(
     Ok(docs)
 }
 
-/// Puts one segment in the place of `count` segments from `first` on. It takes no memory, and moves those behind them once.
+/// Replaces `count` segments from `first` on by one. It allocates nothing, and moves the later segments once.
 pub fn put_merged(
     segments: &mut Vec<Arc<Segment>>,
     first: usize,
@@ -52,7 +54,9 @@ pub fn put_merged(
     segments.drain(first + 1..first + count);
 }
 
-/// The same segments once more, with one owner more of each.
+/// Returns the same segments, each with one owner more.
+///
+/// Errors: out of memory.
 pub fn shared(alloc: Global, segments: &[Arc<Segment>]) -> Result<Vec<Arc<Segment>>, NoMemory>
     ensures { IfOk result (λ again. map arc_value again.items ≡ map arc_value segments.now) }
 {
@@ -63,7 +67,7 @@ pub fn shared(alloc: Global, segments: &[Arc<Segment>]) -> Result<Vec<Arc<Segmen
     Ok(again)
 }
 
-/// How many documents these segments have, those that are not live left out.
+/// Returns how many documents these segments have, without those that are not live.
 pub fn count_documents(segments: &[Arc<Segment>]) -> usize
     requires { length (records_in (map arc_value segments.now)) ≤ 1000000 }
     ensures { result ≡ length (records_in (map arc_value segments.now)) }
@@ -75,7 +79,9 @@ pub fn count_documents(segments: &[Arc<Segment>]) -> usize
     count
 }
 
-/// So many zeros.
+/// Returns `n` zeros.
+///
+/// Errors: out of memory.
 pub fn zeros(alloc: Global, n: usize) -> Result<Vec<u32>, NoMemory>
     ensures { IfOk result (λ v. v.items ≡ replicate n 0) }
 {

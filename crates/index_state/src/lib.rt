@@ -1,4 +1,4 @@
-//! The index behind the operations' turn: documents in segments and documents that wait to become one, with the session that added each.
+//! The index under the lock of the operations: documents in segments, documents that wait to become one, and the session that added each.
 #![tactic(auto)]
 
 mod fault;

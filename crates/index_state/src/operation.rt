@@ -4,7 +4,8 @@ use facet_model::Document;
 use std::marker::Model;
 use std::snapshot::Snapshot;
 
-/// An entry of the operations chronicle: a session added a document. The document is in it for the proofs alone: an operation takes no memory, and copies none.
+/// An entry of the operations chronicle: a session added a document. The document is in it for the proofs only: an operation allocates nothing and copies
+/// none.
 #[derive(Drop)]
 pub struct Operation {
     session: u32,
@@ -20,7 +21,7 @@ impl Model for Operation {
 }
 
 impl Operation {
-    /// The operation by which the session of this number added the document.
+    /// Returns the operation for a document that the session with this number added.
     pub fn new(session: u32, doc: &Document) -> Operation
         ensures { result ≡ record { session = session; doc = doc.now } }
     {

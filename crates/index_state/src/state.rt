@@ -24,8 +24,8 @@ use std::marker::Model;
 use std::sync::Arc;
 use taxo_adding::LabelList;
 
-/// The value of the operations chronicle, as Lucene's `IndexWriter` behind a lock. The documents of its segments and then those that wait in memory are those
-/// of the history, under the labels that it has noted.
+/// The value of the operations chronicle, like Lucene's `IndexWriter` with a lock. The documents of its segments, followed by those that wait in memory, are
+/// those of the history, under the labels that it has noted.
 ///
 /// A document that waits is kept with its ordinals, until it becomes part of a segment and is bytes.
 #[derive(Drop)]
@@ -87,8 +87,10 @@ fn add_waiting(
 }
 
 impl IndexState {
-    /// The index of segments that were opened, under labels that were noted. Each of their documents counts as added by session 0. It takes four bytes of
-    /// memory for each document.
+    /// Makes the index of segments that were opened, under labels that were noted. Each of their documents counts as added by session 0. It allocates four
+    /// bytes per document.
+    ///
+    /// Errors: out of memory.
     pub fn open(
         alloc: Global,
         keys: RandomState,
@@ -122,10 +124,10 @@ impl IndexState {
         })
     }
 
-    /// Adds a document of a session behind all others, and answers its place. Its ordinals are those under the labels that `seen` has seen, and the index has
-    /// then noted these. After a refusal all is as before.
+    /// Adds a document of a session after all others and returns its place, from 0. Its ordinals are those under the labels that `seen` has seen. The index
+    /// has then noted these labels. The cost does not depend on how many documents there are.
     ///
-    /// It only puts the document into memory: its cost does not depend on how many there are.
+    /// Errors: `DocsFull`; out of memory. Then nothing changes.
     pub fn append(
         &mut self,
         chronicle: &Chronicle<LabelList>,
@@ -155,9 +157,10 @@ impl IndexState {
         Ok(at)
     }
 
-    /// The documents that wait become a segment, and it answers how many they are. Where none waits, no segment is made and no memory taken.
+    /// Makes a segment of the documents that wait, and returns how many they are. If none waits, it makes no segment and allocates nothing. Otherwise it
+    /// costs as much as [`Segment::build`] of these documents, whatever else the index has.
     ///
-    /// It costs as much as [`Segment::build`] of these documents, whatever else the index has. Without memory all is as before.
+    /// Errors: out of memory. Then nothing changes.
     pub fn flush(&mut self) -> Result<u32, NoMemory>
         ensures many { IfOk result (λ n. n ≡ self.old.waiting) }
         ensures flushed { OnOk result (IsFlushed self.old self.new) }
@@ -167,8 +170,10 @@ impl IndexState {
         Ok(docs)
     }
 
-    /// The index as it stands. The documents that wait become a segment first, also where there is no memory for the rest. All segments are shared and none is
-    /// copied; it takes eight bytes of memory for each.
+    /// Returns the index as it is. The documents that wait become a segment first. All segments are shared and none is copied. It allocates eight bytes per
+    /// segment.
+    ///
+    /// Errors: out of memory. The documents that waited may be a segment then.
     pub fn snapshot(&mut self, chronicle: &Chronicle<LabelList>) -> Result<IndexView, NoMemory>
         requires own { self.old.labels.identity ≡ chronicle.now }
         ensures rest { (self.new ≡ self.old) ⊎ IsFlushed self.old self.new }
@@ -189,8 +194,8 @@ impl IndexState {
         })
     }
 
-    /// Replaces `count` segments from `first` on by one segment that has the same documents, as their merge does. All documents, and the operations that the index
-    /// stands for, stay as they are. It takes no memory.
+    /// Replaces `count` segments from `first` on by one segment that has the same documents, such as their merge. All documents, and the operations that the
+    /// index represents, stay as they are. It allocates nothing.
     pub fn install_merged(&mut self, first: usize, count: usize, merged: Arc<Segment>)
         requires some { 0 < count }
         requires range { first + count ≤ length self.old.segments }
@@ -204,7 +209,7 @@ impl IndexState {
         put_merged(&mut self.segments, first, count, merged);
     }
 
-    /// The segments of all documents but those that wait.
+    /// Returns the segments of all documents except those that wait.
     pub fn segments(&self) -> &[Arc<Segment>]
         ensures segments { map arc_value result.now ≡ self.now.segments }
         ensures docs { self.now.waiting ≡ 0 → docs_under self.now.labels self.now.segments ≡ self.now.docs }
@@ -216,7 +221,7 @@ impl IndexState {
         &self.segments
     }
 
-    /// The session of each operation, in order. It takes no memory.
+    /// Returns the session of each operation, in order. It allocates nothing.
     pub fn into_sessions(self) -> Vec<u32>
         ensures { result.items ≡ self.sessions }
     {
