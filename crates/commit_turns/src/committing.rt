@@ -128,10 +128,12 @@ fn commit_in_turn<D: Disk, N: Name + Start, R: Wait>(
     state.commit_noted(&taken.view, &taken.segments, taken.operations)
 }
 
-/// Makes all operations and labels durable that are there when it takes them, and answers how many operations these are.
+/// Makes all operations and labels that there are durable, and returns the number of operations.
 ///
-/// It waits for the turn of the commits and holds it for the whole call, and within it for the turn of the operations and then for that of the labels, each of
-/// which it gives back before it calls the disk: no session's adds wait for that. Memory and calls are those of [`Committer::commit`].
+/// Locks: that of the commits, for the whole call. In it, that of the operations and then that of the labels; each is released before the disk is called, so
+/// no session's adds wait for the disk.
+///
+/// Errors: those of [`Committer::commit`], as are memory and disk calls.
 ///
 /// [`Committer::commit`]: commit_store::Committer::commit
 pub fn commit<D: Disk, N: Name + Start, R: Wait>(

@@ -21,8 +21,8 @@ use index_state::Operation;
 use pair_manager::CommitPoint;
 use std::sync::Wait;
 
-/// Takes the turn of the commits for good, and hands the disk back. The tokens of the labels and of the operations have then seen all that any commit has
-/// begun to write.
+/// Takes the lock of the commits for good, and returns the disk. The tokens of the labels and of the operations have then seen everything that any commit has
+/// begun to write. It waits for a commit in progress.
 pub fn end_commits<
     D: Disk,
     N: Start,

@@ -1,4 +1,4 @@
-//! Commits of several sessions: the value of the commits chronicle, a commit in its turn, and the end that hands the disk back.
+//! Commits of several sessions: the value of the commits chronicle, a commit under its lock, and the end, which returns the disk.
 #![tactic(auto)]
 
 mod committing;

@@ -22,7 +22,7 @@ use std::sync::Arc;
 use taxo_list::{Labelled, TaxoView};
 
 impl<D: Disk, N: Start> CommitTurn<D, N> {
-    /// Commits a view and segments, which have all that is noted. Where that is acknowledged or fails on the disk, `last` is the point to be entered.
+    /// Commits a view and segments, which have all that is noted. If the commit is acknowledged or fails on the disk, `last` is the point to enter.
     pub(crate) fn commit_noted(
         &mut self,
         view: &TaxoView,

@@ -34,7 +34,7 @@ use std::snapshot::Snapshot;
 use std::sync::Arc;
 use taxo_list::Taxonomy;
 
-/// A disk whose store was opened: its labels and its segments, the committer that goes on from them, and the disk as it was when opening began.
+/// A disk with an opened store: its labels and segments, the committer that continues from them, and the disk as it was when opening began.
 #[derive(Drop)]
 pub struct Begun<D: Disk> {
     pub committer: Committer<D>,
@@ -43,7 +43,7 @@ pub struct Begun<D: Disk> {
     pub start: Snapshot<D>,
 }
 
-/// Opens the store of a disk, and writes nothing: [`Committer::open`], with its costs.
+/// Opens the store of a disk. It writes nothing. Costs and errors are those of [`Committer::open`].
 pub fn begin<D: Disk>(
     alloc: Global,
     keys: RandomState,
@@ -79,8 +79,9 @@ pub fn begin<D: Disk>(
     })
 }
 
-/// Opens the commits chronicle over a committer, whose labels and documents are what the tokens have seen. The opening point has their numbers. The error is
-/// want of memory.
+/// Opens the commits chronicle over a committer, whose labels and documents are what the tokens have seen. The opening point has their numbers.
+///
+/// Errors: out of memory. The error is the disk.
 pub fn open_commits<D: Disk, N: Start, L: Standing<Entry = Path>, I: Standing<Entry = Operation>>(
     alloc: Global,
     committer: Committer<D>,

@@ -2,15 +2,15 @@ ghost use Rattle.commit_turns.specs.DiskStates.{DiskState};
 
 use std::marker::Brand;
 
-/// With which disk a run begins. Each run picks it, when it hands the store over; it costs nothing when the program runs.
+/// Which disk an invocation begins with. It is chosen when a store becomes a system. It has no cost at run time.
 pub trait Start {
-    /// The disk told its files when opening began.
+    /// The disk said what its files hold when opening began.
     ghost told: { Type 0 };
 
-    /// And it was settled.
+    /// It was also settled.
     ghost settled: { Type 0 };
 
-    /// A disk of such a state is as it was when opening began: nothing was written.
+    /// A disk in such a state is as it was when opening began: nothing was written.
     ghost quiet: { DiskState → Type 0 };
 }
 

@@ -11,7 +11,7 @@ use pair_manager::CommitPoint;
 use std::marker::PhantomData;
 use std::snapshot::Snapshot;
 
-/// The value of the commits chronicle: the committer, the last point, and notes of the operations and the labels that cover all that any commit has
+/// The value of the commits chronicle: the committer, the last point, and notes of the operations and the labels that cover everything that any commit has
 /// begun to write.
 #[derive(Drop)]
 pub struct CommitTurn<D: Disk, N: Start> {
