@@ -40,7 +40,7 @@ own_front : (ss ts : List Records) → AreOwn (ss ++ ts) → AreOwn ss
 own_front [] ts all = tt
 own_front (s ∷ ss) ts all = (all.0, own_front ss ts all.1)
 
-own_back : (ss ts : List Records) → AreOwn (ss ++ ts) → AreOwn ts
+pub own_back : (ss ts : List Records) → AreOwn (ss ++ ts) → AreOwn ts
 own_back [] ts all = all
 own_back (s ∷ ss) ts all = own_back ss ts all.1
 

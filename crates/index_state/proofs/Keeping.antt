@@ -44,6 +44,20 @@ module _ (config : Config) (labels : Shown (List (List ℕ))) (segments : List R
     noted_docs = decoded (labels_of next.seen) config segments (docs_in (labels_of labels.seen) segments)
         (decodes_stay config (labels_of labels.seen) (labels_of next.seen) kept.list list (seen_goes_on labels.seen next.seen more) segments (docs_in (labels_of labels.seen) segments) kept.decoded)
 
+    pub kept_noted : (next.is_note ≡ true) × (next.holds_turn ≡ false) → IsKept config next segments waiting sessions max_docs
+    kept_noted note =
+        let on : GoesOn (labels_of labels.seen) (labels_of next.seen) = seen_goes_on labels.seen next.seen more in
+        record {
+          note = note;
+          list = list;
+          decoded = subst (Decodes (labels_of next.seen) config segments) (sym noted_docs) (decodes_stay config (labels_of labels.seen) (labels_of next.seen) kept.list list on segments (docs_in (labels_of labels.seen) segments) kept.decoded);
+          own = kept.own;
+          entries = entries_stay config (labels_of labels.seen) (labels_of next.seen) kept.list list on waiting kept.entries;
+          each = omega (arith, kept.each, ap length noted_docs);
+          few = kept.few;
+          most = kept.most;
+        }
+
     -- and a document waits, which has its ordinals under the labels that `told` has seen
     pub kept_appended : (told : Shown (List (List ℕ))) (e : Entry) (session : ℕ) → (next.is_note ≡ true) × (next.holds_turn ≡ false) → SeesLabels told → IsPrefix told.seen next.seen → IsEntry config (labels_of told.seen) e → length sessions + 1 ≤ max_docs
         → IsKept config next segments (waiting ++ e ∷ []) (sessions ++ session ∷ []) max_docs
@@ -52,7 +66,7 @@ module _ (config : Config) (labels : Shown (List (List ℕ))) (segments : List R
         record {
           note = note;
           list = list;
-          decoded = subst (Decodes (labels_of next.seen) config segments) (sym noted_docs) (decodes_stay config (labels_of labels.seen) (labels_of next.seen) kept.list list on segments (docs_in (labels_of labels.seen) segments) kept.decoded);
+          decoded = (kept_noted note).decoded;
           own = kept.own;
           entries = are_push config (labels_of next.seen) waiting e (entries_stay config (labels_of labels.seen) (labels_of next.seen) kept.list list on waiting kept.entries)
               (entries_stay config (labels_of told.seen) (labels_of next.seen) list_told list (seen_goes_on told.seen next.seen begins) (e ∷ []) (entry, tt)).0;
@@ -89,6 +103,10 @@ module _ (config : Config) (labels : Shown (List (List ℕ))) (segments : List R
   as_many = omega (arith, kept.each, length-append (docs_in (labels_of labels.seen) segments) (docs_of waiting), length-map waiting (λ (e : Entry). e.doc))
 
 -- ---- histories
+
+-- it stands for the same operations where its documents and their sessions are the same
+pub still_stands : (old new : Index) → new.docs ≡ old.docs → new.sessions ≡ old.sessions → (history : List Operation) → StandsFor old history → StandsFor new history
+still_stands old new docs_same sessions_same history stands = record { documents = docs_same ∙ stands.documents; numbers = sessions_same ∙ stands.numbers }
 
 zeros_of : (ds : List Doc) → replicate (length ds) 0 ≡ map (λ (o : Operation). o.session) (opened ds)
 zeros_of [] = refl

@@ -2,3 +2,4 @@ pub mod Keeping
 pub mod Crossing
 pub mod Counting
 mod Installing
+mod Placing

@@ -67,6 +67,23 @@ pub fn shared(alloc: Global, segments: &[Arc<Segment>]) -> Result<Vec<Arc<Segmen
     Ok(again)
 }
 
+/// The segments from one on once more, and how many documents those before it have.
+pub fn shared_from(
+    alloc: Global,
+    segments: &[Arc<Segment>],
+    first: usize,
+) -> Result<(Vec<Arc<Segment>>, u64), NoMemory>
+    requires within { first ≤ length segments.now }
+    requires few { length (records_in (map arc_value segments.now)) ≤ 1000000 }
+    ensures range { IfOk result (λ r. map arc_value r.0.items ≡ drop first (map arc_value segments.now)) }
+    ensures before { IfOk result (λ r. r.1 ≡ length (records_in (take first (map arc_value segments.now)))) }
+{
+    let (front, range) = segments.split_at(first);
+    let before = count_documents(front) as u64;
+    let again = shared(alloc, range)?;
+    Ok((again, before))
+}
+
 /// Returns how many documents these segments have, without those that are not live.
 pub fn count_documents(segments: &[Arc<Segment>]) -> usize
     requires { length (records_in (map arc_value segments.now)) ≤ 1000000 }

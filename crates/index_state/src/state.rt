@@ -3,20 +3,27 @@ ghost use Rattle.std.specs.Arc.{arc_value};
 ghost use mathlib.Core.List.{IsPrefix};
 ghost use Rattle.facet_model.specs.Histories.{Operation as Added};
 ghost use Rattle.facet_model.specs.Stored.{Decodes};
-ghost use Rattle.chronicle.specs.Shown.{IsNoteOf};
+ghost use Rattle.chronicle.specs.Shown.{IsNoteOf, SameToken, SeesOn};
 ghost use Rattle.seg_grammar.specs.Spelling.{IsSegment, seg_bytes};
+ghost use Rattle.seg_documents.specs.Decoding.{records_in};
 ghost use Rattle.seg_documents.specs.Entries.{IsEntry};
+ghost use Rattle.merge_policy.specs.Tiers.{first_small};
 ghost use Rattle.taxo_cache.specs.Seen.{labels_of, SeesLabels};
 ghost use Rattle.index_state.specs.Index.{StandsFor, StandsForMore, opened, docs_under, DecodeUnder, AreOwn, IsAppended, IsFlushed};
+ghost use Rattle.index_state.specs.Merging.{live_sizes, ComeAfter, IsRangeOf, HasNoPlace, IsInstalled};
 ghost use Rattle.index_state.specs.declared.fault.AppendFault.TheVariants.{DocsFull, NoMemory as Memory};
 
 use crate::fault::AppendFault;
-use crate::flushing::{count_documents, flush, put_merged, shared, zeros};
+use crate::flushing::{count_documents, flush, put_merged, shared, shared_from, zeros};
+use crate::merging::{live_sizes, merge_segments};
 use crate::operation::Operation;
+use crate::places::find_range;
+use crate::range::SegmentRange;
 use crate::view::IndexView;
 use chronicle::{Chronicle, Standing, Token};
 use facet_config::FacetsConfig;
 use facet_names::{NoMemory, Path};
+use merge_policy::merge_from;
 use seg_file::{Entry, Segment};
 use std::alloc::Global;
 use std::hash::RandomState;
@@ -209,10 +216,142 @@ impl IndexState {
         put_merged(&mut self.segments, first, count, merged);
     }
 
+    /// Returns the first segment that [`merge_from`] names: it becomes one with all segments after it. Where none is to be merged, it returns how many
+    /// segments there are. A segment's size is the number of its live documents.
+    ///
+    /// It goes over the list of segments once, and takes four bytes of memory for each.
+    pub fn first_to_merge(&self) -> Result<usize, NoMemory>
+        ensures first { IfOk result (λ n. n ≡ first_small (live_sizes self.now.segments)) }
+        ensures within { IfOk result (λ n. n ≤ length self.now.segments) }
+    {
+        let sizes = live_sizes(self.alloc, &self.segments)?;
+        Ok(merge_from(&sizes))
+    }
+
+    /// Shares the segments from `first` on, so that they can be merged outside the index's turn. The index stays as it is.
+    ///
+    /// No segment is copied; it takes eight bytes of memory for each.
+    pub fn segments_from(
+        &mut self,
+        chronicle: &Chronicle<LabelList>,
+        first: usize,
+    ) -> Result<SegmentRange, NoMemory>
+        requires own { self.old.labels.identity ≡ chronicle.now }
+        requires within { first ≤ length self.old.segments }
+        ensures index { self.new ≡ self.old }
+        ensures range { IfOk result (λ r. IsRangeOf self.old first r.labels r.before (map arc_value r.segments.items)) }
+    {
+        let (segments, before) = shared_from(self.alloc, &self.segments, first)?;
+        Ok(SegmentRange {
+            segments,
+            before,
+            labels: chronicle.note(&mut self.labels),
+        })
+    }
+
+    // Notes the labels that another note has seen as well.
+    fn note_labels(&mut self, chronicle: &Chronicle<LabelList>, labels: Token<Path>)
+        requires own { (self.old.labels.identity ≡ chronicle.now) × (labels.identity ≡ chronicle.now) }
+        requires idle { labels.holds_turn ≡ false }
+        requires list { SeesLabels labels }
+        ensures rest { self.new ≡ record self.old { labels = self.new.labels } }
+        ensures same { SameToken self.old.labels self.new.labels }
+        ensures more { SeesOn self.old.labels self.new.labels }
+        ensures noted { IsPrefix labels.seen self.new.labels.seen }
+        ensures list { SeesLabels self.new.labels }
+    {
+        chronicle.meet(&mut self.labels, labels);
+    }
+
+    // Puts a merged segment in the place of the neighbours that have as many documents, with `before` documents before theirs, where there are such neighbours.
+    fn install_at(&mut self, before: u64, merged: Arc<Segment>) -> bool
+        requires decodes { DecodeUnder self.old.labels self.old.config (arc_value merged ∷ []) }
+        requires docs { ComeAfter before (docs_under self.old.labels (arc_value merged ∷ [])) self.old.docs }
+        requires own { IsSegment (seg_bytes (arc_value merged)) (arc_value merged) }
+        ensures rest { self.new ≡ record self.old { segments = self.new.segments } }
+        ensures installed { result ≡ true → IsInstalled before (arc_value merged) self.old.segments self.new.segments }
+        ensures none { result ≡ false → (self.new.segments ≡ self.old.segments) × HasNoPlace before (length (records_in (arc_value merged ∷ []))) self.old.segments }
+    {
+        let many = merged.live() as u64;
+        let place = find_range(self.segments(), before, many);
+        match place {
+            Some((first, count)) => {
+                self.install_merged(first, count, merged);
+                true
+            }
+            None => false,
+        }
+    }
+
+    /// Puts a merged segment in the place of the segments that it was merged of, which were shared in an earlier turn, and returns whether it did. `before` and
+    /// `labels` are those of their [`SegmentRange`]: the documents of the merged segment come after `before` others among all.
+    ///
+    /// The place is found by the number of documents. The history only grows, so neighbours that have as many documents, with as many before theirs, have the
+    /// same documents. Where the list was cut otherwise in between, as another merge does, there may be none: then the segments stay. All documents, and the
+    /// operations that the index stands for, stay in either case; the labels that `labels` has seen are noted.
+    ///
+    /// It goes over the list of segments a few times. It reads no segment, compares no bytes and takes no memory.
+    pub fn try_install(
+        &mut self,
+        chronicle: &Chronicle<LabelList>,
+        before: u64,
+        labels: Token<Path>,
+        merged: Arc<Segment>,
+    ) -> bool
+        requires own { (self.old.labels.identity ≡ chronicle.now) × (labels.identity ≡ chronicle.now) }
+        requires idle { labels.holds_turn ≡ false }
+        requires list { SeesLabels labels }
+        requires decodes { DecodeUnder labels self.old.config (arc_value merged ∷ []) }
+        requires docs { ComeAfter before (docs_under labels (arc_value merged ∷ [])) self.old.docs }
+        requires read { IsSegment (seg_bytes (arc_value merged)) (arc_value merged) }
+        ensures rest { self.new ≡ record self.old { segments = self.new.segments; labels = self.new.labels } }
+        ensures same { SameToken self.old.labels self.new.labels }
+        ensures more { SeesOn self.old.labels self.new.labels }
+        ensures noted { IsPrefix labels.seen self.new.labels.seen }
+        ensures installed { result ≡ true → IsInstalled before (arc_value merged) self.old.segments self.new.segments }
+        ensures none { result ≡ false → (self.new.segments ≡ self.old.segments) × HasNoPlace before (length (records_in (arc_value merged ∷ []))) self.old.segments }
+        ensures stands { (history : List Added) → StandsFor self.old history → StandsFor self.new history }
+    {
+        self.note_labels(chronicle, labels);
+        self.install_at(before, merged)
+    }
+
+    // One segment of the documents of all segments.
+    fn merged(&self) -> Result<Arc<Segment>, NoMemory>
+        requires some { 0 < length self.now.segments }
+        ensures decodes { IfOk result (λ m. DecodeUnder self.now.labels self.now.config (arc_value m ∷ [])) }
+        ensures same { IfOk result (λ m. docs_under self.now.labels (arc_value m ∷ []) ≡ docs_under self.now.labels self.now.segments) }
+        ensures own { IfOk result (λ m. IsSegment (seg_bytes (arc_value m)) (arc_value m)) }
+    {
+        merge_segments(self.alloc, self.keys, &self.segments)
+    }
+
+    /// Turns the documents that wait into a segment, and then all segments into one. All documents, and the operations that the index stands for, stay. Where
+    /// memory is short, the documents that waited may have become a segment, and nothing else has changed.
+    ///
+    /// It costs what [`merge_segments`] costs. Whoever waits for the index's turn waits for all of it: to merge outside the turn, use
+    /// [`segments_from`](IndexState::segments_from) and [`try_install`](IndexState::try_install).
+    pub fn merge(&mut self) -> Result<(), NoMemory>
+        ensures rest { self.new ≡ record self.old { segments = self.new.segments; waiting = self.new.waiting } }
+        ensures one { OnOk result ((self.new.waiting ≡ 0) × (length self.new.segments ≤ 1)) }
+        ensures failed { OnErr result ((self.new ≡ self.old) ⊎ IsFlushed self.old self.new) }
+        ensures stands { (history : List Added) → StandsFor self.old history → StandsFor self.new history }
+    {
+        let _ = self.flush()?;
+        let count = self.segments().len();
+        if count < 2 {
+            return Ok(());
+        }
+        let merged = self.merged()?;
+        self.install_merged(0, count, merged);
+        Ok(())
+    }
+
     /// Returns the segments of all documents except those that wait.
     pub fn segments(&self) -> &[Arc<Segment>]
         ensures segments { map arc_value result.now ≡ self.now.segments }
         ensures docs { self.now.waiting ≡ 0 → docs_under self.now.labels self.now.segments ≡ self.now.docs }
+        ensures first { IsPrefix (docs_under self.now.labels self.now.segments) self.now.docs }
         ensures decodes { DecodeUnder self.now.labels self.now.config self.now.segments }
         ensures few { length (docs_under self.now.labels self.now.segments) ≤ 1000000 }
         ensures own { AreOwn self.now.segments }

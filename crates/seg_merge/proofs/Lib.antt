@@ -1,5 +1,5 @@
-mod Moved
+pub mod Moved
 mod Places
 mod Puts
 mod Built
-mod Standing
+pub mod Standing
