@@ -15,7 +15,7 @@ use Rattle.facet_model.specs.Results.{Listed, Answer, top_answer, value_answer, 
 use Rattle.facet_model.specs.Accepts.{no_component, not_hierarchical, not_multi_valued}
 use Rattle.facet_replies.specs.declared.fault.ScriptFault.{ScriptFault}
 use Rattle.facet_replies.specs.declared.fault.ScriptFault.TheVariants as faults
-use Rattle.facet_replies.specs.Replies.{broken, labels_full, docs_full, not_held, held_already, top_zero, dim_value_not_kept, no_such_document, disk_failed, closed, numbers_spent, no_memory, Reply, placed, numbered, found, shown, stats, refused}
+use Rattle.facet_replies.specs.Replies.{broken, labels_full, docs_full, not_held, held_already, top_zero, dim_value_not_kept, no_such_document, disk_failed, closed, numbers_spent, no_memory, Reply, placed, numbered, found, shown, stats, merged, refused}
 use Rattle.facet_replies.specs.ReplyLines.{with_fields, whole_data, path_data, child_data, listed_data, value_data, dims_data, answer_data, hit_data, reply_data, fault_data}
 use Rattle.facet_replies.specs.LastLine.{label_data, last_data}
 use Rattle.facet_replies.specs.NamedFaults.{detail_field, named_fault_data}
@@ -93,6 +93,7 @@ reply_plain session line (refused (closed count)) = refl
 reply_plain session line (refused (numbers_spent number)) = refl
 reply_plain session line (refused no_memory) = refl
 reply_plain session line (stats s) = refl
+reply_plain session line merged = refl
 
 pub summary_plain : (s : Summary) → has_float (summary_data s) ≡ false
 unfolding summary_data

@@ -47,4 +47,5 @@ pub data Reply : Type 0 where
   found : Found → Reply
   shown : Shown → Reply
   stats : Numbers → Reply
+  merged : Reply
   refused : Refusal → Reply

@@ -1,6 +1,6 @@
 -- The lines that replies, and the fault of a script, are written as.
-use Rattle.std.specs.Prelude.{ℕ, ℤ, List, [], ◌∷◌, ◌++◌, codes, map, Some, None}
-use Rattle.serde_json.specs.Data.{Data, null, number, string, array, object, unsigned, no_items, item, Members, no_members, put}
+use Rattle.std.specs.Prelude.{ℕ, ℤ, true, List, [], ◌∷◌, ◌++◌, codes, map, Some, None}
+use Rattle.serde_json.specs.Data.{Data, null, boolean, number, string, array, object, unsigned, no_items, item, Members, no_members, put}
 use Rattle.serde_json.specs.Find.{of_integer}
 use Rattle.serde_json.specs.View.{items_of}
 use Rattle.serde_json.specs.Written.{compact_text}
@@ -10,7 +10,7 @@ use Rattle.facet_model.specs.Listing.{PartCount}
 use Rattle.facet_model.specs.Results.{Listed, Answer, top_answer, value_answer, dims_answer}
 use Rattle.facet_replies.specs.declared.fault.ScriptFault.{ScriptFault}
 use Rattle.facet_replies.specs.declared.fault.ScriptFault.TheVariants as faults
-use Rattle.facet_replies.specs.Replies.{Refusal, broken, labels_full, docs_full, not_held, held_already, top_zero, dim_value_not_kept, no_such_document, disk_failed, closed, numbers_spent, no_memory, Reply, placed, numbered, found, shown, stats, refused}
+use Rattle.facet_replies.specs.Replies.{Refusal, broken, labels_full, docs_full, not_held, held_already, top_zero, dim_value_not_kept, no_such_document, disk_failed, closed, numbers_spent, no_memory, Reply, placed, numbered, found, shown, stats, merged, refused}
 
 -- keys with their values, in any order
 abbrev pub Fields : Type 0
@@ -94,6 +94,7 @@ reply_fields (numbered n) = (codes "n", whole_data n) ∷ []
 reply_fields (found f) = (codes "n", whole_data f.operations) ∷ (codes "hit_count", whole_data f.hit_count) ∷ (codes "hits", list_data hit_data f.hits) ∷ (codes "results", list_data answer_data f.answers) ∷ []
 reply_fields (shown s) = (codes "n", whole_data s.operations) ∷ (codes "at", whole_data s.at) ∷ document_fields s.doc s.ordinals
 reply_fields (stats s) = (codes "n", whole_data s.operations) ∷ (codes "labels", whole_data s.labels) ∷ (codes "documents", whole_data s.documents) ∷ []
+reply_fields merged = (codes "merged", boolean true) ∷ []
 reply_fields (refused r) = refusal_fields r
 
 unfoldable pub reply_data : ℕ → ℕ → Reply → Data

@@ -35,4 +35,5 @@ reply_view (replies.Number n) = plain.numbered n
 reply_view (replies.Found n hit_count hits results) = plain.found (record { operations = n; hit_count = hit_count; hits = map hit_view hits.items; answers = map answer_view results.items })
 reply_view (replies.Shown n at doc ordinals) = plain.shown (record { operations = n; at = at; doc = doc; ordinals = ordinals.items })
 reply_view (replies.Stats n labels documents) = plain.stats (record { operations = n; labels = labels; documents = documents })
+reply_view replies.Merged = plain.merged
 reply_view (replies.Refused r) = plain.refused (refusal_view r)

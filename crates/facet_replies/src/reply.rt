@@ -72,5 +72,7 @@ pub enum Reply {
         labels: u32,
         documents: u32,
     },
+    /// To a merge: all segments that it found are one now.
+    Merged,
     Refused(Refusal),
 }

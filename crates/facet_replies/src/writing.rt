@@ -140,6 +140,7 @@ fn put_reply(alloc: Global, fields: &mut Map<String, Value>, reply: &Reply) -> R
             labels,
             documents,
         } => Ok(put_stats(alloc, fields, *n, *labels, *documents)?),
+        Reply::Merged => Ok(put(fields, alloc, "merged", Value::from(true))?),
         Reply::Refused(refusal) => Ok(put_refusal(alloc, fields, *refusal)?),
     }
 }
