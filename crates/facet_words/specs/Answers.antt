@@ -8,8 +8,8 @@ use Rattle.facet_model.specs.Accepts.{Broken, first_broken}
 use Rattle.facet_model.specs.Asks.{Asked, AskFault, top_of_none, value_not_kept, ask_fault}
 use Rattle.facet_model.specs.Results.{Answer, IsAnswer}
 use Rattle.facet_model.specs.Hits.{hits, is_hit, docs_for}
-use Rattle.facet_words.specs.Commands.{Settings, Search, Command, add, refresh, search, document, stats, commit, Order}
-use Rattle.facet_replies.specs.Replies.{Refusal, broken, labels_full, docs_full, top_zero, dim_value_not_kept, no_such_document, disk_failed, closed, numbers_spent, no_memory, Reply, placed, numbered, found, shown, stats as numbers, refused}
+use Rattle.facet_words.specs.Commands.{Settings, Search, Command, add, refresh, search, document, stats, commit, merge, Order}
+use Rattle.facet_replies.specs.Replies.{Refusal, broken, labels_full, docs_full, top_zero, dim_value_not_kept, no_such_document, disk_failed, closed, numbers_spent, no_memory, Reply, placed, numbered, found, shown, stats as numbers, merged, refused}
 use Rattle.facet_replies.specs.ReplyLines.{reply_line}
 
 -- what a session works on: the labels with the root, the documents, how many documents and labels the last refresh took, and the disk's count of faults at which a commit failed, after which none is made
@@ -120,6 +120,7 @@ IsRight settings shelf (search s) reply next = IsFound settings.config shelf.tak
 IsRight settings shelf (document at) reply next = IsShown shelf at (slice_get (snapshot shelf) at) reply × (next ≡ shelf)
 IsRight settings shelf stats reply next = (reply ≡ numbers_of shelf) × (next ≡ shelf)
 IsRight settings shelf commit reply next = IsCommitted shelf shelf.closed reply next
+IsRight settings shelf merge reply next = (reply ≡ merged) × (next ≡ shelf)
 
 -- what a command leaves that found no memory
 abbrev pub IsLeft : Settings → Shelf → Command → Shelf → Type 0
@@ -129,6 +130,7 @@ IsLeft settings shelf (search s) next = next ≡ shelf
 IsLeft settings shelf (document at) next = next ≡ shelf
 IsLeft settings shelf stats next = ⊥
 IsLeft settings shelf commit next = next ≡ shelf
+IsLeft settings shelf merge next = next ≡ shelf
 
 -- it is right, or there was no memory
 abbrev pub RightReply : Settings → Shelf → Command → Reply → Shelf → Type 0

@@ -28,6 +28,7 @@ pub data Command : Type 0 where
   document : ℕ → Command
   stats : Command
   commit : Command
+  merge : Command
 
 -- a command with its session and its line
 pub record Order : Type 0 where

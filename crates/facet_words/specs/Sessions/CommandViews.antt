@@ -16,6 +16,7 @@ command_view (commands.Search on line) = plain.search on (search_view (box_value
 command_view (commands.Document on at) = plain.document on at
 command_view (commands.Stats on) = plain.stats on
 command_view commands.Commit = plain.commit
+command_view commands.Merge = plain.merge
 
 abbrev pub order_view : Order → plain.Order
 order_view o = record { session = o.session; line = o.line; command = command_view o.command }

@@ -3,7 +3,7 @@ use Rattle.std.specs.Prelude.{ℕ, if◌then◌else◌, List, [], ◌∷◌, cod
 use Rattle.std.specs.Str.{bytes_eq}
 use Rattle.serde_json.specs.Data.{Data}
 use Rattle.facet_words.specs.Orders.{added_of, search_with, place_with, plain_of, heading_of}
-use Rattle.facet_words.specs.Sessions.Commands.{Command, add, refresh, hold, release, search, document, stats, commit}
+use Rattle.facet_words.specs.Sessions.Commands.{Command, add, refresh, hold, release, search, document, stats, commit, merge}
 use Rattle.facet_words.specs.Shapes.{◌>>=◌, when, text_within, key, key_or, keys_among}
 
 -- a name to hold a pair under
@@ -46,7 +46,8 @@ command_named name d =
     else (if bytes_eq name (codes "document") then document_of d
     else (if bytes_eq name (codes "stats") then stats_of d
     else (if bytes_eq name (codes "commit") then plain_of commit d
-    else None)))))))
+    else (if bytes_eq name (codes "merge") then plain_of merge d
+    else None))))))))
 
 -- the session's number, and the command
 unfoldable pub command_of : Data → Option (ℕ × Command)

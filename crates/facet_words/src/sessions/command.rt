@@ -36,6 +36,8 @@ pub enum Command {
     },
     /// Makes everything that was added so far durable.
     Commit,
+    /// Merges the segments of the index into one. It changes no document, no label and no pair.
+    Merge,
 }
 
 /// A command with the number of its session, from 1 to 64, and of its line, from 1.

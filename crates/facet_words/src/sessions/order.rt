@@ -115,6 +115,7 @@ fn command_in(alloc: Global, name: &str, value: &Value) -> Result<Option<Command
         "document" => document_in(alloc, value),
         "stats" => stats_in(alloc, value),
         "commit" => Ok(plain_in(value, Command::Commit)),
+        "merge" => Ok(plain_in(value, Command::Merge)),
         _ => Ok(None),
     }
 }
