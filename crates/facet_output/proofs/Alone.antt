@@ -12,7 +12,7 @@ use Rattle.facet_model.specs.Accepts.{Broken, first_broken}
 use Rattle.facet_model.specs.Documents.{Doc}
 use Rattle.facet_model.specs.Histories.{knows}
 use Rattle.facet_words.specs.Commands.{Settings}
-use Rattle.facet_words.specs.Sessions.Commands.{Command, Order, add, refresh, hold, release, search, document, stats, commit}
+use Rattle.facet_words.specs.Sessions.Commands.{Command, Order, add, refresh, hold, release, search, document, stats, commit, merge}
 use Rattle.facet_output.specs.Held.{Held, held_after}
 use Rattle.facet_output.specs.OneSession.{LeavesFirst, AddLeaves, Leaves, AreExactLabels, OneSessionHasItsLabels, room, is_resolved}
 use Rattle.facet_output.specs.Output.{Opened}
@@ -164,6 +164,7 @@ module _ (settings : Settings) (phases : List (List Order)) (opened : Opened) (r
     leaves (document on at) reply enters right = left (document on at) enters (λ p e. absurd cc)
     leaves (stats on) reply enters right = left (stats on) enters (λ p e. absurd cc)
     leaves commit reply enters right = left commit enters (λ p e. absurd cc)
+    leaves merge reply enters right = left merge enters (λ p e. absurd cc)
 
     pub step_leaves : Leaves settings before x.answered.order.command x.answered.reply after
     step_leaves = leaves x.answered.order.command x.answered.reply entered_at (⊎_elim
@@ -179,6 +180,7 @@ module _ (settings : Settings) (phases : List (List Order)) (opened : Opened) (r
     refresh_left (document on at) reply n e enters = absurd cc
     refresh_left (stats on) reply n e enters = absurd cc
     refresh_left commit reply n e enters = absurd cc
+    refresh_left merge reply n e enters = absurd cc
 
   -- ---- all steps
 

@@ -8,7 +8,7 @@ use Rattle.facet_model.specs.Accepts.{Broken, first_broken}
 use Rattle.facet_model.specs.Documents.{Doc}
 use Rattle.facet_model.specs.Histories.{Operation, knows}
 use Rattle.facet_words.specs.Commands.{Settings}
-use Rattle.facet_words.specs.Sessions.Commands.{Command, Order, add, refresh, hold, release, search, document, stats, commit}
+use Rattle.facet_words.specs.Sessions.Commands.{Command, Order, add, refresh, hold, release, search, document, stats, commit, merge}
 use Rattle.facet_replies.specs.Replies.{Reply, refused, no_memory}
 use Rattle.facet_output.specs.Answered.{Answered, comes_after}
 use Rattle.facet_output.specs.Held.{Held}
@@ -46,6 +46,7 @@ full_size settings labels history held session took reply (search on s) says rig
 full_size settings labels history held session took reply (document on at) says right = absurd cc
 full_size settings labels history held session took reply (stats on) says right = absurd cc
 full_size settings labels history held session took reply commit says right = absurd cc
+full_size settings labels history held session took reply merge says right = absurd cc
 
 lacks_memory : (command : Command) (reply : Reply) → is_refused_for_labels command reply ≡ true → reply ≡ refused no_memory → ⊥
 lacks_memory command reply says e = by command (subst (λ (r : Reply). is_refused_for_labels command r ≡ true) e says)
@@ -59,6 +60,7 @@ lacks_memory command reply says e = by command (subst (λ (r : Reply). is_refuse
     by (document on at) h = cc
     by (stats on) h = cc
     by commit h = cc
+    by merge h = cc
 
 module _ (settings : Settings) (phases : List (List Order)) (opened : Opened) (ran : List (List Step)) (last : Seen) (all : AllRan settings phases opened ran last) where
   -- the first labels are the opened ones

@@ -10,7 +10,7 @@ use Rattle.facet_model.specs.Documents.{Doc}
 use Rattle.facet_model.specs.Histories.{Operation, knows}
 use Rattle.facet_words.specs.Commands.{Settings}
 use Rattle.facet_output.specs.Answered.{comes_after}
-use Rattle.facet_words.specs.Sessions.Commands.{Command, Order, add, refresh, hold, release, search, document, stats, commit}
+use Rattle.facet_words.specs.Sessions.Commands.{Command, Order, add, refresh, hold, release, search, document, stats, commit, merge}
 use Rattle.facet_output.specs.Held.{Held}
 use Rattle.facet_output.specs.Output.{Opened, has_shown, is_entered}
 use Rattle.facet_replies.specs.Replies.{Reply, refused, no_memory}
@@ -79,6 +79,7 @@ module _ (settings : Settings) (labels these : List (List (List ℕ))) (history 
   right_among (search on s) seen right = refl
   right_among (document on at) seen right = refl
   right_among commit seen right = refl
+  right_among merge seen right = refl
 
 lacks_among : (these : List (List (List ℕ))) (command : Command) → reply_among these command (refused no_memory) ≡ true
 lacks_among these (add doc) = refl
@@ -89,6 +90,7 @@ lacks_among these (release name) = refl
 lacks_among these (search on s) = refl
 lacks_among these (document on at) = refl
 lacks_among these commit = refl
+lacks_among these merge = refl
 
 module _ (settings : Settings) (phases : List (List Order)) (opened : Opened) (ran : List (List Step)) (last : Seen) (all : AllRan settings phases opened ran last) where
   -- what a step has shown is among the first labels, where what it has seen is

@@ -9,8 +9,8 @@ use Rattle.std.proofs.lemmas.List.Elements.{filter_map-append}
 use Rattle.facet_model.specs.Histories.{Operation}
 use Rattle.facet_model.specs.CoreStates.{is_same_pair}
 use Rattle.facet_words.specs.Commands.{Settings}
-use Rattle.facet_words.specs.Sessions.Commands.{Command, Order, add, refresh, hold, release, search, document, stats, commit}
-use Rattle.facet_replies.specs.Replies.{Reply, placed, numbered, found, shown, stats as numbers, refused}
+use Rattle.facet_words.specs.Sessions.Commands.{Command, Order, add, refresh, hold, release, search, document, stats, commit, merge}
+use Rattle.facet_replies.specs.Replies.{Reply, placed, numbered, found, shown, stats as numbers, merged, refused}
 use Rattle.facet_output.specs.Answered.{Answered, is_of, of_session, comes_after, may_come_after}
 use Rattle.facet_output.specs.OneSession.{after_placing, AreExact, OneSessionIsExact}
 use Rattle.facet_output.specs.Output.{Opened, IsOutput, is_fresh, has_source, is_newest, is_right_pair}
@@ -74,6 +74,7 @@ placed_shows session (add doc) (numbered n) p e = absurd cc
 placed_shows session (add doc) (found f) p e = absurd cc
 placed_shows session (add doc) (shown s) p e = absurd cc
 placed_shows session (add doc) (numbers s) p e = absurd cc
+placed_shows session (add doc) merged p e = absurd cc
 placed_shows session (add doc) (refused r) p e = absurd cc
 placed_shows session refresh reply p e = absurd cc
 placed_shows session (hold name) reply p e = absurd cc
@@ -82,6 +83,7 @@ placed_shows session (search on s) reply p e = absurd cc
 placed_shows session (document on at) reply p e = absurd cc
 placed_shows session (stats on) reply p e = absurd cc
 placed_shows session commit reply p e = absurd cc
+placed_shows session merge reply p e = absurd cc
 
 pub refreshed_stood : (command : Command) (reply : Reply) (n : ℕ) → refreshed_by command reply ≡ Some n → stood_by command reply ≡ Some n
 refreshed_stood refresh (numbered k) n e = e
@@ -89,6 +91,7 @@ refreshed_stood refresh (placed at) n e = absurd cc
 refreshed_stood refresh (found f) n e = absurd cc
 refreshed_stood refresh (shown s) n e = absurd cc
 refreshed_stood refresh (numbers s) n e = absurd cc
+refreshed_stood refresh merged n e = absurd cc
 refreshed_stood refresh (refused r) n e = absurd cc
 refreshed_stood (add doc) reply n e = absurd cc
 refreshed_stood (hold name) reply n e = absurd cc
@@ -97,6 +100,7 @@ refreshed_stood (search on s) reply n e = absurd cc
 refreshed_stood (document on at) reply n e = absurd cc
 refreshed_stood (stats on) reply n e = absurd cc
 refreshed_stood commit reply n e = absurd cc
+refreshed_stood merge reply n e = absurd cc
 
 other_way : (n m : ℕ) → eqb n m ≡ false → eqb m n ≡ false
 other_way n m no_match = ne_eqb m n (λ e. both_ways (eqb n m) no_match (eq-eqb n m (sym e)))

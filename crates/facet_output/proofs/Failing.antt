@@ -8,8 +8,8 @@ use Rattle.std.proofs.lemmas.List.Sums.{sum_by-cons}
 use mathlib.Core.List.{IsPrefix}
 use Rattle.facet_model.specs.Histories.{Operation}
 use Rattle.facet_words.specs.Commands.{Settings}
-use Rattle.facet_words.specs.Sessions.Commands.{Command, Order, add, refresh, hold, release, search, document, stats, commit}
-use Rattle.facet_replies.specs.Replies.{broken, labels_full, docs_full, not_held, held_already, top_zero, dim_value_not_kept, no_such_document, disk_failed, closed, numbers_spent, no_memory, Reply, placed, numbered, found, shown, stats as numbers, refused}
+use Rattle.facet_words.specs.Sessions.Commands.{Command, Order, add, refresh, hold, release, search, document, stats, commit, merge}
+use Rattle.facet_replies.specs.Replies.{broken, labels_full, docs_full, not_held, held_already, top_zero, dim_value_not_kept, no_such_document, disk_failed, closed, numbers_spent, no_memory, Reply, placed, numbered, found, shown, stats as numbers, merged, refused}
 use Rattle.facet_output.specs.Answered.{Answered, comes_after, may_come_after}
 use Rattle.facet_output.specs.Held.{Held}
 use Rattle.facet_output.specs.Output.{Opened, has_failure, is_last_commit}
@@ -59,6 +59,7 @@ failed_commit n least c (numbered k) old new e enters = absurd cc
 failed_commit n least c (found f) old new e enters = absurd cc
 failed_commit n least c (shown s) old new e enters = absurd cc
 failed_commit n least c (numbers s) old new e enters = absurd cc
+failed_commit n least c merged old new e enters = absurd cc
 failed_commit n least c (refused (broken b)) old new e enters = absurd cc
 failed_commit n least c (refused (labels_full k)) old new e enters = absurd cc
 failed_commit n least c (refused (docs_full k)) old new e enters = absurd cc
@@ -80,6 +81,7 @@ failed_point n least c (release name) reply old new e enters = absurd cc
 failed_point n least c (search on s) reply old new e enters = absurd cc
 failed_point n least c (document on at) reply old new e enters = absurd cc
 failed_point n least c (stats on) reply old new e enters = absurd cc
+failed_point n least c merge reply old new e enters = absurd cc
 
 closed_commit : (n least c : ℕ) (reply : Reply) (old new : Entries CommitPoint) → closed_in reply ≡ Some c → EntersCommit n least reply old new → (failures new ≡ c ∷ []) × (failed_in reply ≡ None)
 closed_commit n least c (refused (closed k)) old new e enters = (subst (λ (d : ℕ). failures new ≡ d ∷ []) (ap (λ o. unwrap_or o k) e) enters.1, refl)
@@ -88,6 +90,7 @@ closed_commit n least c (numbered k) old new e enters = absurd cc
 closed_commit n least c (found f) old new e enters = absurd cc
 closed_commit n least c (shown s) old new e enters = absurd cc
 closed_commit n least c (numbers s) old new e enters = absurd cc
+closed_commit n least c merged old new e enters = absurd cc
 closed_commit n least c (refused (broken b)) old new e enters = absurd cc
 closed_commit n least c (refused (labels_full k)) old new e enters = absurd cc
 closed_commit n least c (refused (docs_full k)) old new e enters = absurd cc
@@ -109,6 +112,7 @@ closed_points n least c (release name) reply old new e enters = absurd cc
 closed_points n least c (search on s) reply old new e enters = absurd cc
 closed_points n least c (document on at) reply old new e enters = absurd cc
 closed_points n least c (stats on) reply old new e enters = absurd cc
+closed_points n least c merge reply old new e enters = absurd cc
 
 -- ---- who entered a failed point
 
@@ -136,6 +140,7 @@ commit_entered n least c (placed j) old new k p enters ge at e = absurd (none_en
 commit_entered n least c (found f) old new k p enters ge at e = absurd (none_entered n old new k p enters ge at)
 commit_entered n least c (shown s) old new k p enters ge at e = absurd (none_entered n old new k p enters ge at)
 commit_entered n least c (numbers s) old new k p enters ge at e = absurd (none_entered n old new k p enters ge at)
+commit_entered n least c merged old new k p enters ge at e = absurd (none_entered n old new k p enters ge at)
 commit_entered n least c (refused (broken b)) old new k p enters ge at e = absurd (none_entered n old new k p enters ge at)
 commit_entered n least c (refused (labels_full d)) old new k p enters ge at e = absurd (none_entered n old new k p enters ge at)
 commit_entered n least c (refused (docs_full d)) old new k p enters ge at e = absurd (none_entered n old new k p enters ge at)
@@ -155,6 +160,7 @@ points_entered n least c (release name) reply old new k p enters ge at e = absur
 points_entered n least c (search on s) reply old new k p enters ge at e = absurd (none_entered n old new k p enters ge at)
 points_entered n least c (document on at') reply old new k p enters ge at e = absurd (none_entered n old new k p enters ge at)
 points_entered n least c (stats on) reply old new k p enters ge at e = absurd (none_entered n old new k p enters ge at)
+points_entered n least c merge reply old new k p enters ge at e = absurd (none_entered n old new k p enters ge at)
 
 -- ---- a commit that comes after a failure
 
@@ -340,6 +346,7 @@ module _ (settings : Settings) (phases : List (List Order)) (opened : Opened) (r
       by b was held (search on s) reply enters right = refl
       by b was held (document on at) reply enters right = refl
       by b was held (stats on) reply enters right = refl
+      by b was held merge reply enters right = refl
 
   tells : (a b : Step) → In a (steps_of ran) → In b (steps_of ran) → (c : ℕ) → failed a.answered ≡ Some c → comes_after b.answered a.answered ≡ true → tells_of_failure c b.answered.order.command b.answered.reply ≡ true
   tells a b there there' c e after =

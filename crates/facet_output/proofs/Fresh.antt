@@ -6,8 +6,8 @@ use Rattle.std.specs.Option.{option_map_or}
 use Rattle.std.proofs.lemmas.Bool.{and_from, le-leb}
 use Rattle.std.proofs.lemmas.List.{length-map}
 use Rattle.facet_words.specs.Commands.{Settings}
-use Rattle.facet_words.specs.Sessions.Commands.{Command, Order, add, refresh, hold, release, search, document, stats, commit}
-use Rattle.facet_replies.specs.Replies.{broken, labels_full, docs_full, not_held, held_already, top_zero, dim_value_not_kept, no_such_document, disk_failed, closed, numbers_spent, no_memory, Reply, placed, numbered, found, shown, stats as numbers, refused}
+use Rattle.facet_words.specs.Sessions.Commands.{Command, Order, add, refresh, hold, release, search, document, stats, commit, merge}
+use Rattle.facet_replies.specs.Replies.{broken, labels_full, docs_full, not_held, held_already, top_zero, dim_value_not_kept, no_such_document, disk_failed, closed, numbers_spent, no_memory, Reply, placed, numbered, found, shown, stats as numbers, merged, refused}
 use Rattle.facet_output.specs.Answered.{Answered, comes_after}
 use Rattle.facet_output.specs.Output.{Opened, is_fresh}
 use Rattle.facet_output.specs.Telling.{shows, stood, stood_at, stood_by}
@@ -34,6 +34,7 @@ stands_shown (numbered k) n e = let f : k ≡ n = cc in omega arith
 stands_shown (found f) n e = absurd cc
 stands_shown (shown s) n e = absurd cc
 stands_shown (numbers s) n e = absurd cc
+stands_shown merged n e = absurd cc
 stands_shown (refused (broken b)) n e = absurd cc
 stands_shown (refused (labels_full k)) n e = absurd cc
 stands_shown (refused (docs_full k)) n e = let f : k ≡ n = cc in omega arith
@@ -56,6 +57,7 @@ stood_shown (release name) reply n e = absurd cc
 stood_shown (search on s) reply n e = absurd cc
 stood_shown (document on at) reply n e = absurd cc
 stood_shown (stats on) reply n e = absurd cc
+stood_shown merge reply n e = absurd cc
 
 module _ (settings : Settings) (phases : List (List Order)) (opened : Opened) (ran : List (List Step)) (last : Seen) (all : AllRan settings phases opened ran last) where
   abbrev pub answers : List Answered

@@ -3,7 +3,7 @@ use Rattle.std.proofs.Common.{◌≡◌, inl, inr, ⊎_elim, ℕ, ◌+◌, ◌�
 use Rattle.std.specs.Prelude.{not, IfSome}
 use Rattle.std.specs.Str.{bytes_eq}
 use Rattle.facet_words.specs.Commands.{Settings}
-use Rattle.facet_words.specs.Sessions.Commands.{Command, add, refresh, hold, release, search, document, stats, commit}
+use Rattle.facet_words.specs.Sessions.Commands.{Command, add, refresh, hold, release, search, document, stats, commit, merge}
 use Rattle.facet_output.specs.Held.{Held, held_under, held_after, after_command, is_numbered}
 use Rattle.facet_output.specs.Replying.{pair_seen}
 use Rattle.facet_output.specs.Seen.{Seen, Sees, labels_of}
@@ -45,6 +45,7 @@ command_held (search on s) took held seen new within h there = within h there
 command_held (document on at) took held seen new within h there = within h there
 command_held (stats on) took held seen new within h there = within h there
 command_held commit took held seen new within h there = within h there
+command_held merge took held seen new within h there = within h there
 
 taken_in : (took : Option (ℕ × ℕ)) (x : Step) → IfSome took (λ pair. IsLastPair x.after pair × (refreshed x.answered ≡ None)) → IfSome took (λ pair. PairIn pair x.after)
 taken_in None x is = tt

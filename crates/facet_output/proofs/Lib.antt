@@ -30,5 +30,6 @@ pub mod Growing
 pub mod Alone
 pub mod Served
 pub mod Failed
+pub mod Merging
 pub mod Entering
 pub mod Places

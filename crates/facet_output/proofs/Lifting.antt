@@ -11,7 +11,7 @@ use Rattle.facet_model.specs.Documents.{Doc}
 use Rattle.facet_model.specs.Histories.{Operation, docs, knows}
 use Rattle.facet_model.proofs.Fronts.{weaker}
 use Rattle.facet_words.specs.Commands.{Settings}
-use Rattle.facet_words.specs.Sessions.Commands.{Command, Order, add, refresh, hold, release, search, document, stats, commit}
+use Rattle.facet_words.specs.Sessions.Commands.{Command, Order, add, refresh, hold, release, search, document, stats, commit, merge}
 use Rattle.facet_replies.specs.Replies.{Reply, stats as numbers}
 use Rattle.facet_output.specs.Answered.{Answered, of_session}
 use Rattle.facet_output.specs.Held.{Held, held_after}
@@ -94,6 +94,7 @@ module _ (settings : Settings) (labels all : List (List (List ℕ))) (history wh
   lifted (stats on) seen right = lifted_of (λ pair r. r ≡ numbers_of history pair) (λ pair r. r ≡ numbers_of whole pair)
       (pair_seen held took on) on (λ pair e r. r ∙ ap (λ ds. numbers (record { operations = pair.0; labels = pair.1; documents = length ds })) (same_docs pair (seen on pair e))) right
   lifted commit seen right = lifted_committed right
+  lifted merge seen right = right
 
 -- ---- the replies of a session
 

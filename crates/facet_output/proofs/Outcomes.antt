@@ -3,8 +3,8 @@ use Rattle.std.proofs.Common.{◌≡◌, inl, inr, ⊎_elim, ℕ, eqb, true, Lis
 use Rattle.std.specs.Prelude.{filter, filter_map, is_none, not, drop, unwrap_or, Result, Ok, Err}
 use Rattle.std.specs.List.{AllZip, cons_option}
 use Rattle.std.proofs.lemmas.Bool.{eq-eqb}
-use Rattle.facet_words.specs.Sessions.Commands.{Command, add, refresh, hold, release, search, document, stats, commit}
-use Rattle.facet_replies.specs.Replies.{broken, labels_full, docs_full, not_held, held_already, top_zero, dim_value_not_kept, no_such_document, disk_failed, closed, numbers_spent, no_memory, Reply, placed, numbered, found, shown, stats as numbers, refused}
+use Rattle.facet_words.specs.Sessions.Commands.{Command, add, refresh, hold, release, search, document, stats, commit, merge}
+use Rattle.facet_replies.specs.Replies.{broken, labels_full, docs_full, not_held, held_already, top_zero, dim_value_not_kept, no_such_document, disk_failed, closed, numbers_spent, no_memory, Reply, placed, numbered, found, shown, stats as numbers, merged, refused}
 use Rattle.facet_output.specs.Answered.{Answered, is_of, of_session}
 use Rattle.facet_output.specs.Commits.{HasPoints, HasItsLabels, commits_of, has_outcome, outcome, outcome_at, outcome_by, outcome_in, outcome_of}
 use Rattle.facet_output.specs.Output.{Opened, has_shown}
@@ -21,6 +21,7 @@ number_outcome (placed at) n e = absurd cc
 number_outcome (found f) n e = absurd cc
 number_outcome (shown s) n e = absurd cc
 number_outcome (numbers s) n e = absurd cc
+number_outcome merged n e = absurd cc
 number_outcome (refused r) n e = absurd cc
 
 count_outcome : (reply : Reply) (count : ℕ) → failed_in reply ≡ Some count → outcome_in reply ≡ Some (Err count)
@@ -30,6 +31,7 @@ count_outcome (numbered k) count e = absurd cc
 count_outcome (found f) count e = absurd cc
 count_outcome (shown s) count e = absurd cc
 count_outcome (numbers s) count e = absurd cc
+count_outcome merged count e = absurd cc
 count_outcome (refused (broken b)) count e = absurd cc
 count_outcome (refused (labels_full k)) count e = absurd cc
 count_outcome (refused (docs_full k)) count e = absurd cc
@@ -51,6 +53,7 @@ durable_outcome (release name) reply n e = absurd cc
 durable_outcome (search on s) reply n e = absurd cc
 durable_outcome (document on at) reply n e = absurd cc
 durable_outcome (stats on) reply n e = absurd cc
+durable_outcome merge reply n e = absurd cc
 
 failed_outcome : (command : Command) (reply : Reply) (count : ℕ) → failed_by command reply ≡ Some count → outcome_by command reply ≡ Some (Err count)
 failed_outcome commit reply count e = count_outcome reply count e
@@ -61,6 +64,7 @@ failed_outcome (release name) reply count e = absurd cc
 failed_outcome (search on s) reply count e = absurd cc
 failed_outcome (document on at) reply count e = absurd cc
 failed_outcome (stats on) reply count e = absurd cc
+failed_outcome merge reply count e = absurd cc
 
 of_ok : (operations : ℕ) (o : Option ℕ) (n : ℕ) → outcome_at operations o ≡ Ok n → (o ≡ None) × (operations ≡ n)
 of_ok operations None n e = (refl, cc)

@@ -9,8 +9,8 @@ use mathlib.Core.List.{IsPrefix}
 use Rattle.facet_model.specs.Documents.{Doc}
 use Rattle.facet_model.specs.Histories.{Operation}
 use Rattle.facet_words.specs.Commands.{Settings}
-use Rattle.facet_words.specs.Sessions.Commands.{Command, Order, add, refresh, hold, release, search, document, stats, commit}
-use Rattle.facet_replies.specs.Replies.{Reply, placed, numbered, found, shown, stats as numbers, refused}
+use Rattle.facet_words.specs.Sessions.Commands.{Command, Order, add, refresh, hold, release, search, document, stats, commit, merge}
+use Rattle.facet_replies.specs.Replies.{Reply, placed, numbered, found, shown, stats as numbers, merged, refused}
 use Rattle.facet_output.specs.Answered.{Answered, of_session, is_of}
 use Rattle.facet_output.specs.Held.{Held, held_after}
 use Rattle.facet_output.specs.Output.{Opened, opened_operations, opened_pair}
@@ -87,6 +87,7 @@ placed_session session (add doc) (numbered n) p e = absurd cc
 placed_session session (add doc) (found f) p e = absurd cc
 placed_session session (add doc) (shown s) p e = absurd cc
 placed_session session (add doc) (numbers s) p e = absurd cc
+placed_session session (add doc) merged p e = absurd cc
 placed_session session (add doc) (refused r) p e = absurd cc
 placed_session session refresh reply p e = absurd cc
 placed_session session (hold name) reply p e = absurd cc
@@ -95,6 +96,7 @@ placed_session session (search on s) reply p e = absurd cc
 placed_session session (document on at) reply p e = absurd cc
 placed_session session (stats on) reply p e = absurd cc
 placed_session session commit reply p e = absurd cc
+placed_session session merge reply p e = absurd cc
 
 entered_operation : (n : ℕ) (o : Option (ℕ × Operation)) (old new : Entries Doc) → ((p : ℕ × Operation) → o ≡ Some p → p.1.session ≡ n) → EntersOperation n o old new → owned n 0 new ≡ owned n 0 old ++ option_to_list o
 entered_operation n None old new own enters = owned_still n old new enters ∙ sym (append-nil (owned n 0 old))

@@ -2,8 +2,8 @@
 use Rattle.std.proofs.Common.{◌≡◌, ℕ, List, [], ◌∷◌, false, true, refl}
 use Rattle.std.specs.Prelude.{codes, Some, None}
 use Rattle.std.specs.List.{AllZip}
-use Rattle.facet_words.specs.Sessions.Commands.{add, refresh, commit}
-use Rattle.facet_replies.specs.Replies.{Reply, placed, numbered, refused, closed, disk_failed, no_memory, numbers_spent}
+use Rattle.facet_words.specs.Sessions.Commands.{add, refresh, commit, merge}
+use Rattle.facet_replies.specs.Replies.{Reply, placed, numbered, merged, refused, closed, disk_failed, no_memory, numbers_spent}
 use Rattle.facet_output.specs.Answered.{Answered}
 use Rattle.facet_output.specs.Commits.{HasPoints, HasItsLabels, commits_of, committed}
 use Rattle.facet_output.specs.Seen.{CommitPoint, Entries, Seen, opened_seen}
@@ -59,6 +59,9 @@ spent_entered number h = let e = h.exact 1 in cc
 
 refresh_entered : ¬ HasPoints empty_store (entered 1) (answer 2 refresh None (numbered 0) ∷ [])
 refresh_entered h = let e = h.exact 1 in cc
+
+merge_entered : ¬ HasPoints empty_store (entered 1) (answer 2 merge None merged ∷ [])
+merge_entered h = let e = h.exact 1 in cc
 
 -- the point of an acknowledged commit is another session's
 entered_by_another : ¬ HasPoints empty_store (entered 2) (one_order (numbered 0))

@@ -7,9 +7,9 @@ use Rattle.std.proofs.lemmas.List.{length-map, map-append, append_cancel_left}
 use Rattle.std.proofs.lemmas.List.Elements.{filter-append}
 use Rattle.std.proofs.lemmas.List.Sums.{sum_by-cons}
 use Rattle.facet_words.specs.Commands.{Settings}
-use Rattle.facet_words.specs.Sessions.Commands.{Command, Order, add, refresh, hold, release, search, document, stats, commit}
+use Rattle.facet_words.specs.Sessions.Commands.{Command, Order, add, refresh, hold, release, search, document, stats, commit, merge}
 use Rattle.facet_output.specs.Commits.{CommitsHavePoints, HasItsLabels, commits_of, committed, has_outcome, outcome, outcome_at, outcome_by, outcome_in, outcome_of}
-use Rattle.facet_replies.specs.Replies.{broken, labels_full, docs_full, not_held, held_already, top_zero, dim_value_not_kept, no_such_document, disk_failed, closed, numbers_spent, no_memory, Reply, placed, numbered, found, shown, stats as numbers, refused}
+use Rattle.facet_replies.specs.Replies.{broken, labels_full, docs_full, not_held, held_already, top_zero, dim_value_not_kept, no_such_document, disk_failed, closed, numbers_spent, no_memory, Reply, placed, numbered, found, shown, stats as numbers, merged, refused}
 use Rattle.facet_output.specs.Answered.{Answered, is_of, of_session}
 use Rattle.facet_output.specs.Held.{Held, held_after}
 use Rattle.facet_output.specs.Output.{Opened, has_shown}
@@ -65,6 +65,7 @@ commit_outcome n least (placed j) old new enters = none_more n old new enters
 commit_outcome n least (found f) old new enters = none_more n old new enters
 commit_outcome n least (shown s) old new enters = none_more n old new enters
 commit_outcome n least (numbers s) old new enters = none_more n old new enters
+commit_outcome n least merged old new enters = none_more n old new enters
 commit_outcome n least (refused (broken b)) old new enters = none_more n old new enters
 commit_outcome n least (refused (labels_full d)) old new enters = none_more n old new enters
 commit_outcome n least (refused (docs_full d)) old new enters = none_more n old new enters
@@ -84,6 +85,7 @@ points_outcome n least (release name) reply old new enters = none_more n old new
 points_outcome n least (search on s) reply old new enters = none_more n old new enters
 points_outcome n least (document on at) reply old new enters = none_more n old new enters
 points_outcome n least (stats on) reply old new enters = none_more n old new enters
+points_outcome n least merge reply old new enters = none_more n old new enters
 
 -- ---- what a session entered
 

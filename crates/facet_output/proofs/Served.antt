@@ -18,13 +18,13 @@ use Rattle.facet_words.specs.Answers.{Shelf, with_labels, hits_of, first_hits}
 use Rattle.facet_words.specs.Commands as words
 use Rattle.facet_words.specs.Commands.{Settings, Search}
 use Rattle.facet_output.specs.Answered.{Answered}
-use Rattle.facet_words.specs.Sessions.Commands.{Command, Order, add, refresh, search, document, stats, commit}
+use Rattle.facet_words.specs.Sessions.Commands.{Command, Order, add, refresh, search, document, stats, commit, merge}
 use Rattle.facet_output.specs.Held.{Held, held_after}
 use Rattle.facet_output.specs.OneSession.{AddLeaves, Leaves, LeavesFirst, room, is_resolved}
 use Rattle.facet_output.specs.OneShelf.{command_of, order_of, Served, OneSessionIsServed}
 use Rattle.facet_output.specs.Output.{Opened}
 use Rattle.facet_output.specs.OutputLines.{reply_lines}
-use Rattle.facet_replies.specs.Replies.{Refusal, broken, labels_full, docs_full, no_such_document, disk_failed, closed, numbers_spent, no_memory, Reply, placed, numbered, found, shown, stats as numbers, refused}
+use Rattle.facet_replies.specs.Replies.{Refusal, broken, labels_full, docs_full, no_such_document, disk_failed, closed, numbers_spent, no_memory, Reply, placed, numbered, found, shown, stats as numbers, merged, refused}
 use Rattle.facet_output.specs.Replying.{IsAdded, IsResolved, IsOf, IsFound, IsShown, IsRight, IsCommitted, Counts, docs_of, first_refused, numbers_of, takes_memory}
 use Rattle.facet_output.specs.Seen.{CommitPoint, Entries, Seen, Sees, IsTold, EntersNone, opened_seen, labels_of, history_of, failures}
 use Rattle.facet_output.specs.Sessions.{SessionRan, AllRan, steps_of, own_steps, is_by}
@@ -493,6 +493,17 @@ module _ (settings : Settings) (before after : Seen) (held : Held) (session : �
       lacks : IsTrue true × (reply ≡ refused no_memory) → Goes settings words.commit reply S after
       lacks l = record { told = refused no_memory; next = S; same = sym l.1; right = inr (refl, refl); fits = stays f.leaves f.operations f.pairs (enters (refused no_memory) l.1) }
 
+  -- ---- merge
+
+  merge_goes : (took : Option (ℕ × ℕ)) (reply : Reply) → Facts settings before after held session merge took reply → Goes settings words.merge reply S after
+  merge_goes took reply f = ⊎_elim merged_so lacks f.right
+    where
+      merged_so : reply ≡ merged → Goes settings words.merge reply S after
+      merged_so e = record { told = merged; next = S; same = sym e; right = inl (refl, refl); fits = stays f.leaves f.operations f.pairs f.commits }
+
+      lacks : IsTrue true × (reply ≡ refused no_memory) → Goes settings words.merge reply S after
+      lacks l = record { told = refused no_memory; next = S; same = sym l.1; right = inr (refl, refl); fits = stays f.leaves f.operations f.pairs f.commits }
+
   -- ---- each command
 
   goes : (c : words.Command) (took : Option (ℕ × ℕ)) (reply : Reply) → Facts settings before after held session (command_of c) took reply → Goes settings c reply S after
@@ -502,6 +513,7 @@ module _ (settings : Settings) (before after : Seen) (held : Held) (session : �
   goes (words.document at) took reply f = document_goes at took reply f
   goes words.stats took reply f = stats_goes took reply f
   goes words.commit took reply f = commit_goes took reply f
+  goes words.merge took reply f = merge_goes took reply f
 
 -- ---- all steps
 

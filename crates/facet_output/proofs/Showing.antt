@@ -6,7 +6,7 @@ use Rattle.facet_model.specs.Asks.{AskFault, top_of_none, value_not_kept}
 use Rattle.facet_model.specs.Documents.{Doc}
 use Rattle.facet_model.specs.Histories.{Operation, knows}
 use Rattle.facet_words.specs.Commands.{Settings, Search}
-use Rattle.facet_words.specs.Sessions.Commands.{Command, add, refresh, hold, release, search, document, stats, commit}
+use Rattle.facet_words.specs.Sessions.Commands.{Command, add, refresh, hold, release, search, document, stats, commit, merge}
 use Rattle.facet_replies.specs.Replies.{Reply, refused}
 use Rattle.facet_output.specs.Held.{Held, held_under}
 use Rattle.facet_output.specs.Replying.{IsAdded, IsResolved, IsOf, IsFound, IsShown, IsHold, IsRelease, IsRight, IsCommitted, Counts, pair_seen, docs_of, first_refused, ask_refusal, numbers_of}
@@ -72,6 +72,7 @@ module _ (settings : Settings) (labels : List (List (List ℕ))) (history : List
       (λ pair e is. shown_shows pair.0 (docs_of history pair) at (slice_get (docs_of history pair) at) (seen on pair e) is) right
   shows_by (stats on) seen right = of_pair (λ pair r. r ≡ numbers_of history pair) (pair_seen held took on) on (λ pair e is. let f = ap shows is in let l = seen on pair e in omega arith) right
   shows_by commit seen right = commit_shows right
+  shows_by merge seen right = let e = ap shows right in omega arith
 
 -- ---- of a step
 

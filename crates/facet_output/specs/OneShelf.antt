@@ -6,7 +6,7 @@ use Rattle.facet_words.specs.Answers.{Shelf, opened_shelf, RightReplies, reply_l
 use Rattle.facet_words.specs.Commands as words
 use Rattle.facet_words.specs.Commands.{Settings}
 use Rattle.facet_output.specs.Answered.{Answered}
-use Rattle.facet_words.specs.Sessions.Commands.{Command, add, refresh, search, document, stats, commit, Order}
+use Rattle.facet_words.specs.Sessions.Commands.{Command, add, refresh, search, document, stats, commit, merge, Order}
 use Rattle.facet_output.specs.Output.{Opened}
 use Rattle.facet_output.specs.OutputLines.{reply_lines}
 use Rattle.facet_replies.specs.Replies.{Reply}
@@ -24,6 +24,7 @@ command_of (words.search s) = search None s
 command_of (words.document at) = document None at
 command_of words.stats = stats None
 command_of words.commit = commit
+command_of words.merge = merge
 
 abbrev pub order_of : words.Order → Order
 order_of o = record { session = o.session; line = o.line; command = command_of o.command }

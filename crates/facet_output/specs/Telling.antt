@@ -8,7 +8,7 @@ use Rattle.facet_model.specs.Flags.{Config}
 use Rattle.facet_model.specs.Histories.{Operation, knows}
 use Rattle.facet_output.specs.Answered.{Answered}
 use Rattle.facet_words.specs.Sessions.Commands.{Command, add, refresh, stats, commit}
-use Rattle.facet_replies.specs.Replies.{Refusal, labels_full, docs_full, disk_failed, closed, no_memory, Reply, placed, numbered, found, shown, stats as numbers, refused}
+use Rattle.facet_replies.specs.Replies.{Refusal, labels_full, docs_full, disk_failed, closed, no_memory, Reply, placed, numbered, found, shown, stats as numbers, merged, refused}
 
 -- ---- labels
 
@@ -75,6 +75,7 @@ shows (numbered n) = n
 shows (found f) = f.operations
 shows (shown s) = s.operations
 shows (numbers s) = s.operations
+shows merged = 0
 shows (refused (docs_full n)) = n
 shows (refused _) = 0
 
