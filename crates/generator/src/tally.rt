@@ -59,6 +59,7 @@ fn tally_of(reply: Reply) -> Tally
             labels,
             documents,
         } => tally.sizes = Some(Sizes { documents, labels }),
+        Reply::Merged => {}
         Reply::Refused(refusal) => {
             tally.uncommitted = leaves_uncommitted(refusal);
             tally.starved = is_no_memory(refusal);
