@@ -78,7 +78,7 @@ def is_command(name):
 def is_config(value):
     limits = {"max_docs": 1000000, "max_labels": 1000000, "stripes": 64, "cache": 65536}
     free = {key: lambda number, most=most: is_whole(number, 1, most) for key, most in limits.items()}
-    return is_object(value, {"cmd": is_command("config")}, {"dims": are_dimensions, **free})
+    return is_object(value, {"cmd": is_command("config")}, {"dims": are_dimensions, "auto_merge": is_truth, **free})
 
 
 # the keys of each command besides `cmd` and `s`: those that are due, and those that may be left out

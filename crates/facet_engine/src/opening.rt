@@ -156,6 +156,7 @@ fn open_manager<N: Name>(
         max_labels,
         stripes,
         cache,
+        ..
     } = settings;
     let config = Arc::new(alloc, config)?;
     let shared = Arc::try_clone(&config)?;

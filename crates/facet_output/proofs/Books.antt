@@ -22,7 +22,7 @@ use Rattle.facet_output.proofs.Samples.{empty_store, order, answer, answer_at, b
 use Rattle.facet_output.proofs.Tested.{children_so}
 
 abbrev settings : Settings
-settings = record { config = (codes "Publish Date", record { hierarchical = true; multi_valued = false; require_dim_count = false }) ∷ []; max_docs = 1000000; max_labels = 1000000; stripes = 16; cache = 4096 }
+settings = record { config = (codes "Publish Date", record { hierarchical = true; multi_valued = false; require_dim_count = false }) ∷ []; max_docs = 1000000; max_labels = 1000000; stripes = 16; cache = 4096; auto_merge = false }
 
 abbrev date : List (List ℕ) → List (List ℕ)
 date parts = codes "Publish Date" ∷ parts

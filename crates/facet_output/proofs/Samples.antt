@@ -16,7 +16,7 @@ abbrev pub empty_store : Opened
 empty_store = record { labels = [] ∷ []; docs = [] }
 
 abbrev pub plain_settings : Settings
-plain_settings = record { config = []; max_docs = 1000000; max_labels = 1000000; stripes = 16; cache = 4096 }
+plain_settings = record { config = []; max_docs = 1000000; max_labels = 1000000; stripes = 16; cache = 4096; auto_merge = false }
 
 -- an order of session 1
 abbrev pub order : ℕ → Command → Order

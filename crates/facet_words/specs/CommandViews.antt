@@ -10,4 +10,4 @@ abbrev pub search_view : SearchLine → plain.Search
 search_view s = record { query = query_view s.query; drill = s.drill; sideways = s.sideways; asks = map ask_view s.asks.items; hits = s.hits }
 
 abbrev pub settings_view : Settings → plain.Settings
-settings_view s = record { config = s.config; max_docs = s.max_docs; max_labels = s.max_labels; stripes = s.stripes; cache = s.cache }
+settings_view s = record { config = s.config; max_docs = s.max_docs; max_labels = s.max_labels; stripes = s.stripes; cache = s.cache; auto_merge = s.auto_merge }

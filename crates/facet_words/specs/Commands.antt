@@ -12,6 +12,8 @@ pub record Settings : Type 0 where
   pub max_labels : ℕ
   pub stripes : ℕ
   pub cache : ℕ
+  -- whether a refresh and a commit first merge segments, where there are too many
+  pub auto_merge : Bool
 
 -- What a search has to match and to be under, what it asks to be counted, and how many hits it lists. Sideways each dimension is counted as if the drill did not name it.
 pub record Search : Type 0 where

@@ -41,7 +41,9 @@ settings_of d = do
   max_labels ← key_or (codes "max_labels") 1000000 (whole_within 1 1000000) d
   stripes ← key_or (codes "stripes") 16 (whole_within 1 64) d
   cache ← key_or (codes "cache") 4096 (whole_within 1 65536) d
-  when (keys_among (codes "cmd" ∷ codes "dims" ∷ codes "max_docs" ∷ codes "max_labels" ∷ codes "stripes" ∷ codes "cache" ∷ []) d) (record { config = config; max_docs = max_docs; max_labels = max_labels; stripes = stripes; cache = cache })
+  auto_merge ← key_or (codes "auto_merge") false as_bool d
+  when (keys_among (codes "cmd" ∷ codes "dims" ∷ codes "max_docs" ∷ codes "max_labels" ∷ codes "stripes" ∷ codes "cache" ∷ codes "auto_merge" ∷ []) d)
+      (record { config = config; max_docs = max_docs; max_labels = max_labels; stripes = stripes; cache = cache; auto_merge = auto_merge })
 
 -- ---- the asks of a search
 

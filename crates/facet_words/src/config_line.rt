@@ -127,7 +127,15 @@ fn settings_in(
 {
     if !keys_among(
         value,
-        &["cmd", "dims", "max_docs", "max_labels", "stripes", "cache"],
+        &[
+            "cmd",
+            "dims",
+            "max_docs",
+            "max_labels",
+            "stripes",
+            "cache",
+            "auto_merge",
+        ],
     ) {
         return Ok(None);
     }
@@ -143,6 +151,9 @@ fn settings_in(
     let Some(cache) = whole_or(value, "cache", 4_096, 1, 65_536) else {
         return Ok(None);
     };
+    let Some(auto_merge) = flag_at(value, "auto_merge") else {
+        return Ok(None);
+    };
     let Some(config) = config_at(alloc, keys, value)? else {
         return Ok(None);
     };
@@ -152,6 +163,7 @@ fn settings_in(
         max_labels: max_labels as u32,
         stripes: stripes as u32,
         cache: cache as u32,
+        auto_merge,
     }))
 }
 

@@ -14,6 +14,8 @@ pub struct Settings {
     pub stripes: u32,
     /// The number of labels that each part holds: 1 to 65,536.
     pub cache: u32,
+    /// Whether a refresh and a commit first merge segments if there are too many. No reply depends on it.
+    pub auto_merge: bool,
     ghost some_docs: { 1 ≤ max_docs },
     ghost few_docs: { max_docs ≤ 1000000 },
     ghost some_labels: { 1 ≤ max_labels },

@@ -1,5 +1,5 @@
 -- The script of generated documents: they are added by sessions in turn, and then refreshed, committed and searched by the first session.
-use Rattle.std.specs.Prelude.{◌==◌, ◌+◌, ◌%◌, ◌++◌, ℕ, if◌then◌else◌, true, List, [], ◌∷◌, codes, map, None}
+use Rattle.std.specs.Prelude.{◌==◌, ◌+◌, ◌%◌, ◌++◌, ℕ, if◌then◌else◌, true, false, List, [], ◌∷◌, codes, map, None}
 use Rattle.std.specs.Fmt.{decimal}
 use Rattle.std.specs.List.{range_with_len}
 use Rattle.facet_model.specs.Asks.{Asked, top}
@@ -19,6 +19,7 @@ generated_settings = record {
   max_labels = 1000000;
   stripes = 16;
   cache = 4096;
+  auto_merge = false;
 }
 
 -- ---- the documents, by their numbers from 0

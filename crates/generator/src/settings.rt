@@ -51,5 +51,6 @@ pub(crate) fn settings(alloc: Global, keys: RandomState) -> Result<Settings, NoM
         max_labels: 1_000_000,
         stripes: 16,
         cache: 4_096,
+        auto_merge: false,
     })
 }

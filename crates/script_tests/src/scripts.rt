@@ -8,7 +8,7 @@ use test_keys::fixed_keys;
 
 // What is read of a script that sets all that may be set.
 const SHOP: &[u8] =
-    b"{\"cmd\":\"config\",\"max_docs\":7,\"max_labels\":8,\"stripes\":9,\"cache\":10,\"dims\":[{\"dim\":\"Tag\",\"multi_valued\":true}]}\n{\"s\":1,\"cmd\":\"search\",\"query\":{\"bool\":{\"must_not\":[{\"term\":\"a\"}]}},\"drill\":[[\"Tag\"]],\"sideways\":true,\"ask\":[{\"all\":3},{\"specific\":[\"Tag\",\"x\"]}]}\n{\"s\":1,\"cmd\":\"search\"}\n{\"cmd\":\"phase\"}\n{\"s\":1,\"cmd\":\"document\",\"at\":7}\n{\"s\":1,\"cmd\":\"stats\"}\n{\"s\":1,\"cmd\":\"commit\"}";
+    b"{\"cmd\":\"config\",\"max_docs\":7,\"max_labels\":8,\"stripes\":9,\"cache\":10,\"auto_merge\":true,\"dims\":[{\"dim\":\"Tag\",\"multi_valued\":true}]}\n{\"s\":1,\"cmd\":\"search\",\"query\":{\"bool\":{\"must_not\":[{\"term\":\"a\"}]}},\"drill\":[[\"Tag\"]],\"sideways\":true,\"ask\":[{\"all\":3},{\"specific\":[\"Tag\",\"x\"]}]}\n{\"s\":1,\"cmd\":\"search\"}\n{\"cmd\":\"phase\"}\n{\"s\":1,\"cmd\":\"document\",\"at\":7}\n{\"s\":1,\"cmd\":\"stats\"}\n{\"s\":1,\"cmd\":\"commit\"}";
 
 // How many queries each list of a boolean query has.
 fn lists(query: &Query) -> Option<(usize, usize, usize)> {
@@ -61,13 +61,14 @@ fn has_no_order(script: &Script) -> bool {
 // Whether these are the settings of a script without a key, which has no order.
 fn has_defaults(alloc: Global) -> Result<bool, Fail> {
     let script = read_script(alloc, fixed_keys()?, b"{\"cmd\":\"config\"}\n")?;
-    Ok(has_no_order(&script) && numbers(&script.settings) == (1_000_000, 1_000_000, 16, 4_096))
+    let numbers = numbers(&script.settings) == (1_000_000, 1_000_000, 16, 4_096);
+    Ok(has_no_order(&script) && numbers && !script.settings.auto_merge)
 }
 
 fn has_settings(script: &Script) -> bool {
     let tag = script.settings.config.flags("Tag");
     let flags = tag.multi_valued && !tag.hierarchical && !tag.require_dim_count;
-    flags && numbers(&script.settings) == (7, 8, 9, 10)
+    flags && numbers(&script.settings) == (7, 8, 9, 10) && script.settings.auto_merge
 }
 
 // The orders of the two phases.
