@@ -3,6 +3,7 @@
 
 mod lease;
 mod manager;
+mod merging;
 mod opening;
 mod pair;
 mod pass;

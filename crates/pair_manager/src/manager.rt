@@ -1,4 +1,4 @@
-ghost use Rattle.std.specs.Prelude.{◌≡◌, ◌≢◌, ◌≤◌, ◌++◌, ◌∷◌, [], false, true, ℕ, List, IfOk, IfErr, OnOk, OnErr, flat_map, length, map, take};
+ghost use Rattle.std.specs.Prelude.{◌≡◌, ◌≢◌, ◌<◌, ◌≤◌, ◌++◌, ◌∷◌, [], false, true, ℕ, List, IfOk, IfErr, OnOk, OnErr, flat_map, length, map, take};
 ghost use Rattle.std.specs.Arc.{arc_value};
 ghost use mathlib.Core.List.{IsPrefix};
 ghost use Rattle.facet_names.specs.Labels.{prefixes};
@@ -9,6 +9,8 @@ ghost use Rattle.facet_model.specs.Histories.{docs};
 ghost use Rattle.facet_model.specs.Stored.{Decodes};
 ghost use Rattle.chronicle.specs.History.{entries};
 ghost use Rattle.chronicle.specs.Shown.{mine, MayEnter, MayTake, SameToken, SeesOn, EntersBehind};
+ghost use Rattle.seg_grammar.specs.Spelling.{IsSegment, seg_bytes};
+ghost use Rattle.seg_documents.specs.Decoding.{records_in};
 ghost use Rattle.seg_documents.specs.Entries.{IsEntry};
 ghost use Rattle.taxo_cache.specs.Seen.{labels_of, SeesLabels};
 ghost use Rattle.taxo_list.specs.declared.fault.TaxoFault.TheVariants.{NoMemory as ListNoMemory};
@@ -20,8 +22,10 @@ ghost use Rattle.pair_manager.specs.Published.{ArePublications, publication_of, 
 ghost use Rattle.pair_manager.specs.Next.{Ends, GoOn, IsNext};
 ghost use Rattle.pair_manager.specs.Passes.{IsOf, IsFirst, SamePass, all_seen};
 ghost use Rattle.pair_manager.specs.Appended.{HasNoRoom, IsPlaced};
+ghost use Rattle.pair_manager.specs.Merging.{AreShared};
 
 use crate::lease::Lease;
+use crate::merging::{MergeScope, replace, share};
 use crate::opening::open_both;
 use crate::pair::Pair;
 use crate::pass::Pass;
@@ -31,7 +35,7 @@ use chronicle::{Chronicle, Token};
 use facet_config::FacetsConfig;
 use facet_model::Resolved;
 use facet_names::{NoMemory, Path};
-use index_state::{AppendFault, IndexState, IndexView, Operation};
+use index_state::{AppendFault, IndexState, IndexView, Operation, SegmentRange, merge_segments};
 use seg_file::{Entry, Segment};
 use std::alloc::Global;
 use std::hash::RandomState;
@@ -56,6 +60,7 @@ pub struct Stats {
 #[derive(Drop)]
 pub struct Manager<N: Name> {
     alloc: Global,
+    keys: RandomState,
     writer: TaxoWriter<N>,
     operations: Chronicle<IndexState>,
     pairs: Chronicle<PairState>,
@@ -104,6 +109,7 @@ impl<N: Name> Manager<N> {
         )?;
         let manager = Manager {
             alloc,
+            keys,
             writer,
             operations,
             pairs,
@@ -158,6 +164,117 @@ impl<N: Name> Manager<N> {
         let view = index.snapshot(self.writer.labels());
         self.operations.give(token, index);
         view
+    }
+
+    // The segments that are to be merged, as they are in the operations' turn, after the documents that wait have become a segment.
+    fn share_segments<R: Wait>(
+        &self,
+        rt: &R,
+        token: &mut Token<Operation>,
+        scope: MergeScope,
+    ) -> Result<SegmentRange, NoMemory>
+        requires own { token.old.identity ≡ self.now.operations }
+        requires idle { MayTake token.old }
+        requires tied { token.old.frame.identities ≡ self.now.writer.labels ∷ [] }
+        ensures token { SameToken token.old token.new × (token.new.holds_turn ≡ false) }
+        ensures more { SeesOn token.old token.new }
+        ensures shared { IfOk result (λ r. AreShared self.now.writer.labels token.new r.labels r.before (map arc_value r.segments.items)) }
+        ensures some { IfOk result (λ r. 0 < length r.segments.items → 0 < length (records_in (map arc_value r.segments.items))) }
+    {
+        let mut index = self.operations.take(rt, token);
+        let range = share(&mut index, self.writer.labels(), scope);
+        self.operations.give(token, index);
+        range
+    }
+
+    // Replaces segments that were shared in an earlier turn by their merged one, in the operations' turn.
+    fn replace_segments<R: Wait>(
+        &self,
+        rt: &R,
+        token: &mut Token<Operation>,
+        before: u64,
+        labels: Token<Path>,
+        merged: Arc<Segment>,
+        scope: MergeScope,
+    ) -> Result<(), NoMemory>
+        requires own { token.old.identity ≡ self.now.operations }
+        requires idle { MayTake token.old }
+        requires tied { token.old.frame.identities ≡ self.now.writer.labels ∷ [] }
+        requires note { labels.holds_turn ≡ false }
+        requires shared { AreShared self.now.writer.labels token.old labels before (arc_value merged ∷ []) }
+        requires read { IsSegment (seg_bytes (arc_value merged)) (arc_value merged) }
+        ensures token { SameToken token.old token.new × (token.new.holds_turn ≡ false) }
+        ensures more { SeesOn token.old token.new }
+    {
+        let mut index = self.operations.take(rt, token);
+        let done = replace(
+            &mut index,
+            self.writer.labels(),
+            before,
+            labels,
+            merged,
+            scope,
+        );
+        self.operations.give(token, index);
+        done
+    }
+
+    // Merges outside the turn, between one turn in which the segments are shared and one in which they are replaced.
+    fn merge_scope<R: Wait>(
+        &self,
+        rt: &R,
+        token: &mut Token<Operation>,
+        scope: MergeScope,
+    ) -> Result<(), NoMemory>
+        requires own { token.old.identity ≡ self.now.operations }
+        requires idle { MayTake token.old }
+        requires tied { token.old.frame.identities ≡ self.now.writer.labels ∷ [] }
+        ensures token { SameToken token.old token.new × (token.new.holds_turn ≡ false) }
+        ensures more { SeesOn token.old token.new }
+    {
+        let SegmentRange {
+            segments,
+            before,
+            labels,
+        } = self.share_segments(rt, token, scope)?;
+        if segments.len() < 2 {
+            return Ok(());
+        }
+        let merged = merge_segments(self.alloc, self.keys, &segments)?;
+        self.replace_segments(rt, token, before, labels, merged, scope)
+    }
+
+    /// Merges all segments into one. The documents that wait become a segment first. Documents and operations stay, and published pairs keep the segments that
+    /// they have. With fewer than two segments nothing changes.
+    ///
+    /// It waits twice for the operations' turn: to share the segments, and to put the merged one in their place. Between the two it merges, as
+    /// [`merge_segments`], and holds no turn: other sessions add and refresh meanwhile. What they add stays as further segments. Only where another merge came
+    /// between are all segments merged in the second turn, and then others wait for it. All old segments and the merged one are in memory together. Where memory
+    /// is short, the documents that waited may have become a segment, and nothing else has changed.
+    pub fn merge<R: Wait>(&self, rt: &R, token: &mut Token<Operation>) -> Result<(), NoMemory>
+        requires own { token.old.identity ≡ self.now.operations }
+        requires idle { MayTake token.old }
+        requires tied { token.old.frame.identities ≡ self.now.writer.labels ∷ [] }
+        ensures token { SameToken token.old token.new × (token.new.holds_turn ≡ false) }
+        ensures more { SeesOn token.old token.new }
+    {
+        self.merge_scope(rt, token, MergeScope::All)
+    }
+
+    /// Merges the segments that the policy names, as [`IndexState::first_to_merge`]: from the first that has less than a third of the documents after it. The
+    /// documents that wait become a segment first. Where the policy names none, nothing else changes.
+    ///
+    /// Called after each of many additions, it leaves few segments and moves each document a few times. It waits for the operations' turn and merges outside it,
+    /// as [`merge`](Manager::merge). Where another merge came between, it leaves the segments as they are and drops its own: adds of other sessions never wait
+    /// for a merge.
+    pub fn merge_few<R: Wait>(&self, rt: &R, token: &mut Token<Operation>) -> Result<(), NoMemory>
+        requires own { token.old.identity ≡ self.now.operations }
+        requires idle { MayTake token.old }
+        requires tied { token.old.frame.identities ≡ self.now.writer.labels ∷ [] }
+        ensures token { SameToken token.old token.new × (token.new.holds_turn ≡ false) }
+        ensures more { SeesOn token.old token.new }
+    {
+        self.merge_scope(rt, token, MergeScope::Policy)
     }
 
     /// Returns the ordinals of the prefixes of each path, as [`TaxoWriter::resolve_each`] does. Missing labels are added.

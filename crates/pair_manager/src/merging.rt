@@ -1,0 +1,79 @@
+//! The two turns of a merge: in the first, segments are shared; in the second, the merged one replaces them.
+ghost use Rattle.std.specs.Prelude.{◌≡◌, ◌≤◌, ℕ, false, [], ◌∷◌, List, IfOk, length, map};
+ghost use Rattle.std.specs.Arc.{arc_value};
+ghost use Rattle.facet_model.specs.Histories.{Operation as Added};
+ghost use Rattle.seg_grammar.specs.Spelling.{IsSegment, seg_bytes};
+ghost use Rattle.taxo_cache.specs.Seen.{SeesLabels};
+ghost use Rattle.index_state.specs.Index.{StandsFor, DecodeUnder, docs_under};
+ghost use Rattle.index_state.specs.Frames.{frame_of};
+ghost use Rattle.index_state.specs.Merging.{ComeAfter, IsRangeOf};
+
+use chronicle::{Chronicle, Token};
+use facet_names::{NoMemory, Path};
+use index_state::{IndexState, SegmentRange};
+use seg_file::Segment;
+use std::sync::Arc;
+use taxo_writer::LabelList;
+
+/// Which segments a merge makes one.
+#[derive(Clone, Copy)]
+pub(crate) enum MergeScope {
+    /// All segments.
+    All,
+    /// Those that the merge policy names.
+    Policy,
+}
+
+// The first segment that is merged.
+fn first_in(index: &IndexState, scope: MergeScope) -> Result<usize, NoMemory>
+    ensures { IfOk result (λ n. n ≤ length index.now.segments) }
+{
+    match scope {
+        MergeScope::All => Ok(0),
+        MergeScope::Policy => index.first_to_merge(),
+    }
+}
+
+/// Shares the segments that are to be merged. The documents that wait become a segment first, also where there is no memory for the rest.
+pub(crate) fn share(
+    index: &mut IndexState,
+    chronicle: &Chronicle<LabelList>,
+    scope: MergeScope,
+) -> Result<SegmentRange, NoMemory>
+    requires own { index.old.labels.identity ≡ chronicle.now }
+    ensures stands { (history : List Added) → StandsFor index.old history → StandsFor index.new history }
+    ensures frame { frame_of index.new ≡ frame_of index.old }
+    ensures range { IfOk result (λ r. (first : ℕ) × IsRangeOf index.new first r.labels r.before (map arc_value r.segments.items)) }
+{
+    index.flush()?;
+    let first = first_in(index, scope)?;
+    index.segments_from(chronicle, first)
+}
+
+/// Puts a merged segment in the place of those that were shared. Where these are no longer together, as another merge came between, all segments are merged in
+/// this turn if all were to be merged, and otherwise stay as they are.
+pub(crate) fn replace(
+    index: &mut IndexState,
+    chronicle: &Chronicle<LabelList>,
+    before: u64,
+    labels: Token<Path>,
+    merged: Arc<Segment>,
+    scope: MergeScope,
+) -> Result<(), NoMemory>
+    requires own { (index.old.labels.identity ≡ chronicle.now) × (labels.identity ≡ chronicle.now) }
+    requires idle { labels.holds_turn ≡ false }
+    requires list { SeesLabels labels }
+    requires decodes { DecodeUnder labels index.old.config (arc_value merged ∷ []) }
+    requires docs { ComeAfter before (docs_under labels (arc_value merged ∷ [])) index.old.docs }
+    requires read { IsSegment (seg_bytes (arc_value merged)) (arc_value merged) }
+    ensures stands { (history : List Added) → StandsFor index.old history → StandsFor index.new history }
+    ensures frame { frame_of index.new ≡ frame_of index.old }
+{
+    if index.try_install(chronicle, before, labels, merged) {
+        return Ok(());
+    }
+    match scope {
+        MergeScope::All => index.merge(),
+        MergeScope::Policy => Ok(()),
+    }
+}
