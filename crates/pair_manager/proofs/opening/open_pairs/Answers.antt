@@ -1,7 +1,6 @@
 use Rattle.std.proofs.Common.{rules, ◌≡◌, ◌∙◌, ◌∷◌, [], ℕ, List, ap, sym, subst}
 use Rattle.std.proofs.lemmas.Result.{IfOk-weaker}
 use Rattle.facet_model.specs.Histories.{Operation}
-use Rattle.chronicle.specs.History.{entries}
 use Rattle.pair_manager.specs.declared.publication.Publication.{Publication}
 use Rattle.pair_manager.specs.Published.{Published, ArePublications, StandsFor, publication_of}
 use Rattle.pair_manager.proofs.Publishing.{stands_first}

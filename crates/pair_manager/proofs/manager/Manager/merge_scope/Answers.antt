@@ -1,4 +1,4 @@
-use Rattle.std.proofs.Common.{◌≡◌, ◌<◌, ◌∷◌, [], List, length, map, ap, sym, subst, arith}
+use Rattle.std.proofs.Common.{◌<◌, ◌∷◌, [], List, length, map, sym, subst, arith}
 use Rattle.std.specs.Arc.{arc_value}
 use Rattle.facet_names.proofs.LabelLists.{Labels}
 use Rattle.facet_model.specs.Documents.{Doc}

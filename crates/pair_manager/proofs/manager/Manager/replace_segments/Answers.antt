@@ -1,7 +1,6 @@
 use Rattle.std.proofs.Common.{◌∙◌, ◌∷◌, []}
 use Rattle.std.specs.Arc.{arc_value}
 use Rattle.chronicle.specs.History.{entries}
-use Rattle.pair_manager.proofs.Going.{same_on, sees_on}
 use Rattle.pair_manager.proofs.Sharing.{shared_on, index_decodes, index_after}
 use Rattle.pair_manager.proofs.manager.Manager.replace_segments.Goals as goal
 

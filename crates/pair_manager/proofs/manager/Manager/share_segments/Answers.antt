@@ -1,8 +1,7 @@
-use Rattle.std.proofs.Common.{◌≡◌, ◌∙◌, ◌∷◌, [], List, map, ap, arith}
+use Rattle.std.proofs.Common.{◌≡◌, ◌∙◌, ◌∷◌, [], map, ap, arith}
 use Rattle.std.proofs.lemmas.Result.{IfOk-weaker}
 use Rattle.std.specs.Arc.{arc_value}
 use Rattle.std.proofs.lemmas.List.{length-map}
-use Rattle.atomic_table.specs.Seated.{TableId}
 use Rattle.chronicle.specs.Frame.{Frame}
 use Rattle.chronicle.specs.History.{entries}
 use Rattle.pair_manager.proofs.Sharing.{shared_of}
