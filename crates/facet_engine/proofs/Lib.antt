@@ -1,5 +1,6 @@
 pub mod Seeing
 pub mod Refreshed
+pub mod Merged
 pub mod Committed
 pub mod Naming
 pub mod SeenPairs

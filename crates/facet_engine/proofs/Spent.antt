@@ -11,7 +11,7 @@ use Rattle.pair_manager.specs.declared.point.CommitPoint.{CommitPoint as Point}
 use Rattle.facet_output.specs.Replies.{Reply, refused, numbers_spent}
 use Rattle.facet_output.specs.Seen.{CommitPoint}
 use Rattle.facet_engine.specs.Calls.{SpendsWithin}
-use Rattle.facet_engine.specs.Replies.{add_reply, refresh_reply, hold_reply, release_reply, stats_reply, commit_reply}
+use Rattle.facet_engine.specs.Replies.{add_reply, refresh_reply, hold_reply, release_reply, stats_reply, commit_reply, merge_reply}
 use Rattle.pair_search.specs.Replies.{search_reply, document_reply}
 use Rattle.facet_engine.specs.Steps.{seen_of, point_of}
 use Rattle.facet_adding.specs.declared.adding.AddFault.{AddFault}
@@ -68,6 +68,10 @@ document_tells at (Err documents.NoMemory) number is = cc
 pub stats_tells : {E : Type 0} (result : Result Stats E) → TellsOfNone (stats_reply result)
 stats_tells (Ok s) number is = cc
 stats_tells (Err fault) number is = cc
+
+pub merge_tells : {E : Type 0} (result : Result (Unit {0}) E) → TellsOfNone (merge_reply result)
+merge_tells (Ok done) number is = cc
+merge_tells (Err fault) number is = cc
 
 -- what a commit says of them is said of its reply
 pub commit_spends : (old new : Pass) (result : Result ℕ CommitFault)

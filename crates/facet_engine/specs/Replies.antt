@@ -3,7 +3,7 @@ use Rattle.std.specs.Prelude.{ℕ, Result, Ok, Err}
 use Rattle.commit_plan.specs.declared.fault.CommitFault.{CommitFault}
 use Rattle.commit_plan.specs.declared.fault.CommitFault.TheVariants as commits
 use Rattle.facet_config.specs.Faults.{fault_view}
-use Rattle.facet_output.specs.Replies.{Reply, placed, numbered, stats, refused, broken, labels_full, docs_full, not_held, held_already, disk_failed, closed, numbers_spent, no_memory}
+use Rattle.facet_output.specs.Replies.{Reply, placed, numbered, stats, merged, refused, broken, labels_full, docs_full, not_held, held_already, disk_failed, closed, numbers_spent, no_memory}
 use Rattle.pair_manager.specs.declared.manager.Stats.{Stats}
 use Rattle.facet_adding.specs.declared.adding.AddFault.{AddFault}
 use Rattle.facet_adding.specs.declared.adding.AddFault.TheVariants as adds
@@ -42,3 +42,8 @@ commit_reply (Err (commits.Disk count)) = refused (disk_failed count)
 commit_reply (Err (commits.Closed count)) = refused (closed count)
 commit_reply (Err commits.NoMemory) = refused no_memory
 commit_reply (Err (commits.NumbersSpent number)) = refused (numbers_spent number)
+
+-- the only fault is want of memory
+abbrev pub merge_reply : {E : Type 0} → Result (Unit {0}) E → Reply
+merge_reply (Ok done) = merged
+merge_reply (Err fault) = refused no_memory

@@ -3,7 +3,7 @@ use Rattle.std.specs.Prelude.{◌-◌, ℕ, List, length, map, slice_get, Option
 use Rattle.chronicle.specs.History.{entries}
 use Rattle.commit_plan.specs.declared.fault.CommitFault.{CommitFault}
 use Rattle.facet_model.specs.Documents.{Doc}
-use Rattle.facet_output.specs.Commands.{Command, add, refresh, hold, release, search, document, stats, commit}
+use Rattle.facet_output.specs.Commands.{Command, add, refresh, hold, release, search, document, stats, commit, merge}
 use Rattle.facet_output.specs.Replies.{Reply, refused, no_memory}
 use Rattle.facet_output.specs.Seen.{CommitPoint, Seen}
 use Rattle.facet_output.specs.Steps.{Step}
@@ -18,7 +18,7 @@ use Rattle.pair_search.specs.declared.searching.SearchAnswer.{SearchAnswer}
 use Rattle.pair_search.specs.declared.searching.SearchFault.{SearchFault}
 use Rattle.pair_search.specs.declared.showing.DocumentFault.{DocumentFault}
 use Rattle.pair_search.specs.declared.showing.Shown.{Shown}
-use Rattle.facet_engine.specs.Replies.{add_reply, refresh_reply, hold_reply, release_reply, stats_reply, commit_reply}
+use Rattle.facet_engine.specs.Replies.{add_reply, refresh_reply, hold_reply, release_reply, stats_reply, commit_reply, merge_reply}
 use Rattle.pair_search.specs.Replies.{search_reply, document_reply}
 
 -- a point as the output's definitions have it
@@ -59,6 +59,10 @@ refreshed old new result = step_of refresh None (refresh_place (last_place new) 
 
 abbrev pub committed : Pass → Pass → Result ℕ CommitFault → ℕ → ℕ → Step
 committed old new result = step_of commit None None (commit_reply result) old new
+
+-- a merge takes no pair, and publishes none
+abbrev pub segments_merged : {E : Type 0} → Pass → Pass → Result (Unit {0}) E → ℕ → ℕ → Step
+segments_merged old new result = step_of merge None None (merge_reply result) old new
 
 -- ---- a pair is taken
 

@@ -6,7 +6,7 @@ ghost use Rattle.facet_words.specs.CommandViews.{search_view as line_view};
 ghost use Rattle.facet_words.specs.Sessions.CommandViews.{command_view};
 ghost use Rattle.facet_engine.specs.Calls.{IsCarriedOut};
 ghost use Rattle.facet_names.specs.Texts.{text_in};
-ghost use Rattle.facet_engine.specs.Replies.{add_reply, commit_reply, hold_reply, refresh_reply, release_reply, stats_reply};
+ghost use Rattle.facet_engine.specs.Replies.{add_reply, commit_reply, hold_reply, merge_reply, refresh_reply, release_reply, stats_reply};
 ghost use Rattle.pair_search.specs.Replies.{document_reply, search_reply};
 ghost use Rattle.pair_search.specs.Searches.{search_view};
 ghost use Rattle.facet_engine.specs.Systems.{BelongsTo};
@@ -144,6 +144,15 @@ fn committed(of: Result<u64, CommitFault>) -> Reply
     }
 }
 
+fn merged(of: Result<(), NoMemory>) -> Reply
+    ensures { reply_view result ≡ merge_reply of }
+{
+    match of {
+        Ok(()) => Reply::Merged,
+        Err(NoMemory) => refused(Refusal::NoMemory),
+    }
+}
+
 fn text_of(name: &Option<Word>) -> Option<&str>
     ensures { text_in result ≡ name.now }
 {
@@ -189,5 +198,6 @@ pub fn carry_out<D: Disk, N: Name + Start, R: Wait>(
         Command::Document { on, at } => shown(at, system.document(rt, session, text_of(&on), at)),
         Command::Stats { on } => counted(system.stats(rt, session, text_of(&on))),
         Command::Commit => committed(system.commit(rt, session)),
+        Command::Merge => merged(system.merge(rt, session)),
     }
 }

@@ -9,6 +9,7 @@ mod committing;
 mod ending;
 mod held;
 mod holding;
+mod merging;
 mod notes;
 mod opening;
 mod refreshing;

@@ -1,6 +1,6 @@
 use Rattle.std.proofs.Common.{◌∙◌, Option, None, List, ℕ, option_map, refl, sym, ap, subst}
 use Rattle.pair_manager.specs.declared.pass.Pass.{Pass}
-use Rattle.facet_output.specs.Commands.{Command, add, refresh, hold, release, search, document, stats, commit}
+use Rattle.facet_output.specs.Commands.{Command, add, refresh, hold, release, search, document, stats, commit, merge}
 use Rattle.facet_replies.specs.ReplyViews.{reply_view}
 use Rattle.facet_words.specs.Commands.{Search}
 use Rattle.facet_words.specs.CommandViews.{search_view as line_view}
@@ -9,11 +9,11 @@ use Rattle.facet_words.specs.declared.parts.SearchLine.{SearchLine}
 use Rattle.facet_engine.specs.Calls.{IsCall, IsCarriedOut}
 use Rattle.facet_names.specs.Texts.{text_in}
 use Rattle.pair_search.specs.Searches.{search_view}
-use Rattle.facet_engine.specs.Replies.{add_reply, refresh_reply, hold_reply, release_reply, stats_reply, commit_reply}
+use Rattle.facet_engine.specs.Replies.{add_reply, refresh_reply, hold_reply, release_reply, stats_reply, commit_reply, merge_reply}
 use Rattle.pair_search.specs.Replies.{search_reply, document_reply}
 use Rattle.facet_engine.specs.Steps.{step_of, last_place, refresh_place, hold_took, pair_taken}
 use Rattle.facet_engine.proofs.Carried.{carried, holds_still}
-use Rattle.facet_engine.proofs.Spent.{spends_none, add_tells, refresh_tells, hold_tells, release_tells, search_tells, document_tells, stats_tells}
+use Rattle.facet_engine.proofs.Spent.{spends_none, add_tells, refresh_tells, hold_tells, release_tells, search_tells, document_tells, stats_tells, merge_tells}
 use Rattle.facet_engine.proofs.carrying.carry_out.Goals as goal
 
 pub returns-in-Add : goal.returns-in-Add
@@ -111,3 +111,13 @@ returns-in-Commit g c =
     let reply = commit_reply c.commit.result in
     subst (λ (command : Command). IsCarriedOut engine old new command (reply_view c.committed.result)) (sym (ap command_view c.in-Commit.is))
     (carried engine old new commit None None reply (reply_view c.committed.result) c.committed.ensures e.same (holds_still engine old new commit None None reply refl e.held) e.step e.spent)
+
+pub returns-in-Merge : goal.returns-in-Merge
+returns-in-Merge g c =
+    let engine = c.args.system.now in
+    let old = c.args.session.now in
+    let new = c.merge.new.session in
+    let e = c.merge.ensures in
+    let reply = merge_reply c.merge.result in
+    subst (λ (command : Command). IsCarriedOut engine old new command (reply_view c.merged.result)) (sym (ap command_view c.in-Merge.is))
+    (carried engine old new merge None None reply (reply_view c.merged.result) c.merged.ensures e.same (holds_still engine old new merge None None reply refl e.held) e.step (spends_none old.pass new.pass reply (merge_tells c.merge.result)))
