@@ -89,6 +89,7 @@ COMMANDS = {
     ),
     "refresh": ({}, {}),
     "commit": ({}, {}),
+    "merge": ({}, {}),
     "hold": ({"name": is_name}, {}),
     "release": ({"name": is_name}, {}),
     "stats": ({}, {"on": is_name}),
