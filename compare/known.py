@@ -9,6 +9,7 @@ CONFIG = '{"cmd":"config"}'
 REFRESH = '{"s":1,"cmd":"refresh"}'
 COMMIT = '{"s":1,"cmd":"commit"}'
 STATS = '{"s":1,"cmd":"stats"}'
+MERGE = '{"s":1,"cmd":"merge"}'
 
 READ: list[tuple[str, dict | None]] = [
     ('{"cmd":"phase"}', None),
@@ -19,6 +20,8 @@ READ: list[tuple[str, dict | None]] = [
     ('{"s":1,"cmd":"document","on":"a","at":0}', None),
     ('{"s":1,"cmd":"stats","on":"a"}', None),
     ('{"s":1,"cmd":"stats","on":"' + "a" * 64 + '"}', None),
+    (MERGE, None),
+    ('{"s":64,"cmd":"merge"}', None),
     ('{"s":1,"cmd":"phase"}', {"fault": "bad_shape", "line": 2}),
     ('{"cmd":"phase","name":"a"}', {"fault": "bad_shape", "line": 2}),
     ('{"cmd":"config"}', {"fault": "bad_shape", "line": 2}),
@@ -34,6 +37,12 @@ READ: list[tuple[str, dict | None]] = [
     ('{"s":1,"cmd":"stats","name":"a"}', {"fault": "bad_shape", "line": 2}),
     ('{"s":1,"cmd":"refresh","on":"a"}', {"fault": "bad_shape", "line": 2}),
     ('{"s":1,"cmd":"commit","on":"a"}', {"fault": "bad_shape", "line": 2}),
+    ('{"cmd":"merge"}', {"fault": "bad_shape", "line": 2}),
+    ('{"s":1,"cmd":"merge","on":"a"}', {"fault": "bad_shape", "line": 2}),
+    ('{"s":1,"cmd":"merge","n":1}', {"fault": "bad_shape", "line": 2}),
+    ('{"s":1,"cmd":"merges"}', {"fault": "bad_shape", "line": 2}),
+    ('{"s":65,"cmd":"merge","n":1}', {"fault": "bad_shape", "line": 2}),
+    ('{"s":65,"cmd":"merge"}', {"fault": "bad_session", "line": 2}),
     ('{"s":1,"cmd":"add","id":"b","on":"a"}', {"fault": "bad_shape", "line": 2}),
     ('{"s":0,"cmd":"stats"}', {"fault": "bad_session", "line": 2}),
     ('{"s":65,"cmd":"stats"}', {"fault": "bad_session", "line": 2}),
@@ -41,6 +50,34 @@ READ: list[tuple[str, dict | None]] = [
     ('{"s":18446744073709551616,"cmd":"stats"}', {"fault": "bad_shape", "line": 2}),
     ('{"s":-1,"cmd":"stats"}', {"fault": "bad_shape", "line": 2}),
     ('{"s":65,"cmd":"hold","name":""}', {"fault": "bad_shape", "line": 2}),
+]
+
+# A config line, and its fault, or None.
+CONFIGS: list[tuple[str, dict | None]] = [
+    ('{"cmd":"config","auto_merge":true}', None),
+    ('{"cmd":"config","auto_merge":false}', None),
+    ('{"cmd":"config","auto_merge":1}', {"fault": "bad_shape", "line": 1}),
+    ('{"cmd":"config","auto_merge":"true"}', {"fault": "bad_shape", "line": 1}),
+    ('{"cmd":"config","auto_merge":null}', {"fault": "bad_shape", "line": 1}),
+    ('{"cmd":"config","Auto_merge":true}', {"fault": "bad_shape", "line": 1}),
+]
+
+# Where segments end, and where they end after the merge that `auto_merge` makes of them.
+TIERED: list[tuple[list[int], list[int]]] = [
+    ([], []),
+    ([1], [1]),
+    ([1, 2], [1, 2]),
+    ([1, 2, 3, 4], [1, 2, 3, 4]),
+    ([1, 2, 3, 4, 5], [5]),
+    ([5, 6, 7, 8, 9], [5, 6, 7, 8, 9]),
+    ([5, 6, 7, 8, 9, 10], [5, 10]),
+    ([5, 10, 15, 20], [5, 10, 15, 20]),
+    ([5, 10, 15, 20, 21], [21]),
+    ([10, 11, 15, 16], [10, 16]),
+    ([1, 5], [5]),
+    ([1, 4], [1, 4]),
+    ([100, 101, 102], [100, 101, 102]),
+    ([2, 102, 103], [103]),
 ]
 
 # Command-line arguments, and what they ask for: the directory, and how many documents are generated; or None for a usage error.
@@ -108,6 +145,27 @@ ALONE: list[tuple[str, list[str], list[str]]] = [
             '{"documents":0,"labels":1,"line":7,"n":0,"s":1}',
             '{"count":0,"line":8,"refused":"no_such_document","s":1}',
             '{"labels":[],"opened":[0,1],"order":[]}',
+        ],
+    ),
+    (
+        CONFIG,
+        [BOB, REFRESH, '{"s":1,"cmd":"hold","name":"a"}', LISA, REFRESH, '{"s":1,"cmd":"search","on":"a"}', MERGE, '{"s":1,"cmd":"search","on":"a"}']
+        + [REFRESH, '{"s":1,"cmd":"search"}', MERGE, '{"s":1,"cmd":"search","on":"a"}', COMMIT],
+        [
+            '{"at":0,"line":2,"s":1}',
+            '{"line":3,"n":1,"s":1}',
+            '{"line":4,"n":1,"s":1}',
+            '{"at":1,"line":5,"s":1}',
+            '{"line":6,"n":2,"s":1}',
+            '{"hit_count":1,"hits":[{"at":0,"id":"b1"}],"line":7,"n":1,"results":[],"s":1}',
+            '{"line":8,"merged":true,"s":1}',
+            '{"hit_count":1,"hits":[{"at":0,"id":"b1"}],"line":9,"n":1,"results":[],"s":1}',
+            '{"line":10,"n":2,"s":1}',
+            '{"hit_count":2,"hits":[{"at":0,"id":"b1"},{"at":1,"id":"b2"}],"line":11,"n":2,"results":[],"s":1}',
+            '{"line":12,"merged":true,"s":1}',
+            '{"hit_count":1,"hits":[{"at":0,"id":"b1"}],"line":13,"n":1,"results":[],"s":1}',
+            '{"line":14,"n":2,"s":1}',
+            '{"labels":[[0,"Author"],[1,"Bob"],[1,"Lisa"]],"opened":[0,1],"order":[1,1]}',
         ],
     ),
     (
@@ -299,6 +357,13 @@ JUDGED: list[tuple[str, list[str], list[str], str | None]] = [
     (CONFIG, NEXT_PHASE, next_phase(4), "entered"),
     # an add is refused for labels only where all of them may be there
     ('{"cmd":"config","max_labels":3}', [A % 1, '{"cmd":"phase"}', C % 1], filled('[[0,"C"],[1,"z"]]'), "full"),
+    # a merge shows nothing, and may run out of memory
+    (CONFIG, [MERGE], ['{"line":2,"merged":true,"s":1}', '{"labels":[],"opened":[0,1],"order":[]}'], None),
+    (CONFIG, [MERGE], ['{"line":2,"refused":"no_memory","s":1}', '{"labels":[],"opened":[0,1],"order":[]}'], None),
+    (CONFIG, [MERGE], ['{"line":2,"merged":false,"s":1}', '{"labels":[],"opened":[0,1],"order":[]}'], "replies"),
+    (CONFIG, [MERGE], ['{"line":2,"merged":true,"n":0,"s":1}', '{"labels":[],"opened":[0,1],"order":[]}'], "replies"),
+    (CONFIG, [MERGE], ['{"line":2,"n":0,"s":1}', '{"labels":[],"opened":[0,1],"order":[]}'], "replies"),
+    (CONFIG, [MERGE], ['{"count":1,"line":2,"refused":"closed","s":1}', '{"labels":[],"opened":[0,1],"order":[]}'], "replies"),
     (CONFIG, [STATS], ['{"line":2,"refused":"no_memory","s":1}', '{"labels":[],"opened":[0,1],"order":[]}'], "replies"),
     (CONFIG, [COMMIT], ['{"line":2,"number":9223372036854775808,"refused":"numbers_spent","s":1}', '{"labels":[],"opened":[0,1],"order":[]}'], None),
     (CONFIG, [COMMIT], ['{"line":2,"number":9223372036854775807,"refused":"numbers_spent","s":1}', '{"labels":[],"opened":[0,1],"order":[]}'], "replies"),

@@ -37,8 +37,11 @@ def dimensions(random):
     return [{"dim": dim, **{flag: random.random() < 0.7 for flag in FLAGS if random.random() < 0.6}} for dim in names]
 
 
-def config(random, dims):
+def config(random, dims, auto_merge=False):
+    """A config line. A store that merges by itself is now and then opened without that, and another one with it."""
     value = {"cmd": "config", "dims": dims}
+    if auto_merge or random.random() < 0.1:
+        value["auto_merge"] = auto_merge if random.random() < 0.9 else not auto_merge
     limits = {"max_docs": [1, 3, 10, 50], "max_labels": [1, 2, 5, 10, 30], "stripes": [1, 64], "cache": [1, 65536]}
     value.update({key: random.choice(numbers) for key, numbers in limits.items() if random.random() < 0.2})
     if not dims and random.random() < 0.5:
@@ -86,7 +89,7 @@ def order(random, number):
     if kind < 0.45:
         return add(random, number)
     if kind < 0.75:
-        return {"s": 1, "cmd": random.choice(["refresh", "refresh", "commit", "stats"])}
+        return {"s": 1, "cmd": random.choice(["refresh", "refresh", "refresh", "commit", "commit", "stats", "merge"])}
     if kind < 0.8:
         return {"s": 1, "cmd": "document", "at": random.choice([0, 1, 2, 5, number, 2**32 - 1])}
     return search(random)
@@ -170,7 +173,7 @@ EVERY = {"all": True}
 PATHS = [[], ["A"] * 32, ["A"] * 33, ["A", ""], ["A", "é" * 512], ["A", "é" * 513]]
 # values of a key at its limits and behind them
 LIMITS = {
-    "cmd": ["config", "add", "hold", "phase"],
+    "cmd": ["config", "add", "hold", "phase", "merge"],
     "s": [0, 1, 2, 64, 65, 2**64 - 1, 2**64, -1, 1.5],
     "id": ["", "x" * 256, "x" * 257, "é" * 128, "é" * 129],
     "text": ["", "x" * 65536, "x" * 65537],
@@ -194,6 +197,7 @@ LIMITS = {
     "max_labels": [0, 1, 1000000, 1000001],
     "stripes": [0, 1, 64, 65],
     "cache": [0, 1, 65536, 65537],
+    "auto_merge": [True, False, None, 0, 1, "true", []],
 }
 WRONG = [None, True, False, 0, 1, -1, 1.5, 1e2, 2**64, 10**30, "", "a", [], {}, [[]], [["a"]], [None], {"a": 1}, EVERY, {"all": 1}, {"term": "a"}]
 KEYS = list(LIMITS) + ["sideways", "must", "hierarchical", ""]

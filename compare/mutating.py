@@ -335,6 +335,14 @@ def too_many_labels(output: Output) -> bool:
     return True
 
 
+def another_merge(output: Output) -> bool:
+    place = output.pick("merge", "merged")
+    if place is None:
+        return False
+    output.answer(place, output.random.choice([{"merged": False}, {"merged": True, "n": output.count}, {"n": output.count}, {"refused": "closed", "count": 1}]))
+    return True
+
+
 def exchanged_replies(output: Output) -> bool:
     if len(output.lines) < 2:
         return False
@@ -391,6 +399,7 @@ MUTATIONS: list[tuple[Callable[[Output], bool], set[str]]] = [
     (held_after_release, {"replies"}),
     (too_few_labels, {"publications", "replies"}),
     (too_many_labels, {"publications", "replies"}),
+    (another_merge, {"replies"}),
     (exchanged_replies, {"asked"}),
     (a_reply_missing, {"asked"}),
     (a_key_more, {"replies"}),

@@ -54,6 +54,14 @@ def number_of(name):
     return int(name.rsplit("-", 1)[1])
 
 
+def tiered(ends):
+    """Where segments end that ended at `ends`, once all from the first one on that has less than a third of the documents after it are one."""
+    for at, (start, end) in enumerate(zip([0, *ends], ends)):
+        if 3 * (end - start) < ends[-1] - end:
+            return ends[:at] + ends[-1:]
+    return ends
+
+
 class Session:
     """The files of a store, by their names, with what was read of them and added since."""
 
@@ -63,6 +71,7 @@ class Session:
         self.flags = {dim["dim"]: tuple(dim.get(name, False) for name in names) for dim in config.get("dims", [])}
         self.max_docs = config.get("max_docs", 1000000)
         self.max_labels = config.get("max_labels", 1000000)
+        self.auto_merge = config.get("auto_merge", False)
         self.labels = [()]
         self.documents = []
         # where the segments end, and how many documents and labels a search sees
@@ -203,8 +212,19 @@ class Session:
         if len(self.documents) > (self.ends[-1] if self.ends else 0):
             self.ends.append(len(self.documents))
 
-    def refresh(self, order):
+    def merge(self, order):
         self.flush()
+        self.ends = self.ends[-1:]
+        return {"merged": True}
+
+    def settle(self):
+        """Puts all documents into segments, and with `auto_merge` makes these few."""
+        self.flush()
+        if self.auto_merge:
+            self.ends = tiered(self.ends)
+
+    def refresh(self, order):
+        self.settle()
         self.taken, self.taken_labels = len(self.documents), len(self.labels)
         return {"n": self.taken}
 
@@ -278,7 +298,7 @@ class Session:
     # ---- committing
 
     def commit(self, order):
-        self.flush()
+        self.settle()
         put, following = {}, self.next
         label_commit, label_parts = self.label_commit, self.label_parts
         if len(self.labels) > self.committed_labels:

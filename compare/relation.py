@@ -308,7 +308,7 @@ class Checker:
             return self.right_name(a, held.get((a.order.session, a.order.value["name"])))
         if a.order.command in ("search", "document", "stats"):
             return self.right_look(a, held)
-        return {"add": self.right_add, "refresh": self.right_count, "commit": self.right_commit}[a.order.command](a)
+        return {"add": self.right_add, "refresh": self.right_count, "commit": self.right_commit, "merge": self.right_merge}[a.order.command](a)
 
     def right_add(self, a: Answered) -> dict | None:
         document = self.document_of(a.order.value)
@@ -338,6 +338,9 @@ class Checker:
             number = a.reply.get("number")
             return {"refused": "numbers_spent", "number": number} if is_whole(number, 2**63, NEVER) else None
         return self.right_count(a)
+
+    def right_merge(self, _: Answered) -> dict:
+        return {"merged": True}
 
     def right_name(self, a: Answered, pair: Pair | None) -> dict | None:
         if a.order.command == "release":

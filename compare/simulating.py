@@ -41,8 +41,10 @@ def small_add(random: Random, number: int) -> dict:
 
 def order(random: Random, number: int, session: int) -> dict:
     kind = random.random()
-    if kind < 0.45:
+    if kind < 0.41:
         value = small_add(random, number) if random.random() < 0.7 else making.add(random, number)
+    elif kind < 0.45:
+        value = {"cmd": "merge"}
     elif kind < 0.6:
         value = {"cmd": "refresh"}
     elif kind < 0.75:
@@ -56,13 +58,15 @@ def order(random: Random, number: int, session: int) -> dict:
     return with_session(random, value, session)
 
 
-def values(random: Random, dims: list[dict], most_sessions: int = 4, most_orders: int = 10) -> list[dict]:
+def values(random: Random, dims: list[dict], most_sessions: int = 4, most_orders: int = 10, auto_merge: bool = False) -> list[dict]:
     """The lines of a script of 1 to so many sessions, which have up to so many orders in each phase."""
     count = random.randint(1, most_sessions)
     numbers = random.sample(range(1, random.choice([count, 64]) + 1), count)
-    config = {"cmd": "config", "dims": dims}
+    config: dict = {"cmd": "config", "dims": dims}
     config.update({key: random.choice([1, 2, 4, 8, 20]) for key in ("max_docs", "max_labels") if random.random() < 0.3})
     config.update({key: random.choice([1, 2, 64]) for key in ("stripes", "cache") if random.random() < 0.3})
+    if auto_merge:
+        config["auto_merge"] = True
     lines = [config]
     for phase in range(random.randint(1, 3)):
         lines += [{"cmd": "phase"}] * (phase > 0 or random.random() < 0.1)
@@ -81,7 +85,7 @@ def thousands() -> list[dict]:
 
 
 def eight_sessions() -> list[dict]:
-    """Eight sessions add 2,000 documents each, beside each other, refresh and commit now and then, and then all of them look."""
+    """Eight sessions add 2,000 documents each, beside each other, refresh, commit and merge now and then, and then all of them look."""
     values: list[dict] = [{"cmd": "config", "dims": [{"dim": "Date", "hierarchical": True}]}]
     for at in range(2000):
         for session in range(1, 9):
@@ -91,6 +95,8 @@ def eight_sessions() -> list[dict]:
                 values.append({"s": session, "cmd": "refresh"})
             if at == 1000 and session in (1, 5):
                 values.append({"s": session, "cmd": "commit"})
+            if at % 700 == 600 + session:
+                values.append({"s": session, "cmd": "merge"})
     values.append({"cmd": "phase"})
     values += [{"s": session, "cmd": "refresh"} for session in range(1, 9)]
     values += [{"s": session, "cmd": "search", "hits": 1, "ask": [{"top": ["Author"], "n": 3}, {"top": ["Date"], "n": 9}]} for session in range(1, 9)]
@@ -98,7 +104,8 @@ def eight_sessions() -> list[dict]:
 
 
 def all_sessions() -> list[dict]:
-    """All 64 sessions add fifty documents each, beside each other, refresh once, and hold a pair over the next phase, in which each looks and one commits."""
+    """All 64 sessions add fifty documents each, beside each other, refresh once, and hold a pair over the next phase, in which each looks, some merge and one
+    commits."""
     values: list[dict] = [{"cmd": "config", "dims": [{"dim": "Date", "hierarchical": True}]}]
     sessions = range(1, 65)
     for at in range(50):
@@ -109,7 +116,7 @@ def all_sessions() -> list[dict]:
                 values.append({"s": session, "cmd": "refresh"})
     values += [{"s": session, "cmd": "hold", "name": "a"} for session in sessions]
     values += [{"cmd": "phase"}, {"s": 64, "cmd": "commit"}]
-    values += [{"s": session, "cmd": "refresh"} for session in sessions if session % 8 == 1]
+    values += [{"s": session, "cmd": ("refresh", "merge")[session % 8 - 1]} for session in sessions if session % 8 in (1, 2)]
     for session in sessions:
         values.append({"s": session, "cmd": "search", "on": "a", "hits": 1, "ask": [{"top": ["Author"], "n": 3}]})
         values += [{"s": session, "cmd": "stats", "on": "a"}, {"s": session, "cmd": "stats"}]
@@ -237,6 +244,11 @@ class World:
             return {"refused": "no_memory"}
         return answer(self.view, order, pair)
 
+    def merge(self, order: Order) -> Steps:
+        """Merges segments, which no reply shows."""
+        yield
+        return {"refused": "no_memory"} if self.wants_memory() else {"merged": True}
+
     def commit(self, order: Order) -> Steps:
         while self.is_committing:
             yield
@@ -259,7 +271,7 @@ class World:
     # ---- sessions
 
     def session(self, orders: list[Order]) -> Iterator[None]:
-        commands = {"add": self.add, "refresh": self.refresh, "hold": self.hold, "release": self.release, "commit": self.commit}
+        commands = {"add": self.add, "refresh": self.refresh, "hold": self.hold, "release": self.release, "merge": self.merge, "commit": self.commit}
         for order in orders:
             yield
             self.replies[order.line] = yield from commands.get(order.command, self.look)(order)

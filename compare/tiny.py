@@ -23,7 +23,9 @@ def order(random: Random, session: int) -> dict:
         return {"s": session, "cmd": "refresh"}
     if kind < 0.9:
         return {"s": session, "cmd": "stats", **({"on": "a"} if random.random() < 0.2 else {})}
-    return {"s": session, "cmd": "hold", "name": "a"} if kind < 0.95 else {"s": session, "cmd": "search", "ask": [{"all": random.randint(0, 1)}]}
+    if kind < 0.94:
+        return {"s": session, "cmd": "hold", "name": "a"}
+    return {"s": session, "cmd": "merge"} if kind < 0.96 else {"s": session, "cmd": "search", "ask": [{"all": random.randint(0, 1)}]}
 
 
 def values(random: Random) -> list[dict]:
