@@ -5,8 +5,12 @@ import subprocess
 import sys
 import tempfile
 import time
+from collections.abc import Callable
+from pathlib import Path
 
 COUNTER = ["valgrind", "--tool=cachegrind", "--cache-sim=no", "--cachegrind-out-file=/dev/null"]
+PHASE = b'{"cmd":"phase"}\n'
+PAGE = 4096
 
 
 def stop_unless_done(words: list, status: int) -> None:
@@ -22,6 +26,41 @@ def timed_run(words: list, source=subprocess.DEVNULL, sink=subprocess.DEVNULL) -
     seconds = time.perf_counter() - start
     stop_unless_done(words, os.waitstatus_to_exitcode(status))
     return seconds, usage.ru_utime + usage.ru_stime
+
+
+def script_of_phases(config: bytes, phases: list[list[bytes]]) -> tuple[bytes, list[int]]:
+    """A script, and how many replies each of its phases has."""
+    return config + PHASE.join(b"".join(lines) for lines in phases), [len(lines) for lines in phases]
+
+
+def phase_times(words: list, script: Path, counts: list[int], look: Callable[[], None] | None = None) -> list[float]:
+    """The wall seconds of each phase but the first, of a script whose phases have so many replies.
+
+    The replies of a phase are written when all its sessions have ended. So the time of a phase is the one between the last byte of the replies before it and
+    the first byte of its own; reading the script is in none of them. `look` is called at that first byte. The next phase has not begun then, where the replies
+    are more than two pages."""
+    times: list[float] = []
+    lines, phase, begun = 0, 0, 0.0
+    ends = [sum(counts[: at + 1]) for at in range(len(counts))]
+    with script.open("rb") as source, subprocess.Popen(words, stdin=source, stdout=subprocess.PIPE, bufsize=0, pipesize=PAGE if look else -1) as child:
+        assert child.stdout is not None
+        while piece := os.read(child.stdout.fileno(), 1 << 20):
+            now = time.perf_counter()
+            if begun and phase < len(counts):
+                times.append(now - begun)
+                if look:
+                    look()
+            begun = 0.0
+            lines += piece.count(b"\n")
+            while phase < len(counts) and lines >= ends[phase]:
+                phase += 1
+                if lines == ends[phase - 1] and piece.endswith(b"\n"):
+                    begun = time.perf_counter()
+                elif phase < len(counts):
+                    # the next replies came with these
+                    times.append(0.0)
+    stop_unless_done(words, child.returncode)
+    return times
 
 
 def peak_of(words: list, source=subprocess.DEVNULL, sink=subprocess.DEVNULL) -> float:
