@@ -2,7 +2,7 @@
 use Rattle.std.specs.Prelude.{◌≡◌, List}
 use Rattle.atomic_table.specs.Seated.{TableId}
 use Rattle.taxo_writer.specs.Writer.{Writer}
-use Rattle.chronicle.specs.Shown.{Shown, MayTake, SameToken}
+use Rattle.chronicle.specs.Shown.{Shown, MayTake, SameToken, SeesOn}
 use Rattle.chronicle.specs.History.{numbered}
 use Rattle.pair_manager.specs.declared.pass.Pass.{Pass}
 use Rattle.pair_manager.specs.declared.publication.Publication.{Publication}
@@ -33,6 +33,14 @@ pub record SamePass (old new : Pass) : Type 0 where
   pub operations : SameToken old.operations new.operations
   pub pairs : SameToken old.pairs new.pairs
   pub commits : SameToken old.commits new.commits
+
+-- It has seen all operations that it had seen, and maybe more of others; nothing else changed.
+pub record SeesMoreOperations (old new : Pass) : Type 0 where
+  pub same : SamePass old new
+  pub operations : SeesOn old.operations new.operations
+  pub labels : new.labels ≡ old.labels
+  pub pairs : new.pairs ≡ old.pairs
+  pub commits : new.commits ≡ old.commits
 
 -- the publication of all operations and labels that it has seen
 abbrev pub all_seen : Pass → Publication

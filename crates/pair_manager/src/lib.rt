@@ -10,6 +10,7 @@ mod pass;
 mod point;
 mod publication;
 mod state;
+mod upkeep;
 
 pub use lease::{Lease, release};
 pub use manager::{Manager, Stats};
