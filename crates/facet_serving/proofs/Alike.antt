@@ -31,7 +31,7 @@ use Rattle.facet_output.specs.Telling.{says_full, stood_by}
 use Rattle.facet_replies.specs.Replies.{Reply, broken, docs_full, found, held_already, labels_full, numbered, placed, refused, shown, stats as numbers}
 use Rattle.facet_words.specs.Answers.{first_hits, hits_of, with_labels}
 use Rattle.facet_words.specs.Commands.{Search, Settings}
-use Rattle.facet_words.specs.Sessions.Commands.{Command, Order, add, commit, document, hold, refresh, release, search, stats}
+use Rattle.facet_words.specs.Sessions.Commands.{Command, Order, add, commit, document, hold, merge, refresh, release, search, stats}
 use Rattle.facet_serving.proofs.Lone.{Goes, State, after, goes_on, is_in, labels_begin}
 use Rattle.facet_serving.specs.Alike.{AreAlike, IsOfStore, is_plain}
 use Rattle.facet_output.proofs.Served.{all_known}
@@ -320,6 +320,7 @@ module _ (settings : Settings) (labels labels' : List (List (List ℕ))) (histor
     (let l = stays commit f.leaves g.leaves in let h = either (is_numbered r) s.held ∙ sym (either (is_numbered q) s.held) in
         λ i. record { labels = l i; operations = s.operations; taken = s.taken; taken_labels = s.taken_labels; held = h i }),
   )
+  same_order merge whole f g = let e = f.right ∙ sym g.right in let l = stays merge f.leaves g.leaves in (inl e, λ i. after s session merge took (e i) (l i))
 
 -- ---- runs
 

@@ -21,10 +21,10 @@ use Rattle.facet_output.specs.OneSession.{AddLeaves, AreExact, AreExactLabels, L
 use Rattle.facet_output.specs.Output.{IsOutput, Opened, Published, opened_operations, opened_pair}
 use Rattle.facet_output.specs.Replying.{IsAdded, IsResolved, IsRight, RightReplies}
 use Rattle.facet_output.specs.Telling.{placed_by, placed_operation, refreshed, refreshed_by, stood_by}
-use Rattle.facet_replies.specs.Replies.{Reply, found, numbered, placed, refused, shown, stats as numbers}
+use Rattle.facet_replies.specs.Replies.{Reply, found, merged, numbered, placed, refused, shown, stats as numbers}
 use Rattle.facet_words.specs.Answers.{with_labels}
 use Rattle.facet_words.specs.Commands.{Settings}
-use Rattle.facet_words.specs.Sessions.Commands.{Command, Order, add, commit, document, hold, refresh, release, search, stats}
+use Rattle.facet_words.specs.Sessions.Commands.{Command, Order, add, commit, document, hold, merge, refresh, release, search, stats}
 use Rattle.generator.specs.Summaries.{is_placed as tells_place}
 use Rattle.facet_output.proofs.Served.{all_known}
 use Rattle.chronicle.proofs.Prefixes.{prefix_self, prefix_trans, prefix_length, prefix_shorter}
@@ -102,6 +102,7 @@ module _ (settings : Settings) (labels : List (List (List ℕ))) where
   leaves_begin (document on at) reply next leaves = same_begins next leaves
   leaves_begin (stats on) reply next leaves = same_begins next leaves
   leaves_begin commit reply next leaves = same_begins next leaves
+  leaves_begin merge reply next leaves = same_begins next leaves
 
 pub labels_begin : (settings : Settings) (labels : List (List (List ℕ))) (taken : ℕ) (answered : List Answered) (last : List (List (List ℕ))) → AreExactLabels settings labels taken answered last → IsPrefix labels last
 labels_begin settings labels taken [] last exact = same_begins settings labels last exact
@@ -137,6 +138,7 @@ module _ (settings : Settings) (labels before next : List (List (List ℕ))) (hi
   placed_here (add doc) (found f) p e right leaves = absurd cc
   placed_here (add doc) (shown s) p e right leaves = absurd cc
   placed_here (add doc) (numbers s) p e right leaves = absurd cc
+  placed_here (add doc) merged p e right leaves = absurd cc
   placed_here (add doc) (refused r) p e right leaves = absurd cc
   placed_here refresh reply p e right leaves = absurd cc
   placed_here (hold name) reply p e right leaves = absurd cc
@@ -145,6 +147,7 @@ module _ (settings : Settings) (labels before next : List (List (List ℕ))) (hi
   placed_here (document on at) reply p e right leaves = absurd cc
   placed_here (stats on) reply p e right leaves = absurd cc
   placed_here commit reply p e right leaves = absurd cc
+  placed_here merge reply p e right leaves = absurd cc
 
 -- it stood at its place
 placed_stood : (session : ℕ) (command : Command) (reply : Reply) (p : ℕ × Operation) → placed_by session command reply ≡ Some p → stood_by command reply ≡ Some p.0
@@ -153,6 +156,7 @@ placed_stood session (add doc) (numbered n) p e = absurd cc
 placed_stood session (add doc) (found f) p e = absurd cc
 placed_stood session (add doc) (shown s) p e = absurd cc
 placed_stood session (add doc) (numbers s) p e = absurd cc
+placed_stood session (add doc) merged p e = absurd cc
 placed_stood session (add doc) (refused r) p e = absurd cc
 placed_stood session refresh reply p e = absurd cc
 placed_stood session (hold name) reply p e = absurd cc
@@ -161,6 +165,7 @@ placed_stood session (search on s) reply p e = absurd cc
 placed_stood session (document on at) reply p e = absurd cc
 placed_stood session (stats on) reply p e = absurd cc
 placed_stood session commit reply p e = absurd cc
+placed_stood session merge reply p e = absurd cc
 
 length_placed : (o : Option (ℕ × Operation)) (operations : List Operation) → length (with_placed o operations) ≡ after_placing (length operations) o
 length_placed None operations = refl
@@ -193,6 +198,7 @@ held_by_command n (search on s) took held taken all = all
 held_by_command n (document on at) took held taken all = all
 held_by_command n (stats on) took held taken all = all
 held_by_command n commit took held taken all = all
+held_by_command n merge took held taken all = all
 
 held_behind : (n : ℕ) (b : Bool) (command : Command) (took : Option (ℕ × ℕ)) (held : Held) → ((pair : ℕ × ℕ) → took ≡ Some pair → pair.0 ≤ n) → list_all (is_in n) held ≡ true
     → list_all (is_in n) (if b then after_command command took held else held) ≡ true
