@@ -90,8 +90,11 @@ fn are_told(alloc: Global) -> Result<bool, Fail> {
     Ok(out.as_slice() == expected.as_slice())
 }
 
-/// Whether refusals and faults have their lines.
+/// Whether a merge, refusals and faults have their lines.
 pub fn are_written(alloc: Global) -> Result<bool, Fail> {
+    if !has_line(alloc, &Reply::Merged, r#"{"line":4,"merged":true,"s":1}"#)? {
+        return Ok(false);
+    }
     for (refusal, expected) in refusals() {
         if !has_line(alloc, &Reply::Refused(*refusal), *expected)? {
             return Ok(false);

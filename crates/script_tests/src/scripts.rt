@@ -1,14 +1,14 @@
 use crate::lines::are_written;
 use facet_model::Query;
-use facet_words::Settings;
 use facet_words::sessions::{Command, Order, Script, read_script};
+use facet_words::{ScriptFault, Settings};
 use std::alloc::Global;
 use std::test::Fail;
 use test_keys::fixed_keys;
 
 // What is read of a script that sets all that may be set.
 const SHOP: &[u8] =
-    b"{\"cmd\":\"config\",\"max_docs\":7,\"max_labels\":8,\"stripes\":9,\"cache\":10,\"auto_merge\":true,\"dims\":[{\"dim\":\"Tag\",\"multi_valued\":true}]}\n{\"s\":1,\"cmd\":\"search\",\"query\":{\"bool\":{\"must_not\":[{\"term\":\"a\"}]}},\"drill\":[[\"Tag\"]],\"sideways\":true,\"ask\":[{\"all\":3},{\"specific\":[\"Tag\",\"x\"]}]}\n{\"s\":1,\"cmd\":\"search\"}\n{\"cmd\":\"phase\"}\n{\"s\":1,\"cmd\":\"document\",\"at\":7}\n{\"s\":1,\"cmd\":\"stats\"}\n{\"s\":1,\"cmd\":\"commit\"}";
+    b"{\"cmd\":\"config\",\"max_docs\":7,\"max_labels\":8,\"stripes\":9,\"cache\":10,\"auto_merge\":true,\"dims\":[{\"dim\":\"Tag\",\"multi_valued\":true}]}\n{\"s\":1,\"cmd\":\"search\",\"query\":{\"bool\":{\"must_not\":[{\"term\":\"a\"}]}},\"drill\":[[\"Tag\"]],\"sideways\":true,\"ask\":[{\"all\":3},{\"specific\":[\"Tag\",\"x\"]}]}\n{\"s\":1,\"cmd\":\"search\"}\n{\"cmd\":\"phase\"}\n{\"s\":1,\"cmd\":\"document\",\"at\":7}\n{\"s\":1,\"cmd\":\"stats\"}\n{\"s\":1,\"cmd\":\"commit\"}\n{\"s\":1,\"cmd\":\"merge\"}";
 
 // How many queries each list of a boolean query has.
 fn lists(query: &Query) -> Option<(usize, usize, usize)> {
@@ -37,6 +37,7 @@ fn summary(command: &Command) -> Summary {
         Command::Document { on: _, at } => (None, 0, false, 0, *at),
         Command::Stats { on: _ } => (None, 1, false, 0, 0),
         Command::Commit => (None, 2, false, 0, 0),
+        Command::Merge => (None, 3, false, 0, 0),
         _ => (None, 0, false, 0, 0),
     }
 }
@@ -78,6 +79,7 @@ const SUMMARIES: &[&[Summary]] = &[
         (None, 0, false, 0, 7),
         (None, 1, false, 0, 0),
         (None, 2, false, 0, 0),
+        (None, 3, false, 0, 0),
     ],
 ];
 
@@ -103,9 +105,24 @@ fn is_read(alloc: Global) -> Result<bool, Fail> {
     Ok(has_settings(&script) && has_orders(&script))
 }
 
+// Whether a merge with a further key is no command.
+fn has_no_further_key(alloc: Global) -> Result<bool, Fail> {
+    let read = read_script(
+        alloc,
+        fixed_keys()?,
+        b"{\"cmd\":\"config\"}\n{\"s\":1,\"cmd\":\"merge\"}\n{\"s\":1,\"cmd\":\"merge\",\"n\":1}\n",
+    );
+    match read {
+        Err(ScriptFault::BadShape { line }) => Ok(line == 3),
+        _ => Ok(false),
+    }
+}
+
 #[test]
 fn what_is_read_and_what_is_written(rt: HostRuntime) -> Result<(), Fail> {
     let alloc = rt.alloc();
-    assert!(rt; are_written(alloc)? && is_read(alloc)? && has_defaults(alloc)?);
+    assert!(rt;
+        are_written(alloc)? && is_read(alloc)? && has_defaults(alloc)? && has_no_further_key(alloc)?
+    );
     Ok(())
 }
