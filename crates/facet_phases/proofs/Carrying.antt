@@ -7,11 +7,9 @@ use Rattle.chronicle.specs.Frame.{Frame}
 use Rattle.chronicle.specs.History.{NumbersUpTo}
 use Rattle.facet_model.specs.Documents.{Doc}
 use Rattle.pair_manager.specs.declared.pass.Pass.{Pass}
-use Rattle.facet_words.specs.Commands.{Settings}
 use Rattle.facet_words.specs.Sessions.Commands as commands
 use Rattle.facet_output.specs.Answered.{Answered}
 use Rattle.facet_output.specs.Held.{Held}
-use Rattle.facet_output.specs.Output.{Opened}
 use Rattle.facet_output.specs.Seen.{CommitPoint, IsTold}
 use Rattle.facet_output.specs.Sessions.{held_by, own_steps, steps_of}
 use Rattle.facet_words.specs.Sessions.Laws.{lines_rise}
@@ -29,7 +27,7 @@ use Rattle.facet_phases.specs.Lanes.{AreIdle, Each, Gathers, IsDealt, LaneRan, M
 use Rattle.facet_phases.specs.Orders.{orders_of}
 use Rattle.facet_words.specs.Sessions.CommandViews.{order_view}
 use Rattle.facet_phases.specs.Phases.{AreSpentWithin, PhaseRan, answers_in}
-use Rattle.facet_phases.specs.Running.{AreReady, AreUnderway, CarriesOut}
+use Rattle.facet_phases.specs.Running.{AreReady, AreUnderway, CarriesOut, Course, further}
 use Rattle.facet_engine.proofs.SeenPairs.{still_named, still_belongs}
 use Rattle.facet_phases.proofs.Belonging.{still_set, still_numbered, still_made}
 use Rattle.facet_phases.proofs.Did.{LaneDid}
@@ -81,61 +79,61 @@ module _ {C : Type 0} where
     still_idle = each_new Holds engine dealt (seen_of b) (λ (l : Lane C). BelongsTo engine l.session.pass) (λ (l : Lane C). l.orders.items ≡ []) (λ x y did own. did.emptied) xs ws z ready.all
 
     -- then all these phases and this one were carried out
-    whole_phase : (settings : Settings) (phases : List (List commands.Order)) (opened : Opened) (ran : List (List Step)) → AreUnderway engine settings phases opened ran a xs → (set : All (λ (l : Lane C). HasSettings engine l.session.pass settings) xs)
+    whole_phase : (course : Course) → AreUnderway engine course a xs → (set : All (λ (l : Lane C). HasSettings engine l.session.pass course.settings) xs)
         → All (λ (o : Order). (1 ≤ o.session) × (o.session ≤ length xs)) dealt → IsTrue (lines_rise (map order_view dealt)) → All (λ (l : Lane C). IsOk l.replies) ws
-        → AreParts settings (length phases) (map order_view dealt) (λ session. held_by [] (own_steps session (steps_of ran))) (seen_of a) (seen_of b) 1 (parts Holds engine dealt (seen_of b) settings (length phases) xs ws z set)
-        → PhaseRan settings a.commits.frame ran (length phases) (seen_of a) (seen_of b) (map order_view dealt) (steps_of (parts Holds engine dealt (seen_of b) settings (length phases) xs ws z set))
-        → AreUnderway engine settings (phases ++ map order_view dealt ∷ []) opened (ran ++ steps_of (parts Holds engine dealt (seen_of b) settings (length phases) xs ws z set) ∷ []) b ws
-        × KeepAll Holds ws (answers_in (steps_of (parts Holds engine dealt (seen_of b) settings (length phases) xs ws z set)))
-    whole_phase settings phases opened ran under set sessions rise ok are phase =
-        let n : ℕ = length phases in
+        → AreParts course.settings (length course.phases) (map order_view dealt) (λ session. held_by [] (own_steps session (steps_of course.ran))) (seen_of a) (seen_of b) 1 (parts Holds engine dealt (seen_of b) course.settings (length course.phases) xs ws z set)
+        → PhaseRan course.settings a.commits.frame course.ran (length course.phases) (seen_of a) (seen_of b) (map order_view dealt) (steps_of (parts Holds engine dealt (seen_of b) course.settings (length course.phases) xs ws z set))
+        → AreUnderway engine (further course (map order_view dealt ∷ []) (steps_of (parts Holds engine dealt (seen_of b) course.settings (length course.phases) xs ws z set) ∷ [])) b ws
+        × KeepAll Holds ws (answers_in (steps_of (parts Holds engine dealt (seen_of b) course.settings (length course.phases) xs ws z set)))
+    whole_phase course under set sessions rise ok are phase =
+        let n : ℕ = length course.phases in
         let orders : List commands.Order = map order_view dealt in
-        let held : ℕ → Held = λ session. held_by [] (own_steps session (steps_of ran)) in
-        let ps : List (List Step) = parts Holds engine dealt (seen_of b) settings n xs ws z set in
+        let held : ℕ → Held = λ session. held_by [] (own_steps session (steps_of course.ran)) in
+        let ps : List (List Step) = parts Holds engine dealt (seen_of b) course.settings n xs ws z set in
         let steps : List Step = steps_of ps in
-        let many : length ps ≡ length xs = parts_many Holds engine dealt (seen_of b) settings n xs ws z set in
-        let all = are_whole Holds engine dealt (seen_of b) settings n 1 xs ws z set ready.numbered ok in
+        let many : length ps ≡ length xs = parts_many Holds engine dealt (seen_of b) course.settings n xs ws z set in
+        let all = are_whole Holds engine dealt (seen_of b) course.settings n 1 xs ws z set ready.numbered ok in
         let few : length ps ≤ 64 = (let f = ready.many in omega arith) in
         let within : All (λ (o : commands.Order). o.session ≤ length ps) orders = All-map (λ (o : commands.Order). o.session ≤ length ps) order_view dealt
         (All-weaker (λ (o : Order). (1 ≤ o.session) × (o.session ≤ length xs)) (λ (o : Order). o.session ≤ length ps) (λ o s. let t = s.1 in omega arith) dealt sessions) in (
           record {
-            so_far = one_more_phase settings phases opened ran (seen_of a) orders steps (seen_of b) under.so_far rise (phase_asked n orders ps few within all.0) phase.sessions;
+            so_far = one_more_phase course.settings course.phases course.opened course.ran (seen_of a) orders steps (seen_of b) under.so_far rise (phase_asked n orders ps few within all.0) phase.sessions;
             frames = each_new Holds engine dealt (seen_of b) (λ (l : Lane C). l.session.pass.commits.frame ≡ a.commits.frame) (λ (l : Lane C). l.session.pass.commits.frame ≡ b.commits.frame)
                 (λ x y did is. did.same.1.commits.4 ∙ is ∙ sym g.same.commits.4) xs ws z under.frames;
-            spent = subst (λ (f : Frame). AreSpentWithin f (steps_of (ran ++ steps ∷ []))) (sym g.same.commits.4) (spent_more a.commits.frame ran steps under.spent phase.spent);
-            set = each_new Holds engine dealt (seen_of b) (λ (l : Lane C). HasSettings engine l.session.pass settings) (λ (l : Lane C). HasSettings engine l.session.pass settings) (λ x y did has. still_set engine x.session.pass y.session.pass settings did.same.1 has) xs ws z set;
+            spent = subst (λ (f : Frame). AreSpentWithin f (steps_of (course.ran ++ steps ∷ []))) (sym g.same.commits.4) (spent_more a.commits.frame course.ran steps under.spent phase.spent);
+            set = each_new Holds engine dealt (seen_of b) (λ (l : Lane C). HasSettings engine l.session.pass course.settings) (λ (l : Lane C). HasSettings engine l.session.pass course.settings) (λ x y did has. still_set engine x.session.pass y.session.pass course.settings did.same.1 has) xs ws z set;
             held = λ i d lt.
                 let in' : i < length xs = subst (λ n. i < n) still_many lt in
                 let new_number : (get_or ws i d).session.number ≡ 1 + i = new_numbered Holds engine dealt (seen_of b) 1 xs ws z ready.numbered i d lt in
                 let old_number : (get_or xs i d).session.number ≡ 1 + i = ready.numbered i d in' in
-                let own = own_part settings n orders held (seen_of a) (seen_of b) 1 ps are i [] (let m = many in omega arith) in
+                let own = own_part course.settings n orders held (seen_of a) (seen_of b) 1 ps are i [] (let m = many in omega arith) in
                 let before : numbers_held (get_or xs i d).session.held ≡ held (1 + i) = under.held i d in' ∙ ap held old_number in
-                held_at Holds engine dealt (seen_of b) settings n xs ws z set i d d [] in'
+                held_at Holds engine dealt (seen_of b) course.settings n xs ws z set i d d [] in'
                 ∙ (λ j. held_by (before j) (sym own.1 j))
-                ∙ sym (held_append [] (own_steps (1 + i) (steps_of ran)) (own_steps (1 + i) steps))
-                ∙ ap (held_by []) (ap (λ (l : List Step). own_steps (1 + i) (steps_of ran) ++ own_steps (1 + i) l) (sym (append-nil steps)) ∙ sym (own_append (1 + i) ran (steps ∷ [])))
-                ∙ ap (λ (k : ℕ). held_by [] (own_steps k (steps_of (ran ++ steps ∷ [])))) (sym new_number);
+                ∙ sym (held_append [] (own_steps (1 + i) (steps_of course.ran)) (own_steps (1 + i) steps))
+                ∙ ap (held_by []) (ap (λ (l : List Step). own_steps (1 + i) (steps_of course.ran) ++ own_steps (1 + i) l) (sym (append-nil steps)) ∙ sym (own_append (1 + i) course.ran (steps ∷ [])))
+                ∙ ap (λ (k : ℕ). held_by [] (own_steps k (steps_of (course.ran ++ steps ∷ [])))) (sym new_number);
           },
           all.1,
         )
 
     pub carries_out : {E : Type 0} (result : Result (Unit {0}) E) → All (λ (o : Order). (1 ≤ o.session) × (o.session ≤ length xs)) dealt → IsTrue (lines_rise (map order_view dealt)) → OnOk result (All (λ (l : Lane C). IsOk l.replies) ws)
         → CarriesOut Holds engine (map order_view dealt) a b xs ws result
-    carries_out result sessions rise whole settings phases opened ran under =
-        let n : ℕ = length phases in
+    carries_out result sessions rise whole course under =
+        let n : ℕ = length course.phases in
         let orders : List commands.Order = map order_view dealt in
-        let held : ℕ → Held = λ session. held_by [] (own_steps session (steps_of ran)) in
-        let ps : List (List Step) = parts Holds engine dealt (seen_of b) settings n xs ws z under.set in
-        let are : AreParts settings n orders held (seen_of a) (seen_of b) 1 ps = are_parts Holds engine dealt (seen_of b) settings n held (seen_of a) 1 xs ws z under.set ready.numbered under.held ready.seen in
-        let many : length ps ≡ length xs = parts_many Holds engine dealt (seen_of b) settings n xs ws z under.set in
+        let held : ℕ → Held = λ session. held_by [] (own_steps session (steps_of course.ran)) in
+        let ps : List (List Step) = parts Holds engine dealt (seen_of b) course.settings n xs ws z under.set in
+        let are : AreParts course.settings n orders held (seen_of a) (seen_of b) 1 ps = are_parts Holds engine dealt (seen_of b) course.settings n held (seen_of a) 1 xs ws z under.set ready.numbered under.held ready.seen in
+        let many : length ps ≡ length xs = parts_many Holds engine dealt (seen_of b) course.settings n xs ws z under.set in
         let others : (session : ℕ) → (session ≡ 0) ⊎ (length ps < session) → IsTold session (seen_of a) (seen_of b) =
         λ session which. others_told (length ps) a b (still_numbered 0 a b g.same ready.made.numbers) (subst (λ (k : ℕ). HaveMade k b) (sym many) (still_made (length xs) a b g.same ready.made.made)) g session which in
-        let phase : PhaseRan settings a.commits.frame ran n (seen_of a) (seen_of b) orders (steps_of ps) = record {
-          asked = sessions_asked settings n orders held (seen_of a) (seen_of b) ps are;
-          sessions = sessions_ran settings n orders held (seen_of a) (seen_of b) ps are others;
-          spent = parts_spent Holds engine dealt (seen_of b) settings n a.commits.frame xs ws z under.set under.frames;
+        let phase : PhaseRan course.settings a.commits.frame course.ran n (seen_of a) (seen_of b) orders (steps_of ps) = record {
+          asked = sessions_asked course.settings n orders held (seen_of a) (seen_of b) ps are;
+          sessions = sessions_ran course.settings n orders held (seen_of a) (seen_of b) ps are others;
+          spent = parts_spent Holds engine dealt (seen_of b) course.settings n a.commits.frame xs ws z under.set under.frames;
         } in
-        record { steps = steps_of ps; phase = phase; whole = on_ok_then result whole (λ ok. whole_phase settings phases opened ran under under.set sessions rise ok are phase) }
+        record { steps = steps_of ps; phase = phase; whole = on_ok_then result whole (λ ok. whole_phase course under under.set sessions rise ok are phase) }
 
   -- ---- before it runs
 
@@ -173,7 +171,7 @@ module _ {C : Type 0} where
   -- no session carried out an order
   pub none_ran : {E : Type 0} (Holds : List Answered → C → Type 0) (engine : Engine) (dealt : List commands.Order) (a : Pass) (xs ys : List (Lane C)) (result : Result (Unit {0}) E) → IsErr result → CarriesOut Holds engine dealt a a xs ys result
   none_ran Holds engine dealt a xs ys (Ok v) fails = absurd (cc)
-  none_ran Holds engine dealt a xs ys (Err fault) fails = λ settings phases opened ran under. record {
+  none_ran Holds engine dealt a xs ys (Err fault) fails = λ course under. record {
     steps = [];
     phase = record { asked = λ session. (0, refl); sessions = λ session. told_itself session (seen_of a); spent = spent_none a.commits.frame };
     whole = tt;

@@ -4,10 +4,8 @@ use Rattle.std.specs.Prelude.{Result, Ok, Err, IsErr}
 use Rattle.std.proofs.lemmas.List.{take_more, take-map, map-append, map-id, length-map, length-take}
 use Rattle.std.proofs.lemmas.List.Concat.{flat_map-append}
 use Rattle.pair_manager.specs.declared.pass.Pass.{Pass}
-use Rattle.facet_words.specs.Commands.{Settings}
 use Rattle.facet_words.specs.Sessions.Commands.{Order}
 use Rattle.facet_output.specs.Answered.{Answered}
-use Rattle.facet_output.specs.Output.{Opened}
 use Rattle.facet_output.specs.Sessions.{answers_of, steps_of}
 use Rattle.facet_output.specs.Steps.{Step}
 use Rattle.facet_engine.specs.Steps.{seen_of}
@@ -18,7 +16,7 @@ use Rattle.facet_phases.specs.declared.lane.Lane.{Lane}
 use Rattle.facet_phases.specs.Ending.{BreaksBehind, EndsPhase, EndsPhases}
 use Rattle.facet_phases.specs.Lanes.{Each, IsFlushed, KeepAll}
 use Rattle.facet_phases.specs.Phases.{PhaseRan, answers_in}
-use Rattle.facet_phases.specs.Running.{AreUnderway, CarriesOut}
+use Rattle.facet_phases.specs.Running.{AreUnderway, CarriesOut, Course, further}
 use Rattle.facet_phases.proofs.Flushed.{flushed_under}
 use Rattle.facet_phases.proofs.Stepping.{answers_append}
 
@@ -27,19 +25,19 @@ use Rattle.facet_phases.proofs.Stepping.{answers_append}
 module _ {C : Type 0} (Holds : List Answered → C → Type 0) (Flushes Breaks : List Answered → Type 0) (engine : Engine) (orders : List Order) (a b : Pass) (xs ys zs : List (Lane C)) where
   pub phase_flushed : {E : Type 0} → CarriesOut Holds {E = E} engine orders a b xs ys (Ok tt) → length zs ≡ length ys → Each IsFlushed ys zs → ((answered : List Answered) → KeepAll Holds ys answered → Flushes answered)
       → EndsPhase Flushes Breaks engine orders a b xs zs (Ok tt)
-  phase_flushed out many each flushes settings phases opened ran under =
-      let d = out settings phases opened ran under in
-      (d.steps, flushed_under engine b ys zs many each settings (phases ++ orders ∷ []) opened (ran ++ d.steps ∷ []) d.whole.0, flushes (answers_in d.steps) d.whole.1)
+  phase_flushed out many each flushes course under =
+      let d = out course under in
+      (d.steps, flushed_under engine b ys zs many each (further course (orders ∷ []) (d.steps ∷ [])) d.whole.0, flushes (answers_in d.steps) d.whole.1)
 
   pub phase_failed : {E : Type 0} → CarriesOut Holds {E = E} engine orders a b xs ys (Ok tt) → length zs ≡ length ys → Each IsFlushed ys zs → ((answered : List Answered) → KeepAll Holds ys answered → Breaks answered)
       → EndsPhase Flushes Breaks engine orders a b xs zs (Err Write)
-  phase_failed out many each breaks settings phases opened ran under =
-      let d = out settings phases opened ran under in
-      (d.steps, flushed_under engine b ys zs many each settings (phases ++ orders ∷ []) opened (ran ++ d.steps ∷ []) d.whole.0, breaks (answers_in d.steps) d.whole.1)
+  phase_failed out many each breaks course under =
+      let d = out course under in
+      (d.steps, flushed_under engine b ys zs many each (further course (orders ∷ []) (d.steps ∷ [])) d.whole.0, breaks (answers_in d.steps) d.whole.1)
 
   pub phase_short : {E : Type 0} (result : Result (Unit {0}) E) → Flushes [] → CarriesOut Holds engine orders a b xs ys result → EndsPhase Flushes Breaks engine orders a b xs zs (Err NoMemory)
-  phase_short result none out settings phases opened ran under =
-      let d = out settings phases opened ran under in
+  phase_short result none out course under =
+      let d = out course under in
       (d.steps, d.phase, none)
 
 -- ---- several phases
@@ -50,20 +48,17 @@ steps_more more steps =
 
 module _ {C : Type 0} where
   pub phases_none : (Flushes : List Answered → Type 0) (Breaks : List Answered → List Answered → Type 0) (engine : Engine) (a : Pass) (xs : List (Lane C)) → Flushes [] → EndsPhases Flushes Breaks engine [] a a xs xs (Ok tt)
-  phases_none Flushes Breaks engine a xs none settings phases opened ran under = (
-    [],
-    subst (λ (l : List (List Order)). AreUnderway engine settings l opened (ran ++ []) a xs) (sym (append-nil phases))
-        (subst (λ (l : List (List Step)). AreUnderway engine settings phases opened l a xs) (sym (append-nil ran)) under),
-    none,
-  )
+  phases_none Flushes Breaks engine a xs none course under =
+      let same : course ≡ further course [] [] = λ i. record { settings = course.settings; opened = course.opened; phases = sym (append-nil course.phases) i; ran = sym (append-nil course.ran) i } in
+      ([], subst (λ (c : Course). AreUnderway engine c a xs) same under, none)
 
-  module _ (engine : Engine) (settings : Settings) (opened : Opened) where
-    -- one more behind some more
-    one_more : (phases done : List (List Order)) (orders : List Order) (ran more : List (List Step)) (steps : List Step) (b : Pass) (ys : List (Lane C))
-        → AreUnderway engine settings ((phases ++ done) ++ orders ∷ []) opened ((ran ++ more) ++ steps ∷ []) b ys → AreUnderway engine settings (phases ++ (done ++ orders ∷ [])) opened (ran ++ (more ++ steps ∷ [])) b ys
-    one_more phases done orders ran more steps b ys under =
-        subst (λ (l : List (List Order)). AreUnderway engine settings l opened (ran ++ (more ++ steps ∷ [])) b ys) (append_assoc phases done (orders ∷ []))
-        (subst (λ (l : List (List Step)). AreUnderway engine settings ((phases ++ done) ++ orders ∷ []) opened l b ys) (append_assoc ran more (steps ∷ [])) under)
+  -- one more behind some more
+  one_more : (engine : Engine) (course : Course) (done : List (List Order)) (orders : List Order) (more : List (List Step)) (steps : List Step) (b : Pass) (ys : List (Lane C))
+      → AreUnderway engine (further (further course done more) (orders ∷ []) (steps ∷ [])) b ys → AreUnderway engine (further course (done ++ orders ∷ []) (more ++ steps ∷ [])) b ys
+  one_more engine course done orders more steps b ys under =
+      let same : further (further course done more) (orders ∷ []) (steps ∷ []) ≡ further course (done ++ orders ∷ []) (more ++ steps ∷ []) =
+      λ i. record { settings = course.settings; opened = course.opened; phases = append_assoc course.phases done (orders ∷ []) i; ran = append_assoc course.ran more (steps ∷ []) i } in
+      subst (λ (c : Course). AreUnderway engine c b ys) same under
 
 -- one is left behind those
 one_left : (all done : List (List Order)) (orders : List Order) → take (length done + 1) all ≡ done ++ orders ∷ [] → length done < length all
@@ -79,46 +74,45 @@ module _ {C O : Type 0} (Flushes Breaks : O → O → List Answered → Type 0) 
 
   pub phases_more : (done : List (List Order)) (orders : List Order) → EndsPhases (Flushes x y) (BreaksBehind Flushes Breaks x y) engine done a b xs ys (Ok tt) → EndsPhase (Flushes y z) (Breaks y z) engine orders b c ys zs (Ok tt)
       → EndsPhases (Flushes x z) (BreaksBehind Flushes Breaks x z) engine (done ++ orders ∷ []) a c xs zs (Ok tt)
-  phases_more done orders first second settings phases opened ran under =
-      let d = first settings phases opened ran under in
-      let e = second settings (phases ++ done) opened (ran ++ d.0) d.1 in
-      (d.0 ++ e.0 ∷ [], one_more engine settings opened phases done orders ran d.0 e.0 c zs e.1, flushed_then d.0 e.0 d.2 e.2)
+  phases_more done orders first second course under =
+      let d = first course under in
+      let e = second (further course done d.0) d.1 in
+      (d.0 ++ e.0 ∷ [], one_more engine course done orders d.0 e.0 c zs e.1, flushed_then d.0 e.0 d.2 e.2)
 
   -- the phase behind some is the last
   pub phases_stop : (all done : List (List Order)) (orders : List Order) (result : Result (Unit {0}) PhaseFault) → c.commits.frame ≡ b.commits.frame → IsErr result → take (length done) all ≡ done → take (length done + 1) all ≡ done ++ orders ∷ []
       → EndsPhases (Flushes x y) (BreaksBehind Flushes Breaks x y) engine done a b xs ys (Ok tt) → EndsPhase (Flushes y z) (Breaks y z) engine orders b c ys zs result
       → EndsPhases (Flushes x z) (BreaksBehind Flushes Breaks x z) engine all a c xs zs result
   phases_stop all done orders (Ok u) frame fails so_far next first second = absurd (cc)
-  phases_stop all done orders (Err Write) frame fails so_far next first second = λ settings phases opened ran under.
-      let d = first settings phases opened ran under in
-      let e = second settings (phases ++ done) opened (ran ++ d.0) d.1 in (
-        length done,
-        d.0,
-        e.0,
+  phases_stop all done orders (Err Write) frame fails so_far next first second = λ course under.
+      let d = first course under in
+      let e = second (further course done d.0) d.1 in (
         record {
+          many = length done;
+          more = d.0;
           next = one_left all done orders next;
           middle = b;
           between = ys;
-          under = subst (λ (l : List (List Order)). AreUnderway engine settings (phases ++ l) opened (ran ++ d.0) b ys) (sym so_far) d.1;
-          last = subst (λ (l : List (List Order)). AreUnderway engine settings (phases ++ l) opened (ran ++ (d.0 ++ e.0 ∷ [])) c zs) (sym next)
-              (one_more engine settings opened phases done orders ran d.0 e.0 c zs e.1);
+          under = subst (λ (l : List (List Order)). AreUnderway engine (further course l d.0) b ys) (sym so_far) d.1;
+          steps = e.0;
+          last = subst (λ (l : List (List Order)). AreUnderway engine (further course l (d.0 ++ e.0 ∷ [])) c zs) (sym next) (one_more engine course done orders d.0 e.0 c zs e.1);
         },
         (y, d.2, e.2),
       )
-  phases_stop all done orders (Err NoMemory) frame fails so_far next first second = λ settings phases opened ran under.
-      let d = first settings phases opened ran under in
-      let e = second settings (phases ++ done) opened (ran ++ d.0) d.1 in (
-        length done,
-        d.0,
+  phases_stop all done orders (Err NoMemory) frame fails so_far next first second = λ course under.
+      let d = first course under in
+      let e = second (further course done d.0) d.1 in (
         record {
+          many = length done;
+          more = d.0;
           orders = orders;
           next = next ∙ ap (λ (l : List (List Order)). l ++ orders ∷ []) (sym so_far);
           middle = b;
           between = ys;
-          under = subst (λ (l : List (List Order)). AreUnderway engine settings (phases ++ l) opened (ran ++ d.0) b ys) (sym so_far) d.1;
+          under = subst (λ (l : List (List Order)). AreUnderway engine (further course l d.0) b ys) (sym so_far) d.1;
           steps = e.0;
           frame = frame;
-          short = subst (λ (l : List (List Order)). PhaseRan settings b.commits.frame (ran ++ d.0) (length (phases ++ l)) (seen_of b) (seen_of c) orders e.0) (sym so_far) e.1;
+          short = subst (λ (l : List (List Order)). PhaseRan course.settings b.commits.frame (course.ran ++ d.0) (length (course.phases ++ l)) (seen_of b) (seen_of c) orders e.0) (sym so_far) e.1;
         },
         subst (Flushes x z) (append-nil (answers_of d.0)) (flushes_then x y z (answers_of d.0) [] d.2 e.2),
       )

@@ -33,7 +33,7 @@ use Rattle.facet_phases.specs.declared.lane.Lane.{Lane}
 use Rattle.facet_phases.specs.Ending.{EndsPhases, PhasesEnded, StopsShort}
 use Rattle.facet_phases.specs.Lanes.{LaneTold}
 use Rattle.facet_phases.specs.Phases.{AreSpentWithin}
-use Rattle.facet_phases.specs.Running.{AreReady, BeginsUnderway, IsFirst}
+use Rattle.facet_phases.specs.Running.{AreReady, BeginsUnderway, IsFirst, at_start}
 use Rattle.facet_phases.specs.Runs.{EndedSo, HasRun, HasRunSoFar, RunsSoFar, RunsToEnd, StoppedBehind}
 use Rattle.facet_phases.proofs.Cutting.{cut, cut_asked, cut_rises, cut_sessions, cut_spent, cut_steps, has_first}
 use Rattle.facet_phases.proofs.Spent.{spent_none, spent_more}
@@ -120,45 +120,45 @@ last_one P xs x all n is each =
 module _ {C : Type 0} where
   module _ (engine : Engine) (settings : Settings) (all : List (List Order)) (opened : Opened) (count : ℕ) (few : count ≤ 64)
       (within : All (λ (orders : List Order). All (λ (o : Order). (1 ≤ o.session) × (o.session ≤ count)) orders) all) (rise : All (λ (orders : List Order). IsTrue (lines_rise orders)) all) where
-    stopped : (many : ℕ) (more : List (List Step)) (new : Pass) → StopsShort C engine settings [] opened [] all many more new → StoppedBehind (HasRunSoFar settings opened new) all many more
-    stopped many more new s =
-        let inside = last_one (λ (orders : List Order). All (λ (o : Order). (1 ≤ o.session) × (o.session ≤ count)) orders) (take many all) s.orders all (many + 1) s.next within in
-        let rising = last_one (λ (orders : List Order). IsTrue (lines_rise orders)) (take many all) s.orders all (many + 1) s.next rise in
-        let n : ℕ = length (take many all) in
+    stopped : (new : Pass) (s : StopsShort C engine (at_start settings opened) all new) → StoppedBehind (HasRunSoFar settings opened new) all s.many s.more
+    stopped new s =
+        let inside = last_one (λ (orders : List Order). All (λ (o : Order). (1 ≤ o.session) × (o.session ≤ count)) orders) (take s.many all) s.orders all (s.many + 1) s.next within in
+        let rising = last_one (λ (orders : List Order). IsTrue (lines_rise orders)) (take s.many all) s.orders all (s.many + 1) s.next rise in
+        let n : ℕ = length (take s.many all) in
         let f : Frame = s.middle.commits.frame in
         record {
-          short = cut settings f more n (seen_of s.middle) (seen_of new) s.orders s.steps s.short ∷ [];
-          cut = (s.orders, s.next, has_first settings f more n (seen_of s.middle) (seen_of new) s.orders s.steps s.short);
-          steps = cut_steps settings f more n (seen_of s.middle) (seen_of new) s.orders s.steps s.short count ∷ [];
+          short = cut settings f s.more n (seen_of s.middle) (seen_of new) s.orders s.steps s.short ∷ [];
+          cut = (s.orders, s.next, has_first settings f s.more n (seen_of s.middle) (seen_of new) s.orders s.steps s.short);
+          steps = cut_steps settings f s.more n (seen_of s.middle) (seen_of new) s.orders s.steps s.short count ∷ [];
           carried = record {
-            so_far = one_more_phase settings (take many all) opened more (seen_of s.middle) (cut settings f more n (seen_of s.middle) (seen_of new) s.orders s.steps s.short)
-                (cut_steps settings f more n (seen_of s.middle) (seen_of new) s.orders s.steps s.short count) (seen_of new) s.under.so_far
+            so_far = one_more_phase settings (take s.many all) opened s.more (seen_of s.middle) (cut settings f s.more n (seen_of s.middle) (seen_of new) s.orders s.steps s.short)
+                (cut_steps settings f s.more n (seen_of s.middle) (seen_of new) s.orders s.steps s.short count) (seen_of new) s.under.so_far
                 (cut_rises (λ session. (s.short.asked session).0) s.orders rising)
-                (cut_asked settings f more n (seen_of s.middle) (seen_of new) s.orders s.steps s.short count few inside)
-                (cut_sessions settings f more n (seen_of s.middle) (seen_of new) s.orders s.steps s.short count few inside);
-            spent = subst (λ (g : Frame). AreSpentWithin g (steps_of (more ++ cut_steps settings f more n (seen_of s.middle) (seen_of new) s.orders s.steps s.short count ∷ []))) (sym s.frame)
-                (spent_more f more (cut_steps settings f more n (seen_of s.middle) (seen_of new) s.orders s.steps s.short count) s.under.spent (cut_spent settings f more n (seen_of s.middle) (seen_of new) s.orders s.steps s.short count));
+                (cut_asked settings f s.more n (seen_of s.middle) (seen_of new) s.orders s.steps s.short count few inside)
+                (cut_sessions settings f s.more n (seen_of s.middle) (seen_of new) s.orders s.steps s.short count few inside);
+            spent = subst (λ (g : Frame). AreSpentWithin g (steps_of (s.more ++ cut_steps settings f s.more n (seen_of s.middle) (seen_of new) s.orders s.steps s.short count ∷ []))) (sym s.frame)
+                (spent_more f s.more (cut_steps settings f s.more n (seen_of s.middle) (seen_of new) s.orders s.steps s.short count) s.under.spent (cut_spent settings f s.more n (seen_of s.middle) (seen_of new) s.orders s.steps s.short count));
           };
           whole = s.under.so_far.asked;
         }
 
-    phases_ended : (Flushes : List Answered → Type 0) (Breaks : List Answered → List Answered → Type 0) (new : Pass) (lanes : List (Lane C)) (result : Result (Unit {0}) PhaseFault) → PhasesEnded Flushes Breaks engine settings [] opened [] all new lanes result
+    phases_ended : (Flushes : List Answered → Type 0) (Breaks : List Answered → List Answered → Type 0) (new : Pass) (lanes : List (Lane C)) (result : Result (Unit {0}) PhaseFault) → PhasesEnded Flushes Breaks engine (at_start settings opened) all new lanes result
         → EndedSo (HasRunSoFar settings opened new) Flushes Breaks all result
     phases_ended Flushes Breaks new lanes (Ok u) e = (e.0, record { so_far = e.1.so_far; spent = e.1.spent }, e.2)
     phases_ended Flushes Breaks new lanes (Err Write) e = (
-      e.0,
+      e.0.many,
+      e.0.more,
+      e.0.steps,
+      record { next = e.0.next; carried = record { so_far = e.0.last.so_far; spent = e.0.last.spent }; before = e.0.under.so_far.asked },
       e.1,
-      e.2,
-      record { next = e.3.next; carried = record { so_far = e.3.last.so_far; spent = e.3.last.spent }; before = e.3.under.so_far.asked },
-      e.4,
     )
-    phases_ended Flushes Breaks new lanes (Err NoMemory) e = (e.0, e.1, stopped e.0 e.1 new e.2, e.3)
+    phases_ended Flushes Breaks new lanes (Err NoMemory) e = (e.0.many, e.0.more, stopped new e.0, e.1)
 
   pub runs_so_far : (Flushes : List Answered → Type 0) (Breaks : List Answered → List Answered → Type 0) (engine : Engine) (all : List (List Order)) (first begun new : Pass) (begin lanes : List (Lane C)) (result : Result (Unit {0}) PhaseFault) (count : ℕ) → count ≤ 64
       → All (λ (orders : List Order). All (λ (o : Order). (1 ≤ o.session) × (o.session ≤ count)) orders) all → All (λ (orders : List Order). IsTrue (lines_rise orders)) all
       → BeginsUnderway engine first begun begin → EndsPhases Flushes Breaks engine all begun new begin lanes result → RunsSoFar Flushes Breaks engine all first new result
   runs_so_far Flushes Breaks engine all first begun new begin lanes result count few within rise under ends settings opened set seen =
-      phases_ended engine settings all opened count few within rise Flushes Breaks new lanes result (ends settings [] opened [] (under settings opened set seen))
+      phases_ended engine settings all opened count few within rise Flushes Breaks new lanes result (ends (at_start settings opened) (under settings opened set seen))
 
 -- no phase began
 pub runs_none : (Flushes : List Answered → Type 0) (Breaks : List Answered → List Answered → Type 0) (engine : Engine) (all : List (List Order)) (first new : Pass) → Flushes [] → seen_of new ≡ seen_of first → RunsSoFar Flushes Breaks engine all first new (Err NoMemory)

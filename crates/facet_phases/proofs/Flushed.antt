@@ -7,18 +7,15 @@ use Rattle.std.proofs.lemmas.List.Elements.{at_read}
 use native.Mathlib.Decide.{ℕ_discrete}
 use mathlib.Core.Logic.{dite}
 use Rattle.pair_manager.specs.declared.pass.Pass.{Pass}
-use Rattle.facet_words.specs.Commands.{Settings}
 use Rattle.facet_words.specs.Sessions.Commands as commands
 use Rattle.facet_words.specs.declared.sessions.command.Order.{Order}
 use Rattle.facet_output.specs.Answered.{Answered}
-use Rattle.facet_output.specs.Output.{Opened}
 use Rattle.facet_output.specs.Sessions.{held_by, own_steps, steps_of}
-use Rattle.facet_output.specs.Steps.{Step}
 use Rattle.facet_engine.specs.declared.session.Session.{Session}
 use Rattle.facet_engine.specs.HeldPairs.{numbers_held}
 use Rattle.facet_engine.specs.Systems.{Engine, HasSettings}
 use Rattle.facet_phases.specs.Lanes.{AreIdle, Each, IsFlushed, KeepAll, KeepsOf}
-use Rattle.facet_phases.specs.Running.{AreReady, AreUnderway}
+use Rattle.facet_phases.specs.Running.{AreReady, AreUnderway, Course}
 use Rattle.facet_phases.specs.declared.lane.Lane.{Lane}
 use Rattle.facet_phases.proofs.Carrying.{dealt_ready}
 
@@ -105,11 +102,11 @@ module _ {C : Type 0} where
         let in' : i < length xs = subst (λ n. i < n) many lt in
         subst P (sym (each i d in').session) (all i d in')
 
-    pub flushed_under : (settings : Settings) (phases : List (List commands.Order)) (opened : Opened) (ran : List (List Step)) → AreUnderway engine settings phases opened ran first xs → AreUnderway engine settings phases opened ran first ys
-    flushed_under settings phases opened ran under = record {
+    pub flushed_under : (course : Course) → AreUnderway engine course first xs → AreUnderway engine course first ys
+    flushed_under course under = record {
       so_far = under.so_far;
-      set = of_each (λ (s : Session). HasSettings engine s.pass settings) under.set;
-      held = of_each (λ (s : Session). numbers_held s.held ≡ held_by [] (own_steps s.number (steps_of ran))) under.held;
+      set = of_each (λ (s : Session). HasSettings engine s.pass course.settings) under.set;
+      held = of_each (λ (s : Session). numbers_held s.held ≡ held_by [] (own_steps s.number (steps_of course.ran))) under.held;
       frames = of_each (λ (s : Session). s.pass.commits.frame ≡ first.commits.frame) under.frames;
       spent = under.spent;
     }

@@ -1,10 +1,8 @@
 -- How phases end, and what is then handed to the output.
 use Rattle.std.specs.Prelude.{◌≡◌, ◌<◌, ◌+◌, ◌++◌, ◌∷◌, ℕ, List, [], length, take, Result, Ok, Err}
 use Rattle.pair_manager.specs.declared.pass.Pass.{Pass}
-use Rattle.facet_words.specs.Commands.{Settings}
 use Rattle.facet_words.specs.Sessions.Commands.{Order}
 use Rattle.facet_output.specs.Answered.{Answered}
-use Rattle.facet_output.specs.Output.{Opened}
 use Rattle.facet_output.specs.Sessions.{answers_of}
 use Rattle.facet_output.specs.Steps.{Step}
 use Rattle.facet_engine.specs.Steps.{seen_of}
@@ -13,28 +11,31 @@ use Rattle.facet_phases.specs.declared.fault.PhaseFault.{PhaseFault}
 use Rattle.facet_phases.specs.declared.fault.PhaseFault.TheVariants.{Write, NoMemory}
 use Rattle.facet_phases.specs.declared.lane.Lane.{Lane}
 use Rattle.facet_phases.specs.Phases.{PhaseRan, answers_in}
-use Rattle.facet_phases.specs.Running.{AreUnderway}
+use Rattle.facet_phases.specs.Running.{AreUnderway, Course, further}
 
--- The first of these phases were carried out, so many, with these steps. In the next one each session stopped at some order.
-pub record StopsShort (C : Type 0) (engine : Engine) (settings : Settings) (phases : List (List Order)) (opened : Opened) (ran : List (List Step))
-    (all : List (List Order)) (many : ℕ) (more : List (List Step)) (new : Pass) : Type 0 where
+-- Behind what was done the first of these phases were carried out, so many, with some steps more. In the next one each session stopped at some order.
+pub record StopsShort (C : Type 0) (engine : Engine) (course : Course) (all : List (List Order)) (new : Pass) : Type 0 where
+  pub many : ℕ
+  pub more : List (List Step)
   pub orders : List Order
   pub next : take (many + 1) all ≡ take many all ++ orders ∷ []
   pub middle : Pass
   pub between : List (Lane C)
-  pub under : AreUnderway engine settings (phases ++ take many all) opened (ran ++ more) middle between
+  pub under : AreUnderway engine (further course (take many all) more) middle between
   pub steps : List Step
   pub frame : new.commits.frame ≡ middle.commits.frame
-  pub short : PhaseRan settings middle.commits.frame (ran ++ more) (length (phases ++ take many all)) (seen_of middle) (seen_of new) orders steps
+  pub short : PhaseRan course.settings middle.commits.frame (course.ran ++ more) (length (course.phases ++ take many all)) (seen_of middle) (seen_of new) orders steps
 
--- The first of these phases were carried out, so many, with these steps, and then the next one with those. It is the last.
-pub record StopsBehind {C : Type 0} (engine : Engine) (settings : Settings) (phases : List (List Order)) (opened : Opened) (ran : List (List Step))
-    (all : List (List Order)) (many : ℕ) (more : List (List Step)) (steps : List Step) (new : Pass) (lanes : List (Lane C)) : Type 0 where
+-- Behind what was done the first of these phases were carried out, so many, with some steps more, and then the next one with its own. It is the last.
+pub record StopsBehind {C : Type 0} (engine : Engine) (course : Course) (all : List (List Order)) (new : Pass) (lanes : List (Lane C)) : Type 0 where
+  pub many : ℕ
+  pub more : List (List Step)
   pub next : many < length all
   pub middle : Pass
   pub between : List (Lane C)
-  pub under : AreUnderway engine settings (phases ++ take many all) opened (ran ++ more) middle between
-  pub last : AreUnderway engine settings (phases ++ take (many + 1) all) opened (ran ++ (more ++ steps ∷ [])) new lanes
+  pub under : AreUnderway engine (further course (take many all) more) middle between
+  pub steps : List Step
+  pub last : AreUnderway engine (further course (take (many + 1) all) (more ++ steps ∷ [])) new lanes
 
 -- All of the first replies were handed to the output, and then handing over the last ones failed: in terms of what each is between two moments of the output.
 abbrev pub BreaksBehind : {O : Type 0} → (O → O → List Answered → Type 0) → (O → O → List Answered → Type 0) → O → O → List Answered → List Answered → Type 0
@@ -44,37 +45,34 @@ BreaksBehind {O} Flushes Breaks before now first last = (middle : O) × Flushes 
 
 -- in terms of what it is that all of some replies were handed to the output, and that handing them over failed
 module _ {C : Type 0} (Flushes Breaks : List Answered → Type 0) where
-  -- Behind those phases one more ended so. Each of its orders was carried out, and the replies were handed over, or that failed. Without memory none is.
-  abbrev pub PhaseEnded : Engine → Settings → List (List Order) → Opened → List (List Step) → List Order → Pass → Pass → List (Lane C)
-      → Result (Unit {0}) PhaseFault → Type 0
-  PhaseEnded engine settings phases opened ran orders old new lanes (Ok u) = (steps : List Step)
-      × AreUnderway engine settings (phases ++ orders ∷ []) opened (ran ++ steps ∷ []) new lanes × Flushes (answers_in steps)
-  PhaseEnded engine settings phases opened ran orders old new lanes (Err Write) = (steps : List Step)
-      × AreUnderway engine settings (phases ++ orders ∷ []) opened (ran ++ steps ∷ []) new lanes × Breaks (answers_in steps)
-  PhaseEnded engine settings phases opened ran orders old new lanes (Err NoMemory) = (steps : List Step)
-      × PhaseRan settings old.commits.frame ran (length phases) (seen_of old) (seen_of new) orders steps × Flushes []
+  -- Behind what was done one phase more ended so. Each of its orders was carried out, and the replies were handed over, or that failed. Without memory none is.
+  abbrev pub PhaseEnded : Engine → Course → List Order → Pass → Pass → List (Lane C) → Result (Unit {0}) PhaseFault → Type 0
+  PhaseEnded engine course orders old new lanes (Ok u) = (steps : List Step)
+      × AreUnderway engine (further course (orders ∷ []) (steps ∷ [])) new lanes × Flushes (answers_in steps)
+  PhaseEnded engine course orders old new lanes (Err Write) = (steps : List Step)
+      × AreUnderway engine (further course (orders ∷ []) (steps ∷ [])) new lanes × Breaks (answers_in steps)
+  PhaseEnded engine course orders old new lanes (Err NoMemory) = (steps : List Step)
+      × PhaseRan course.settings old.commits.frame course.ran (length course.phases) (seen_of old) (seen_of new) orders steps × Flushes []
 
-  -- So it does behind whatever phases, in a system of whatever settings.
+  -- So it does whatever was done.
   abbrev pub EndsPhase : Engine → List Order → Pass → Pass → List (Lane C) → List (Lane C) → Result (Unit {0}) PhaseFault → Type 0
-  EndsPhase engine orders old new old_lanes lanes result = (settings : Settings) (phases : List (List Order)) (opened : Opened) (ran : List (List Step))
-      → AreUnderway engine settings phases opened ran old old_lanes → PhaseEnded engine settings phases opened ran orders old new lanes result
+  EndsPhase engine orders old new old_lanes lanes result = (course : Course) → AreUnderway engine course old old_lanes
+      → PhaseEnded engine course orders old new lanes result
 
 -- ---- several phases
 
 -- in terms of what it is that all of some replies were handed to the output, and that this failed behind some for others
 module _ {C : Type 0} (Flushes : List Answered → Type 0) (Breaks : List Answered → List Answered → Type 0) where
-  -- Behind those phases these ended so. All were carried out, and the replies of all were handed over. Or one was the last: the replies of those before it were
-  -- handed over, and then handing over its own failed. Or there was no memory for the one behind these: their replies were handed over.
-  abbrev pub PhasesEnded : Engine → Settings → List (List Order) → Opened → List (List Step) → List (List Order) → Pass → List (Lane C)
-      → Result (Unit {0}) PhaseFault → Type 0
-  PhasesEnded engine settings phases opened ran all new lanes (Ok u) = (more : List (List Step))
-      × AreUnderway engine settings (phases ++ all) opened (ran ++ more) new lanes × Flushes (answers_of more)
-  PhasesEnded engine settings phases opened ran all new lanes (Err Write) = (many : ℕ) × (more : List (List Step)) × (steps : List Step)
-      × StopsBehind engine settings phases opened ran all many more steps new lanes × Breaks (answers_of more) (answers_in steps)
-  PhasesEnded engine settings phases opened ran all new lanes (Err NoMemory) = (many : ℕ) × (more : List (List Step))
-      × StopsShort C engine settings phases opened ran all many more new × Flushes (answers_of more)
+  -- Behind what was done these phases ended so. All were carried out, and the replies of all were handed over. Or one was the last: the replies of those before it
+  -- were handed over, and then handing over its own failed. Or there was no memory for the one behind some: the replies of these were handed over.
+  abbrev pub PhasesEnded : Engine → Course → List (List Order) → Pass → List (Lane C) → Result (Unit {0}) PhaseFault → Type 0
+  PhasesEnded engine course all new lanes (Ok u) = (more : List (List Step))
+      × AreUnderway engine (further course all more) new lanes × Flushes (answers_of more)
+  PhasesEnded engine course all new lanes (Err Write) = (stop : StopsBehind engine course all new lanes)
+      × Breaks (answers_of stop.more) (answers_in stop.steps)
+  PhasesEnded engine course all new lanes (Err NoMemory) = (stop : StopsShort C engine course all new) × Flushes (answers_of stop.more)
 
-  -- So they do behind whatever phases, in a system of whatever settings.
+  -- So they do whatever was done.
   abbrev pub EndsPhases : Engine → List (List Order) → Pass → Pass → List (Lane C) → List (Lane C) → Result (Unit {0}) PhaseFault → Type 0
-  EndsPhases engine all old new old_lanes lanes result = (settings : Settings) (phases : List (List Order)) (opened : Opened) (ran : List (List Step))
-      → AreUnderway engine settings phases opened ran old old_lanes → PhasesEnded engine settings phases opened ran all new lanes result
+  EndsPhases engine all old new old_lanes lanes result = (course : Course) → AreUnderway engine course old old_lanes
+      → PhasesEnded engine course all new lanes result

@@ -37,30 +37,43 @@ pub record AreReady {C : Type 0} (engine : Engine) (first : Pass) (lanes : List 
   pub all : AllOf engine lanes
   pub seen : All (λ l. seen_of l.session.pass ≡ seen_of first) lanes
 
--- These phases were carried out over a system of these settings. What the first pass has seen is known, and each session holds what its steps leave it.
-pub record AreUnderway {C : Type 0} (engine : Engine) (settings : Settings) (phases : List (List Order)) (opened : Opened) (ran : List (List Step)) (first : Pass)
-    (lanes : List (Lane C)) : Type 0 where
-  pub so_far : RanSoFar settings phases opened ran (seen_of first)
-  pub set : All (λ l. HasSettings engine l.session.pass settings) lanes
-  pub held : All (λ l. numbers_held l.session.held ≡ held_by [] (own_steps l.session.number (steps_of ran))) lanes
+-- What was done so far: in a system of these settings, from what was opened, these phases were carried out by these steps.
+pub record Course : Type 0 where
+  pub settings : Settings
+  pub opened : Opened
+  pub phases : List (List Order)
+  pub ran : List (List Step)
+
+-- no phase was carried out yet
+abbrev pub at_start : Settings → Opened → Course
+at_start settings opened = record { settings = settings; opened = opened; phases = []; ran = [] }
+
+-- these phases were carried out behind those, by these steps
+abbrev pub further : Course → List (List Order) → List (List Step) → Course
+further course phases ran = record course { phases = course.phases ++ phases; ran = course.ran ++ ran }
+
+-- So much was done. What the first pass has seen is known, and each session holds what its steps leave it.
+pub record AreUnderway {C : Type 0} (engine : Engine) (course : Course) (first : Pass) (lanes : List (Lane C)) : Type 0 where
+  pub so_far : RanSoFar course.settings course.phases course.opened course.ran (seen_of first)
+  pub set : All (λ l. HasSettings engine l.session.pass course.settings) lanes
+  pub held : All (λ l. numbers_held l.session.held ≡ held_by [] (own_steps l.session.number (steps_of course.ran))) lanes
   pub frames : All (λ l. l.session.pass.commits.frame ≡ first.commits.frame) lanes
-  pub spent : AreSpentWithin first.commits.frame (steps_of ran)
+  pub spent : AreSpentWithin first.commits.frame (steps_of course.ran)
 
 -- Where the first pass had seen what was opened, over a system of whatever settings, no phase was carried out yet.
 abbrev pub BeginsUnderway : {C : Type 0} → Engine → Pass → Pass → List (Lane C) → Type 0
 BeginsUnderway engine old new lanes = (settings : Settings) (opened : Opened) → HasSettings engine old settings → seen_of old ≡ opened_seen opened
-    → AreUnderway engine settings [] opened [] new lanes
+    → AreUnderway engine (at_start settings opened) new lanes
 
 module _ {C : Type 0} (Holds : List Answered → C → Type 0) where
   -- A phase of these orders was carried out behind those: its steps. Ok is that none is left, and that the sessions keep the replies to all.
-  pub record CarriedOut {E : Type 0} (engine : Engine) (settings : Settings) (phases : List (List Order)) (opened : Opened) (ran : List (List Step))
-      (orders : List Order) (old new : Pass) (lanes : List (Lane C)) (result : Result (Unit {0}) E) : Type 0 where
+  pub record CarriedOut {E : Type 0} (engine : Engine) (course : Course) (orders : List Order) (old new : Pass) (lanes : List (Lane C))
+      (result : Result (Unit {0}) E) : Type 0 where
     pub steps : List Step
-    pub phase : PhaseRan settings old.commits.frame ran (length phases) (seen_of old) (seen_of new) orders steps
-    pub whole : OnOk result (AreUnderway engine settings (phases ++ orders ∷ []) opened (ran ++ steps ∷ []) new lanes
-        × KeepAll Holds lanes (answers_in steps))
+    pub phase : PhaseRan course.settings old.commits.frame course.ran (length course.phases) (seen_of old) (seen_of new) orders steps
+    pub whole : OnOk result (AreUnderway engine (further course (orders ∷ []) (steps ∷ [])) new lanes × KeepAll Holds lanes (answers_in steps))
 
   -- So it is behind whatever phases, in a system of whatever settings.
   abbrev pub CarriesOut : {E : Type 0} → Engine → List Order → Pass → Pass → List (Lane C) → List (Lane C) → Result (Unit {0}) E → Type 0
-  CarriesOut engine orders old new before lanes result = (settings : Settings) (phases : List (List Order)) (opened : Opened) (ran : List (List Step))
-      → AreUnderway engine settings phases opened ran old before → CarriedOut engine settings phases opened ran orders old new lanes result
+  CarriesOut engine orders old new before lanes result = (course : Course) → AreUnderway engine course old before
+      → CarriedOut engine course orders old new lanes result
