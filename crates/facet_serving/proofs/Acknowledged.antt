@@ -35,7 +35,8 @@ use Rattle.facet_serving.proofs.Commits.{failed_before}
 use Rattle.facet_serving.proofs.Counted.{written_few}
 use Rattle.facet_serving.proofs.Placed.{add_stands}
 use Rattle.facet_serving.specs.Acknowledged.{AcknowledgedStays, CommitsAreAcknowledged, HasAdd, Holds, IsAcknowledged, IsHeld}
-use Rattle.facet_serving.specs.Runs.{CountsFault, Ran, SpendsFrom, points_of}
+use Rattle.facet_serving.specs.Sessions.{Ran, SpendsFrom}
+use Rattle.facet_serving.specs.Stores.{CountsFault, points_of}
 use Rattle.facet_output.proofs.Gluing.{all_by}
 
 -- a point of the history of commits, as those who commit see it

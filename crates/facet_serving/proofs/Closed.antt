@@ -34,7 +34,10 @@ use Rattle.store_opening.specs.Newest.{next_after}
 use Rattle.facet_serving.proofs.Sessions.{ran_so, spends}
 use Rattle.facet_serving.proofs.Whole.{lines_before_last, lines_in_last, lines_whole}
 use Rattle.facet_serving.specs.Closing.{Closes, IsWithoutMemory}
-use Rattle.facet_serving.specs.Runs.{EndsPartly, IsTraceOf, Keeps, Opens, Ran, SpendsFrom, WritesBehind, WritesLine, lines_before, lines_in}
+use Rattle.facet_serving.specs.Ends.{EndsPartly}
+use Rattle.facet_serving.specs.Sessions.{IsTraceOf, Ran, SpendsFrom, lines_before, lines_in}
+use Rattle.facet_serving.specs.Stores.{Keeps, Opens}
+use Rattle.facet_serving.specs.Writing.{WritesBehind, WritesLine}
 use Rattle.facet_serving.specs.Serving.{EndsAs, IsCarried, Serves}
 use Rattle.facet_serving.specs.Statuses.{status_line}
 use Rattle.facet_serving.specs.declared.status.Status.{Status}

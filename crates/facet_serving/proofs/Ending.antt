@@ -12,7 +12,9 @@ use Rattle.facet_words.specs.Sessions.Commands.{Script}
 use Rattle.facet_words.specs.Sessions.Scripts.{script}
 use Rattle.store_opening.specs.declared.fault.OpenFault.{OpenFault}
 use Rattle.store_opening.specs.declared.fault.OpenFault.TheVariants as faults
-use Rattle.facet_serving.specs.Runs.{EndsBefore, EndsPartly, EndsShort, EndsWhole, ReadsScript, ReadsWhole, RunsSessions, TellsOfStore, WritesLine, script_limit}
+use Rattle.facet_serving.specs.Ends.{EndsBefore, EndsPartly, EndsShort, EndsWhole, RunsSessions, TellsOfStore}
+use Rattle.facet_serving.specs.Reading.{ReadsScript, ReadsWhole, script_limit}
+use Rattle.facet_serving.specs.Writing.{WritesLine}
 use Rattle.facet_serving.specs.Serving.{EndsAs, Serves, StaysShut}
 use Rattle.facet_serving.specs.Statuses.{fault_status, open_line, status_line}
 use Rattle.facet_serving.specs.declared.status.Status.{Status}

@@ -20,7 +20,7 @@ use Rattle.facet_output.proofs.Exact.{key_of}
 use Rattle.facet_serving.proofs.Alike.{alike, same_lines, whole}
 use Rattle.facet_serving.proofs.Lone.{Goes, goes_first, state_of}
 use Rattle.facet_serving.specs.Alike.{EqualFilesOpenTheSame, EqualStoresReplyAlike, EqualStoresWriteTheSame}
-use Rattle.facet_serving.specs.Runs.{Ran}
+use Rattle.facet_serving.specs.Sessions.{Ran}
 
 -- the session of the orders of a beginning
 first_of_session : (session : ℕ) (xs ys : List Answered) → IsPrefix (map key_of xs) (map key_of ys) → list_all (is_of session) ys ≡ true → list_all (is_of session) xs ≡ true

@@ -18,7 +18,7 @@ use Rattle.facet_output.specs.Seen.{CommitPoint as Point, history_of, labels_of}
 use Rattle.pair_manager.specs.declared.point.CommitPoint.{CommitPoint}
 use Rattle.store_opening.specs.Quiet.{IsQuiet}
 use Rattle.store_opening.specs.Settled.{IsSettled}
-use Rattle.facet_serving.specs.Runs.{CountsFault, Keeps, points_of}
+use Rattle.facet_serving.specs.Stores.{CountsFault, Keeps, points_of}
 
 points_are : (es : List (ℕ × CommitPoint)) → points_of (map {B = ℕ × Point} (λ e. (e.0, point_of e.1)) es) ≡ entries es
 points_are [] = refl

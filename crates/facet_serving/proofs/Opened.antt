@@ -19,7 +19,8 @@ use Rattle.facet_output.specs.Steps.{Step}
 use Rattle.facet_words.specs.Commands.{Settings}
 use Rattle.facet_words.specs.Sessions.Commands.{Order}
 use Rattle.store_opening.specs.Files.{files}
-use Rattle.facet_serving.specs.Runs.{IsTraceOf, Opens}
+use Rattle.facet_serving.specs.Sessions.{IsTraceOf}
+use Rattle.facet_serving.specs.Stores.{Opens}
 
 module _ {D : Type 0} (ghosts : Ghosts D) where
   pub opens : (config : Config) (store : Store D) (start : D) → start ≡ store.start.value → IsReady ghosts config store → Opens ghosts config start (opened_of store)

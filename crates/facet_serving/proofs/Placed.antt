@@ -14,7 +14,7 @@ use Rattle.facet_words.specs.Commands.{Settings}
 use Rattle.facet_words.specs.Sessions.Commands.{Order, add}
 use Rattle.facet_serving.proofs.Adds.{each_once, placed_or, stands_there}
 use Rattle.facet_serving.specs.Added.{AddsArePlaced, EachAddStands, EachIsAddedOnce, IsPlacedWhereItFits, Stands}
-use Rattle.facet_serving.specs.Runs.{Ran}
+use Rattle.facet_serving.specs.Sessions.{Ran}
 use Rattle.facet_output.proofs.Gluing.{all_by}
 
 -- the operation of an add that was placed

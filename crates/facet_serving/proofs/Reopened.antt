@@ -15,7 +15,7 @@ use Rattle.facet_output.specs.Seen.{CommitPoint as Point, Entries, Seen, history
 use Rattle.pair_manager.specs.declared.point.CommitPoint.{CommitPoint}
 use Rattle.store_opening.specs.Files.{Found, files}
 use Rattle.facet_serving.specs.Laws.{AcknowledgedIsReopened, IsReopened, LeavesStore}
-use Rattle.facet_serving.specs.Runs.{points_of}
+use Rattle.facet_serving.specs.Stores.{points_of}
 
 -- two readings of the same files are one
 one_found : (config : Config) (c : Image) (f f' : Found) → files config c ≡ Ok f → files config c ≡ Ok f' → f ≡ f'

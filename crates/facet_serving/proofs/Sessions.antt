@@ -25,7 +25,8 @@ use Rattle.facet_words.specs.Commands.{Settings}
 use Rattle.facet_words.specs.Sessions.Commands.{Order}
 use Rattle.store_opening.specs.Files.{greatest_number}
 use Rattle.store_opening.specs.Newest.{next_after}
-use Rattle.facet_serving.specs.Runs.{IsAlone, IsTraceOf, Keeps, Opens, Ran, SpendsFrom}
+use Rattle.facet_serving.specs.Sessions.{IsAlone, IsTraceOf, Ran, SpendsFrom}
+use Rattle.facet_serving.specs.Stores.{Keeps, Opens}
 use Rattle.chronicle.proofs.Prefixes.{prefix_length}
 
 orders_are : (xs : List Step) → map (λ (x : Step). x.answered.order) xs ≡ map (λ a. a.order) (map (λ (x : Step). x.answered) xs)

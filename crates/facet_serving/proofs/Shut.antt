@@ -13,7 +13,7 @@ use Rattle.store_opening.specs.Files.{files}
 use Rattle.store_opening.specs.Quiet.{IsQuiet}
 use Rattle.store_opening.specs.declared.fault.OpenFault.{OpenFault}
 use Rattle.store_opening.specs.declared.fault.OpenFault.TheVariants.{Disk as OfDisk, NoMemory as NoRoom}
-use Rattle.facet_serving.specs.Runs.{WritesLine}
+use Rattle.facet_serving.specs.Writing.{WritesLine}
 use Rattle.facet_serving.specs.Serving.{StaysShut}
 use Rattle.facet_serving.specs.Statuses.{fault_status, open_line, status_line}
 use Rattle.facet_serving.specs.declared.status.Status.{Status}

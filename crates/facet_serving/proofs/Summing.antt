@@ -22,7 +22,7 @@ use Rattle.facet_serving.specs.Alike.{replies_of}
 use Rattle.facet_serving.specs.Closing.{IsWithoutMemory, IsWritten}
 use Rattle.facet_serving.specs.Counting.{GoesOn}
 use Rattle.facet_serving.specs.Generating.{ClosesSummed, Generates, IsLineOf, SummedAs}
-use Rattle.facet_serving.specs.Runs.{Ran, SpendsFrom}
+use Rattle.facet_serving.specs.Sessions.{Ran, SpendsFrom}
 use Rattle.facet_serving.specs.Serving.{IsCarried}
 use Rattle.facet_serving.specs.declared.status.Status.{Status}
 

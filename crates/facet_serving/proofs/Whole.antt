@@ -13,7 +13,7 @@ use Rattle.facet_output.specs.Steps.{Step}
 use Rattle.facet_phases.specs.Phases.{asked, answers_in}
 use Rattle.facet_phases.specs.Runs.{IsCutOff}
 use Rattle.facet_words.specs.Sessions.Commands.{Order}
-use Rattle.facet_serving.specs.Runs.{lines_before, lines_in}
+use Rattle.facet_serving.specs.Sessions.{lines_before, lines_in}
 
 from_append : (n : ℕ) (xs ys : List (List Order)) → from_phase n (xs ++ ys) ≡ from_phase n xs ++ from_phase (n + length xs) ys
 from_append n [] ys = ap (λ k. from_phase k ys) (let e : n ≡ n + 0 = omega arith in e)

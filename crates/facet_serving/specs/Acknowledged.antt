@@ -19,7 +19,8 @@ use Rattle.generator.specs.Generated.{generated}
 use Rattle.store_opening.specs.Files.{greatest_number}
 use Rattle.store_opening.specs.Newest.{next_after}
 use Rattle.store_opening.specs.Settled.{IsSettled}
-use Rattle.facet_serving.specs.Runs.{Ran, script_limit}
+use Rattle.facet_serving.specs.Reading.{script_limit}
+use Rattle.facet_serving.specs.Sessions.{Ran}
 
 -- ---- what was acknowledged stays
 

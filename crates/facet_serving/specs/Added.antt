@@ -12,7 +12,7 @@ use Rattle.facet_output.specs.Telling.{placed_operation}
 use Rattle.facet_replies.specs.Replies.{Reply, docs_full, no_memory, placed, refused}
 use Rattle.facet_words.specs.Commands.{Settings}
 use Rattle.facet_words.specs.Sessions.Commands.{Order, add}
-use Rattle.facet_serving.specs.Runs.{Ran}
+use Rattle.facet_serving.specs.Sessions.{Ran}
 
 -- the operations of the adds that were answered with this place, beside it
 abbrev pub placed_at : ℕ → List Answered → List (ℕ × Operation)

@@ -11,7 +11,7 @@ use Rattle.facet_replies.specs.Replies.{Reply, closed, disk_failed, no_memory, n
 use Rattle.facet_words.specs.Commands.{Settings}
 use Rattle.facet_words.specs.Sessions.Commands.{Order}
 use Rattle.store_opening.specs.Files.{Found, files}
-use Rattle.facet_serving.specs.Runs.{Ran, bytes_of}
+use Rattle.facet_serving.specs.Sessions.{Ran, bytes_of}
 
 -- ---- replies that are alike
 

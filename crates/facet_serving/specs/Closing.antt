@@ -5,7 +5,7 @@ use Rattle.facet_io.specs.Faults.{Rose}
 use Rattle.facet_io.specs.declared.sink.Sink.{Ghosts as SinkGhosts}
 use Rattle.facet_phases.specs.declared.fault.PhaseFault.{PhaseFault}
 use Rattle.facet_phases.specs.declared.fault.PhaseFault.TheVariants as phases
-use Rattle.facet_serving.specs.Runs.{WritesLine}
+use Rattle.facet_serving.specs.Writing.{WritesLine}
 use Rattle.facet_serving.specs.Statuses.{status_line}
 use Rattle.facet_serving.specs.declared.status.Status.{Status}
 use Rattle.facet_serving.specs.declared.status.Status.TheVariants.{Done, WriteFault, NoMemory}

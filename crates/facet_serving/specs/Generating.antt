@@ -17,7 +17,8 @@ use Rattle.generator.specs.Tallies.{IsTallyOf}
 use Rattle.generator.specs.declared.tally.Tally.{Tally}
 use Rattle.facet_serving.specs.Alike.{replies_of}
 use Rattle.facet_serving.specs.Closing.{IsWithoutMemory, IsWritten}
-use Rattle.facet_serving.specs.Runs.{Ran, WritesLine}
+use Rattle.facet_serving.specs.Sessions.{Ran}
+use Rattle.facet_serving.specs.Writing.{WritesLine}
 use Rattle.facet_serving.specs.Statuses.{status_line}
 use Rattle.facet_serving.specs.declared.status.Status.{Status}
 use Rattle.facet_serving.specs.declared.status.Status.TheVariants.{Done, WriteFault, NoMemory}

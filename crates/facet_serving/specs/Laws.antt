@@ -13,7 +13,8 @@ use Rattle.facet_words.specs.Commands.{Settings}
 use Rattle.facet_words.specs.Sessions.Commands.{Order}
 use Rattle.store_opening.specs.Files.{Found, files}
 use Rattle.store_opening.specs.Settled.{IsSettled}
-use Rattle.facet_serving.specs.Runs.{Ran, points_of}
+use Rattle.facet_serving.specs.Sessions.{Ran}
+use Rattle.facet_serving.specs.Stores.{points_of}
 
 -- ---- one run after another
 

@@ -1,5 +1,9 @@
 pub mod Statuses
-pub mod Runs
+pub mod Reading
+pub mod Writing
+pub mod Stores
+pub mod Sessions
+pub mod Ends
 pub mod Closing
 pub mod Serving
 pub mod Laws

@@ -21,7 +21,10 @@ use Rattle.store_opening.specs.Newest.{next_after}
 use Rattle.store_opening.specs.Quiet.{IsQuiet}
 use Rattle.store_opening.specs.declared.fault.OpenFault.{OpenFault}
 use Rattle.store_opening.specs.declared.fault.OpenFault.TheVariants.{Disk as OfDisk, NoMemory as NoRoom}
-use Rattle.facet_serving.specs.Runs.{EndsPartly, EndsShort, EndsWhole, IsTraceOf, Keeps, Opens, WritesLine}
+use Rattle.facet_serving.specs.Ends.{EndsPartly, EndsShort, EndsWhole}
+use Rattle.facet_serving.specs.Sessions.{IsTraceOf}
+use Rattle.facet_serving.specs.Stores.{Keeps, Opens}
+use Rattle.facet_serving.specs.Writing.{WritesLine}
 use Rattle.facet_serving.specs.Statuses.{fault_status, open_line, status_line}
 use Rattle.facet_serving.specs.declared.status.Status.{Status}
 use Rattle.facet_serving.specs.declared.status.Status.TheVariants.{Done, WriteFault, NoMemory}

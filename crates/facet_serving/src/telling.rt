@@ -2,7 +2,7 @@ ghost use Rattle.std.specs.Prelude.{◌≡◌, ◌⊎◌, None, IfOk, map};
 ghost use Rattle.facet_replies.specs.ReplyLines.{fault_line};
 ghost use Rattle.facet_replies.specs.NamedFaults.{detail_field, named_fault_line};
 ghost use Rattle.store_opening.specs.declared.fault.OpenFault.TheVariants as faults;
-ghost use Rattle.facet_serving.specs.Runs.{WritesLine};
+ghost use Rattle.facet_serving.specs.Writing.{WritesLine};
 ghost use Rattle.facet_serving.specs.Statuses.{fault_status, open_line, status_line};
 
 use crate::status::{Ended, Status};

@@ -1,16 +1,10 @@
-ghost use Rattle.std.specs.Prelude.{◌≡◌, ◌≢◌, ◌⊎◌, ℕ, List, map, IfOk, Some, None, option_map, true, false};
+ghost use Rattle.std.specs.Prelude.{◌≡◌, Some, None, IfOk, map, option_map, true, false};
 ghost use Rattle.std.specs.String.{string_bytes};
 ghost use Rattle.command_line.specs.Words.{reads_script, words_of};
-ghost use Rattle.facet_disk.specs.Images.{Told};
-ghost use Rattle.facet_io.specs.Faults.{Rose};
-ghost use Rattle.facet_serving.specs.Runs.{EndsBefore, EndsPartly, EndsShort, EndsWhole, ReadsScript, ReadsSome, ReadsTooMuch, ReadsWithin, RunsSessions};
-ghost use Rattle.facet_serving.specs.Runs.{TellsOfScript, TellsOfStore, WritesLine, expected, opened_status};
+ghost use Rattle.facet_serving.specs.Generating.{generated_by};
 ghost use Rattle.facet_words.specs.Sessions.Commands.{Script};
-ghost use Rattle.store_opening.specs.Files.{files};
 ghost use Rattle.facet_shell.specs.Asking.{IsAsked};
-ghost use Rattle.facet_serving.specs.Generating.{Generates, generated_by};
-ghost use Rattle.facet_serving.specs.Serving.{StaysShut};
-ghost use Rattle.facet_serving.specs.Statuses.{status_line};
+ghost use Rattle.facet_shell.specs.Runs.{RefusesWords, RunsGenerated, RunsScript, resources};
 
 use command_line::read_words;
 use facet_disk::Disk;
@@ -74,39 +68,7 @@ fn run_read<R: Threads + Wait + Sync, S: Source, K: Sink, D: Disk, G: Gate + Syn
     disk: D,
     gate: &G,
 ) -> Ended<D>
-    // What was read, carried out and written at each end. The store's files are as they were where no session began.
-    ensures done { result.status ≡ Status.Done → RunsSessions S.Source source.old source.new result.trace
-        (λ s trace. EndsWhole D.Disk s trace disk result.disk K.Sink sink.old sink.new) }
-    ensures write_fault { result.status ≡ Status.WriteFault → RunsSessions S.Source source.old source.new result.trace
-        (λ s trace. EndsPartly D.Disk s trace disk result.disk K.Sink sink.old sink.new) }
-    ensures no_memory { result.status ≡ Status.NoMemory → RunsSessions S.Source source.old source.new result.trace
-        (λ s trace. EndsShort D.Disk s trace disk result.disk K.Sink sink.old sink.new) ⊎ EndsBefore D.Disk disk result.disk result.trace }
-    ensures quiet { (result.status ≡ Status.Done) ⊎ (result.status ≡ Status.WriteFault) ⊎ (result.status ≡ Status.NoMemory)
-        ⊎ EndsBefore D.Disk disk result.disk result.trace }
-    ensures bad_script { result.status ≡ Status.BadScript → TellsOfScript S.Source source.old source.new K.Sink sink.old sink.new }
-    ensures not_opened { (result.status ≡ Status.BadStore) ⊎ (result.status ≡ Status.OtherConfig)
-        → TellsOfStore D.Disk S.Source source.old source.new K.Sink sink.old sink.new disk result.status }
-    ensures too_long { result.status ≡ Status.TooLong → ReadsTooMuch S.Source source.old source.new }
-    ensures at_most { ReadsSome S.Source source.old source.new }
-    ensures told { result.trace ≡ None → (result.status ≡ Status.BadScript) ⊎ (result.status ≡ Status.BadStore) ⊎ (result.status ≡ Status.OtherConfig)
-        ⊎ WritesLine K.Sink sink.old sink.new (status_line result.status) }
-
-    // When each end comes.
-    ensures words { result.status ≢ Status.BadWords }
-    ensures read_failed { result.status ≡ Status.ReadFault → ReadsWithin S.Source source.old source.new × Rose (S.faults source.old) (S.faults source.new) }
-    ensures write_failed { result.status ≡ Status.WriteFault → Rose (K.faults sink.old) (K.faults sink.new) }
-    ensures disk_failed { result.status ≡ Status.DiskFault → ReadsScript S.Source source.old source.new × Rose (D.faults disk) (D.faults result.disk) }
-    ensures device_failed { result.status ≡ Status.DiskFault → (s : Told) → D.told disk ≡ Some s → Rose (D.failures disk) (D.failures result.disk) }
-
-    // Counts of faults stay where nothing failed. That of the disk may rise in a commit, whose reply tells it.
-    ensures source_still { result.status ≢ Status.ReadFault → S.faults source.new ≡ S.faults source.old }
-    ensures sink_still { result.status ≡ Status.Done → K.faults sink.new ≡ K.faults sink.old }
-    ensures disk_still { (result.status ≡ Status.Done) ⊎ (result.status ≡ Status.WriteFault) ⊎ (result.status ≡ Status.NoMemory)
-        ⊎ (result.status ≡ Status.DiskFault) ⊎ (D.faults result.disk ≡ D.faults disk) }
-
-    ensures complete { (input : List ℕ) (s : Told) → S.left source.old ≡ Some input → D.told disk ≡ Some s
-        → ¬ Rose (S.faults source.old) (S.faults source.new) → ¬ Rose (K.faults sink.old) (K.faults sink.new) → ¬ Rose (D.faults disk) (D.faults result.disk)
-        → (result.status ≡ expected input s.files) ⊎ (result.status ≡ Status.NoMemory) }
+    ensures { RunsScript S.Source K.Sink D.Disk (resources source.old sink.old disk) (resources source.new sink.new result.disk) result.trace result.status }
 {
     match read_to_end(alloc, source, SCRIPT_LIMIT) {
         Err(ReadFault::Failed) => tell(sink, Status::ReadFault, disk),
@@ -143,65 +105,13 @@ pub fn run<R: AllocGlobal + Threads + Wait + Sync, S: Source, K: Sink, D: Disk, 
     disk: D,
     gate: &G,
 ) -> Ended<D>
-    // What was read, carried out and written at each end. The store's files are as they were where no session began.
-    ensures done { generated_by (words_of (map string_bytes words.now)) ≡ None
-        → result.status ≡ Status.Done → RunsSessions S.Source source.old source.new result.trace
-        (λ s trace. EndsWhole D.Disk s trace disk result.disk K.Sink sink.old sink.new) }
-    ensures write_fault { generated_by (words_of (map string_bytes words.now)) ≡ None
-        → result.status ≡ Status.WriteFault → RunsSessions S.Source source.old source.new result.trace
-        (λ s trace. EndsPartly D.Disk s trace disk result.disk K.Sink sink.old sink.new) }
-    ensures no_memory { generated_by (words_of (map string_bytes words.now)) ≡ None
-        → result.status ≡ Status.NoMemory → RunsSessions S.Source source.old source.new result.trace
-        (λ s trace. EndsShort D.Disk s trace disk result.disk K.Sink sink.old sink.new) ⊎ EndsBefore D.Disk disk result.disk result.trace }
-    ensures quiet { generated_by (words_of (map string_bytes words.now)) ≡ None
-        → ((result.status ≡ Status.Done) ⊎ (result.status ≡ Status.WriteFault) ⊎ (result.status ≡ Status.NoMemory)
-        ⊎ EndsBefore D.Disk disk result.disk result.trace) }
-    ensures bad_script { generated_by (words_of (map string_bytes words.now)) ≡ None
-        → result.status ≡ Status.BadScript → TellsOfScript S.Source source.old source.new K.Sink sink.old sink.new }
-    ensures not_opened { generated_by (words_of (map string_bytes words.now)) ≡ None
-        → (result.status ≡ Status.BadStore) ⊎ (result.status ≡ Status.OtherConfig)
-        → TellsOfStore D.Disk S.Source source.old source.new K.Sink sink.old sink.new disk result.status }
-    ensures too_long { generated_by (words_of (map string_bytes words.now)) ≡ None
-        → result.status ≡ Status.TooLong → ReadsTooMuch S.Source source.old source.new }
-    ensures unread { result.status ≡ Status.BadWords → source.new ≡ source.old }
-    ensures at_most { ReadsSome S.Source source.old source.new }
-    ensures told { generated_by (words_of (map string_bytes words.now)) ≡ None
-        → result.trace ≡ None → (result.status ≡ Status.BadScript) ⊎ (result.status ≡ Status.BadStore) ⊎ (result.status ≡ Status.OtherConfig)
-        ⊎ WritesLine K.Sink sink.old sink.new (status_line result.status) }
-
-    // When each end comes.
-    ensures bad_words { result.status ≡ Status.BadWords → reads_script (words_of (map string_bytes words.now)) ≡ false }
-    ensures words_refused { reads_script (words_of (map string_bytes words.now)) ≡ false → generated_by (words_of (map string_bytes words.now)) ≡ None
-        → (result.status ≡ Status.BadWords) ⊎ (result.status ≡ Status.NoMemory) }
-    ensures read_failed { generated_by (words_of (map string_bytes words.now)) ≡ None
-        → result.status ≡ Status.ReadFault → ReadsWithin S.Source source.old source.new × Rose (S.faults source.old) (S.faults source.new) }
-    ensures write_failed { generated_by (words_of (map string_bytes words.now)) ≡ None
-        → result.status ≡ Status.WriteFault → Rose (K.faults sink.old) (K.faults sink.new) }
-    ensures disk_failed { generated_by (words_of (map string_bytes words.now)) ≡ None
-        → result.status ≡ Status.DiskFault → ReadsScript S.Source source.old source.new × Rose (D.faults disk) (D.faults result.disk) }
-    ensures device_failed { result.status ≡ Status.DiskFault → (s : Told) → D.told disk ≡ Some s → Rose (D.failures disk) (D.failures result.disk) }
-
-    // Counts of faults stay where nothing failed. That of the disk may rise in a commit, whose reply tells it.
-    ensures source_still { result.status ≢ Status.ReadFault → S.faults source.new ≡ S.faults source.old }
-    ensures sink_still { generated_by (words_of (map string_bytes words.now)) ≡ None
-        → result.status ≡ Status.Done → K.faults sink.new ≡ K.faults sink.old }
-    ensures disk_still { generated_by (words_of (map string_bytes words.now)) ≡ None
-        → ((result.status ≡ Status.Done) ⊎ (result.status ≡ Status.WriteFault) ⊎ (result.status ≡ Status.NoMemory)
-        ⊎ (result.status ≡ Status.DiskFault) ⊎ (D.faults result.disk ≡ D.faults disk)) }
-
-    ensures complete { (input : List ℕ) (s : Told) → S.left source.old ≡ Some input → D.told disk ≡ Some s
-        → reads_script (words_of (map string_bytes words.now)) ≡ true
-        → ¬ Rose (S.faults source.old) (S.faults source.new) → ¬ Rose (K.faults sink.old) (K.faults sink.new) → ¬ Rose (D.faults disk) (D.faults result.disk)
-        → (result.status ≡ expected input s.files) ⊎ (result.status ≡ Status.NoMemory) }
-
-    // Where the words ask for documents to be generated, nothing is read. The replies to their script are right, and the line of their summary is written; or
-    // the store was not opened.
-    ensures generated { (s : Script) → generated_by (words_of (map string_bytes words.now)) ≡ Some s → (source.new ≡ source.old)
-        × (Generates D.Disk s disk result.disk K.Sink sink.old sink.new result.trace result.status
-        ⊎ StaysShut D.Disk s disk result.disk K.Sink sink.old sink.new result.trace result.status) }
-    ensures generated_complete { (s : Script) (t : Told) → generated_by (words_of (map string_bytes words.now)) ≡ Some s → D.told disk ≡ Some t
-        → ¬ Rose (K.faults sink.old) (K.faults sink.new) → ¬ Rose (D.faults disk) (D.faults result.disk)
-        → (result.status ≡ opened_status (files s.settings.config t.files)) ⊎ (result.status ≡ Status.NoMemory) }
+    // Which promise is kept depends on the words: a script is to be read, or documents are to be generated, or they are refused.
+    ensures script { reads_script (words_of (map string_bytes words.now)) ≡ true
+        → RunsScript S.Source K.Sink D.Disk (resources source.old sink.old disk) (resources source.new sink.new result.disk) result.trace result.status }
+    ensures generated { (s : Script) → generated_by (words_of (map string_bytes words.now)) ≡ Some s
+        → RunsGenerated S.Source K.Sink D.Disk (resources source.old sink.old disk) (resources source.new sink.new result.disk) result.trace result.status s }
+    ensures refused { reads_script (words_of (map string_bytes words.now)) ≡ false → generated_by (words_of (map string_bytes words.now)) ≡ None
+        → RefusesWords S.Source K.Sink D.Disk (resources source.old sink.old disk) (resources source.new sink.new result.disk) result.trace result.status }
 {
     let alloc = rt.alloc();
     match asked_by(alloc, words) {
