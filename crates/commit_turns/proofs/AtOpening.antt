@@ -15,16 +15,17 @@ use Rattle.commit_turns.specs.Commits.{Keeps, Stands}
 use Rattle.commit_turns.specs.DiskStates.{DiskState, state_of}
 use Rattle.commit_turns.specs.Opening.{IsOpenedAs, WasSettled}
 use Rattle.commit_turns.specs.Points.{made}
-use Rattle.commit_turns.specs.Recovery.{AreFirst, Holds}
+use Rattle.commit_turns.specs.Recovery.{AreFirst, Holds, HoldsJust}
 use Rattle.pair_manager.specs.declared.point.CommitPoint.{CommitPoint}
-use Rattle.commit_turns.proofs.Imaged.{holds_found}
+use Rattle.commit_turns.proofs.Imaged.{holds_found, just_found}
 use Rattle.commit_turns.proofs.Pointed.{Below}
 use Rattle.commit_turns.proofs.Prefixed.{first_all}
+use Rattle.commit_turns.proofs.Surviving.{OnlyNow, marked, survive_first}
 
 all_one : (P : CommitPoint → Type 0) (p : CommitPoint) → P p → All P (p ∷ [])
 all_one P p holds = All-push P [] p (All-nil P) holds
 
-module _ {D : Type 0} (disk : Ghosts D) (only_now : (d : D) (c : Image) → disk.left_since d (disk.moment d) c → disk.may_leave d c) (told settled : Type 0) (quiet : DiskState → Type 0) (start : D) (committer : CommitterView D) (labels : Labels) (docs : List Doc)
+module _ {D : Type 0} (disk : Ghosts D) (only_now : OnlyNow disk) (told settled : Type 0) (quiet : DiskState → Type 0) (start : D) (committer : CommitterView D) (labels : Labels) (docs : List Doc)
     (o : IsOpenedAs disk start committer labels docs) (was_told : told → (s : Told) × (disk.told start ≡ Some s)) (was_settled : settled → WasSettled disk committer.config start)
     (is_quiet : quiet (state_of disk committer.disk)) where
   abbrev point : CommitPoint
@@ -42,14 +43,23 @@ module _ {D : Type 0} (disk : Ghosts D) (only_now : (d : D) (c : Image) → disk
   at_first : settled → (c : Image) → disk.may_leave start c → Holding c
   at_first is c left = let w = was_settled is in has_all c (w.settled.same c left ∙ o.opened.has w.told w.tells)
 
-  keeps : settled → Keeps disk start committer labels docs (point ∷ [])
+  just_first : settled → (c : Image) → disk.may_leave start c → HoldsJust committer.config labels docs point c
+  just_first is c left =
+      let w = was_settled is in
+      just_found committer.config labels labels docs o.segments point c (w.settled.same c left ∙ o.opened.has w.told w.tells) (stays labels) first refl (ap length o.documents)
+
+  -- opening has changed no image
+  still : (P : Image → Type 0) → ((c : Image) → disk.may_leave start c → P c) → (c : Image) → disk.may_leave committer.disk c → P c
+  still P at c left = let before = o.opened.quiet.passes.now c left in subst P (sym before.2) (at before.0 before.1)
+
+  keeps : settled → Keeps disk start committer labels docs (point ∷ []) (marked committer.disk point)
   keeps is = record {
     moments = leaves_by disk only_now IsUnchanged Holding start committer.disk o.opened.quiet.passes (at_first is) (λ c d left same. subst Holding (sym same) (at_first is c left));
-    now = all_one (λ (p : CommitPoint). (c : Image) → disk.may_leave committer.disk c → Holds committer.config labels docs p c) point
-        (λ c left. let before = o.opened.quiet.passes.now c left in subst Holding (sym before.2) (at_first is before.0 before.1));
+    now = all_one (λ (p : CommitPoint). (c : Image) → disk.may_leave committer.disk c → Holds committer.config labels docs p c) point (still Holding (at_first is));
+    survive = survive_first disk committer.config only_now labels docs point committer.disk (still Holding (at_first is)) (λ unfailed. still (HoldsJust committer.config labels docs point) (just_first is));
   }
 
-  pub stands_opened : Stands disk told settled quiet start committer.state committer point labels docs (point ∷ [])
+  pub stands_opened : Stands disk told settled quiet start committer.state committer point labels docs (point ∷ []) (marked committer.disk point)
   stands_opened = record {
     points = record {
       before = [];

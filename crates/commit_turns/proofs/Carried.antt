@@ -1,7 +1,7 @@
 -- What the value stands for, carried over a longer note and over a commit.
 use Rattle.std.proofs.Common.{◌≡◌, ℕ, ◌≤◌, ◌+◌, ◌-◌, ◌^◌, List, [], ◌∷◌, ◌++◌, length, Option, Some, None, Ok, refl, sym, ap, subst, ◌∙◌, arith, inl, inr, All}
-use Rattle.std.proofs.lemmas.List.{length-append}
-use Rattle.std.proofs.lemmas.List.Elements.{All-push, All-weaker}
+use Rattle.std.proofs.lemmas.List.{length-append, append-nil}
+use Rattle.std.proofs.lemmas.List.Elements.{All-push, All-weaker, All-contains, Contains-push}
 use Rattle.facet_disk.specs.Calls.{Rose}
 use Rattle.facet_disk.specs.Images.{Image, Told}
 use Rattle.facet_disk.specs.declared.disk.Disk.{Ghosts}
@@ -25,11 +25,13 @@ use Rattle.store_opening.proofs.Held.{files_stand}
 use Rattle.commit_turns.specs.Commits.{IsLast, Keeps, IsFollowed, Stands}
 use Rattle.commit_turns.specs.DiskStates.{DiskState, state_of}
 use Rattle.commit_turns.specs.Points.{count_after, made, failed_after, first_of}
-use Rattle.commit_turns.specs.Recovery.{AreFirst, Holds}
+use Rattle.commit_turns.specs.Recovery.{AreFirst, Holds, HoldsJust}
+use Rattle.commit_turns.specs.Surviving.{Survive}
 use Rattle.pair_manager.specs.declared.point.CommitPoint.{CommitPoint}
-use Rattle.commit_turns.proofs.Imaged.{holds_more, holds_less, holds_found}
+use Rattle.commit_turns.proofs.Imaged.{holds_more, holds_less, holds_found, just_found}
 use Rattle.commit_turns.proofs.Pointed.{first_below, first_more, points_made, points_failed, Below}
 use Rattle.commit_turns.proofs.Prefixed.{first_all, first_on, none_first}
+use Rattle.commit_turns.proofs.Surviving.{OnlyNow, marked, survive_more, survive_push}
 
 pub none_unless : (o : Option ℕ) → ((n : ℕ) → o ≡ Some n → ⊥) → o ≡ None
 none_unless None never = refl
@@ -51,14 +53,14 @@ module _ {D : Type 0} (disk : Ghosts D) where
       files_stand config committer.state.next at.taxonomy at.index c (record { labels = labels; segments = segments }) (at.stands c left) at.known.files
 
   module _ (told settled : Type 0) (quiet : DiskState → Type 0) (start : D) (begun : Committed) where
-    abbrev pub On : CommitterView D → CommitPoint → Labels → List Doc → List CommitPoint → Type 0
+    abbrev pub On : CommitterView D → CommitPoint → Labels → List Doc → List CommitPoint → List (D × CommitPoint) → Type 0
     On = Stands disk told settled quiet start begun
 
     -- ---- longer notes
 
-    pub stands_more : (committer : CommitterView D) (last : CommitPoint) (labels more : Labels) (docs docs' : List Doc) (es : List CommitPoint) → GoesOn labels more → AreFirst docs docs'
-        → On committer last labels docs es → On committer last more docs' es
-    stands_more committer last labels more docs docs' es on first st = record {
+    pub stands_more : (committer : CommitterView D) (last : CommitPoint) (labels more : Labels) (docs docs' : List Doc) (es : List CommitPoint) (marks : List (D × CommitPoint)) → GoesOn labels more → AreFirst docs docs'
+        → On committer last labels docs es marks → On committer last more docs' es marks
+    stands_more committer last labels more docs docs' es marks on first st = record {
       points = record {
         before = st.points.before;
         ends = st.points.ends;
@@ -80,6 +82,7 @@ module _ {D : Type 0} (disk : Ghosts D) where
         now = All-weaker (λ (p : CommitPoint). (c : Image) → disk.may_leave committer.disk c → Holds committer.config labels docs p c)
             (λ (p : CommitPoint). (c : Image) → disk.may_leave committer.disk c → Holds committer.config more docs' p c)
             (λ p holds c left. holds_more committer.config labels more docs docs' p c on first (holds c left)) es k.now;
+        survive = survive_more disk committer.config labels more docs docs' es marks committer.disk on first k.survive;
       };
       committed = λ is none. let l = st.committed is none in record {
         known = l.known;
@@ -97,10 +100,16 @@ module _ {D : Type 0} (disk : Ghosts D) where
       untouched = st.untouched;
     }
 
+    -- ---- no point more
+
+    pub stands_none : (committer : CommitterView D) (last : CommitPoint) (labels : Labels) (docs : List Doc) (es : List CommitPoint) (marks : List (D × CommitPoint))
+        → On committer last labels docs es marks → On committer last labels docs (es ++ []) (marks ++ [])
+    stands_none committer last labels docs es marks st = subst (λ (T : Type 0). T) (λ i. On committer last labels docs (sym (append-nil es) i) (sym (append-nil marks) i)) st
+
     -- ---- a commit
 
-    module _ (old new : CommitterView D) (last : CommitPoint) (view : Labels) (docs : List Doc) (segments : List Records) (es : List CommitPoint)
-        (none : old.closed ≡ None) (same : new.config ≡ old.config) (list : IsLabelList view) (all : docs_in view segments ≡ docs) (st : On old last view docs es) where
+    module _ (old new : CommitterView D) (last : CommitPoint) (view : Labels) (docs : List Doc) (segments : List Records) (es : List CommitPoint) (marks : List (D × CommitPoint))
+        (none : old.closed ≡ None) (same : new.config ≡ old.config) (list : IsLabelList view) (all : docs_in view segments ≡ docs) (st : On old last view docs es marks) where
       unfailed : last.failed ≡ None
       unfailed = st.closed ∙ none
 
@@ -149,12 +158,17 @@ module _ {D : Type 0} (disk : Ghosts D) where
         HasAll ps = All (λ (p : CommitPoint). (c : Image) → disk.may_leave new.disk c → Holding p c) ps
 
         -- so each image holds what it did and the new point
-        keeps_with : (p : CommitPoint) → LeavesOnly disk old.disk new.disk (HasOneOfThree old.config was.known was.segments view segments) → HasAll (es ++ p ∷ [])
-            → Keeps disk start new view docs (es ++ p ∷ [])
-        keeps_with p leaves now = record {
-          moments = moments p leaves;
-          now = subst (λ (k : Config). All (λ (p : CommitPoint). (c : Image) → disk.may_leave new.disk c → Holds k view docs p c) (es ++ p ∷ [])) (sym same) now;
-        }
+        keeps_with : OnlyNow disk → (p : CommitPoint) → LeavesOnly disk old.disk new.disk (HasOneOfThree old.config was.known was.segments view segments) → HasAll (es ++ p ∷ [])
+            → (p.failed ≡ None → (c : Image) → disk.may_leave new.disk c → HoldsJust old.config view docs p c) → Keeps disk start new view docs (es ++ p ∷ []) (marks ++ marked new.disk p)
+        keeps_with only_now p leaves now just =
+            let last_held = leaves_more disk (HasOneOfThree old.config was.known was.segments view segments) (Holding last) old.disk new.disk one_of_three leaves in
+            let here = All-contains (λ (q : CommitPoint). (c : Image) → disk.may_leave new.disk c → Holding q c) (es ++ p ∷ []) p now (Contains-push es p) in
+            let survive = survive_push disk old.config only_now view docs es marks last p old.disk new.disk st.points.most last_held here just (st.keeps is).survive in
+            record {
+              moments = moments p leaves;
+              now = subst (λ (k : Config). All (λ (p : CommitPoint). (c : Image) → disk.may_leave new.disk c → Holds k view docs p c) (es ++ p ∷ [])) (sym same) now;
+              survive = subst (λ (k : Config). Survive disk k view docs (es ++ p ∷ []) (marks ++ marked new.disk p) new.disk) (sym same) survive;
+            }
 
         -- it failed on the disk
         has_failed : (count : ℕ) → ((c : Image) → disk.may_leave new.disk c → HasOneOfThree old.config was.known was.segments view segments c) → HasAll (es ++ failed_after last count ∷ [])
@@ -185,9 +199,9 @@ module _ {D : Type 0} (disk : Ghosts D) where
             failed = λ k is. subst (λ (n : ℕ). Rose n (disk.failures new.disk)) (known.unfailed none) (fails tells.0 tells.1 before.listed before.fresh);
           }
 
-      pub stands_failed : (count : ℕ) → new.closed ≡ Some count → Rose (disk.faults old.disk) (disk.faults new.disk) → count ≡ disk.faults new.disk → disk.faults old.disk ≤ disk.faults new.disk → new.state ≡ old.state → ((s : Told) → disk.told old.disk ≡ Some s → (u : Told) × (disk.told new.disk ≡ Some u))
-          → FailsDevice disk old new → PassesThree disk old new view segments → LeavesThree disk old new view segments → On new (failed_after last count) view docs (es ++ failed_after last count ∷ [])
-      stands_failed count closed rises is_count later state tells fails leaves ends = record {
+      pub stands_failed : OnlyNow disk → (count : ℕ) → new.closed ≡ Some count → Rose (disk.faults old.disk) (disk.faults new.disk) → count ≡ disk.faults new.disk → disk.faults old.disk ≤ disk.faults new.disk → new.state ≡ old.state → ((s : Told) → disk.told old.disk ≡ Some s → (u : Told) × (disk.told new.disk ≡ Some u))
+          → FailsDevice disk old new → PassesThree disk old new view segments → LeavesThree disk old new view segments → On new (failed_after last count) view docs (es ++ failed_after last count ∷ []) (marks ++ marked new.disk (failed_after last count))
+      stands_failed only_now count closed rises is_count later state tells fails leaves ends = record {
         points = points_failed (disk.faults old.disk) (length view) (length docs) last es st.points count unfailed (disk.faults new.disk) (omega (arith, is_count));
         closed = sym closed;
         counted = omega (arith, st.counted, later);
@@ -198,7 +212,8 @@ module _ {D : Type 0} (disk : Ghosts D) where
         followed = follows_failed count closed fails;
         keeps = λ is.
             let w = was is in
-            keeps_with is (failed_after last count) (leaves w.tells.0 w.known w.segments w.tells.1 w.here w.goes_on) (has_failed is count (ends w.tells.0 w.known w.segments w.tells.1 w.here w.goes_on));
+            keeps_with is only_now (failed_after last count) (leaves w.tells.0 w.known w.segments w.tells.1 w.here w.goes_on) (has_failed is count (ends w.tells.0 w.known w.segments w.tells.1 w.here w.goes_on))
+            (λ unfailed c left. absurd (cc unfailed));
         committed = λ is unshut. absurd (cc (closed, unshut));
         untouched = several (failed_after last count) (quiet (state_of disk new.disk));
       }
@@ -221,10 +236,10 @@ module _ {D : Type 0} (disk : Ghosts D) where
             failed = λ k is. absurd (cc (unshut, is));
           }
 
-      pub stands_made : new.closed ≡ None → Decodes view old.config segments (docs_in view segments) → (docs_in view segments ≡ [] → segments ≡ []) → disk.faults new.disk ≡ disk.faults old.disk → new.state.next ≤ old.state.next + 1000003
+      pub stands_made : OnlyNow disk → new.closed ≡ None → Decodes view old.config segments (docs_in view segments) → (docs_in view segments ≡ [] → segments ≡ []) → disk.faults new.disk ≡ disk.faults old.disk → new.state.next ≤ old.state.next + 1000003
           → ((s : Told) → disk.told old.disk ≡ Some s → (u : Told) × (disk.told new.disk ≡ Some u)) → (told → IsFollowed disk start new) → PassesThree disk old new view segments → Acknowledges disk old new view segments
-          → On new (made (length docs) (length view)) view docs (es ++ made (length docs) (length view) ∷ [])
-      stands_made unclosed decodes some still takes tells followed leaves acknowledges = record {
+          → On new (made (length docs) (length view)) view docs (es ++ made (length docs) (length view) ∷ []) (marks ++ marked new.disk (made (length docs) (length view)))
+      stands_made only_now unclosed decodes some still takes tells followed leaves acknowledges = record {
         points = points_made (disk.faults old.disk) (length view) (length docs) last es st.points unfailed (disk.faults new.disk);
         closed = sym unclosed;
         counted = omega (arith, st.counted, still);
@@ -237,7 +252,8 @@ module _ {D : Type 0} (disk : Ghosts D) where
             let w = was is in
             let here = acknowledges w.tells.0 w.known w.segments w.tells.1 w.here w.goes_on (none_before is) in
             let stand = subst (λ (k : Config). (c : Image) → disk.may_leave new.disk c → files k c ≡ Ok (record { labels = view; segments = segments })) same (last_files new.config new view segments here) in
-            keeps_with is (made (length docs) (length view)) (leaves w.tells.0 w.known w.segments w.tells.1 w.here w.goes_on) (has_made is stand);
+            keeps_with is only_now (made (length docs) (length view)) (leaves w.tells.0 w.known w.segments w.tells.1 w.here w.goes_on) (has_made is stand)
+            (λ unfailed c left. just_found old.config view view docs segments (made (length docs) (length view)) c (stand c left) (stays view) (subst (λ (d : List Doc). AreFirst d docs) (sym all) (first_all docs)) refl (ap length all));
         committed = λ is unshut.
             let w = was is in record {
               known = view;

@@ -23,8 +23,8 @@ use Rattle.commit_turns.proofs.Pointed.{last_push}
 abbrev AtFailure : (ℕ → Type 0) → CommitPoint → Type 0
 AtFailure P p = (count : ℕ) → p.failed ≡ Some count → P count
 
-module _ {D : Type 0} (disk : Ghosts D) (told settled : Type 0) (quiet : DiskState → Type 0) (start : D) (begun : Committed) (committer : CommitterView D) (last : CommitPoint) (labels : Labels) (docs : List Doc) (es : List CommitPoint)
-    (st : On disk told settled quiet start begun committer last labels docs es) where
+module _ {D : Type 0} (disk : Ghosts D) (told settled : Type 0) (quiet : DiskState → Type 0) (start : D) (begun : Committed) (committer : CommitterView D) (last : CommitPoint) (labels : Labels) (docs : List Doc) (es : List CommitPoint) (marks : List (D × CommitPoint))
+    (st : On disk told settled quiet start begun committer last labels docs es marks) where
   -- what holds of the last count holds of each
   each_failed : (P : ℕ → Type 0) → AtFailure P last → All (AtFailure P) es
   each_failed P here = subst (λ (l : List CommitPoint). All (AtFailure P) l) (sym st.points.ends)
@@ -67,7 +67,9 @@ module _ {D : Type 0} (disk : Ghosts D) (told settled : Type 0) (quiet : DiskSta
 
   pub lasts : settled → ((s : Told) → disk.told committer.disk ≡ Some s → disk.may_leave committer.disk s.files) → Lasts disk committer.config (disk.moment start) labels docs es committer.disk
   lasts is own = record {
-    moments = (st.keeps is).moments.each;
+    opened = (st.keeps is).moments.each;
+    marks = marks;
+    moments = (st.keeps is).survive;
     exit = (st.keeps is).now;
     exact = exact is;
     settled = λ none s tells. settles is none s (own s tells);

@@ -1,8 +1,10 @@
 pub mod Prefixed
 pub mod Imaged
 pub mod Pointed
+pub mod Surviving
 pub mod Carried
 pub mod Firsts
+pub mod Turning
 pub mod Entering
 pub mod Ended
 pub mod AtOpening

@@ -16,6 +16,7 @@ use Rattle.commit_store.specs.Promised.{HasNamed, IsHere}
 use Rattle.commit_turns.specs.DiskStates.{DiskState, state_of}
 use Rattle.commit_turns.specs.Points.{count_after, first_of}
 use Rattle.commit_turns.specs.Recovery.{AreFirst, Holds}
+use Rattle.commit_turns.specs.Surviving.{Survive}
 use Rattle.pair_manager.specs.declared.point.CommitPoint.{CommitPoint}
 
 -- Points of commits: no point but the last has failed, no failed count is above the disk's, and no number is above the last point's, nor that above what was
@@ -49,10 +50,12 @@ module _ {D : Type 0} (disk : Ghosts D) where
     pub first : AreFirst (docs_in known segments) docs
     pub count : length (docs_in known segments) ≡ p.operations
 
-  -- At each moment since opening began every image opens as the first of what was noted, no less than the opened point. Now it holds each point.
-  pub record Keeps (start : D) (committer : CommitterView D) (labels : List (List (List ℕ))) (docs : List Doc) (es : List CommitPoint) : Type 0 where
+  -- At each moment since opening began every image opens as the first of what was noted, no less than the opened point. Now it holds each point, and so it did
+  -- at each moment since the point was entered.
+  pub record Keeps (start : D) (committer : CommitterView D) (labels : List (List (List ℕ))) (docs : List Doc) (es : List CommitPoint) (marks : List (D × CommitPoint)) : Type 0 where
     pub moments : LeavesOnly disk start committer.disk (Holds committer.config labels docs (first_of es))
     pub now : All (λ p. (c : Image) → disk.may_leave committer.disk c → Holds committer.config labels docs p c) es
+    pub survive : Survive disk committer.config labels docs es marks committer.disk
 
   -- While no commit has failed on the disk, what is known of the files is true of those that it tells, and the device has not failed. Where one has, the device
   -- failed.
@@ -61,9 +64,9 @@ module _ {D : Type 0} (disk : Ghosts D) where
     pub unfailed : committer.closed ≡ None → disk.failures committer.disk ≡ disk.failures start
     pub failed : (count : ℕ) → committer.closed ≡ Some count → Rose (disk.failures start) (disk.failures committer.disk)
 
-  -- The value stands for these points, of which the first is the opened one. A commit takes at most 1,000,003 file numbers. Where there is no other point, the
+  -- The value stands for these points, of which the first is the opened one, with the disk as it was when each was entered. A commit takes at most 1,000,003 file numbers. Where there is no other point, the
   -- disk is as it was when opening began.
-  pub record Stands (told settled : Type 0) (quiet : DiskState → Type 0) (start : D) (begun : Committed) (committer : CommitterView D) (last : CommitPoint) (labels : List (List (List ℕ))) (docs : List Doc) (es : List CommitPoint) : Type 0 where
+  pub record Stands (told settled : Type 0) (quiet : DiskState → Type 0) (start : D) (begun : Committed) (committer : CommitterView D) (last : CommitPoint) (labels : List (List (List ℕ))) (docs : List Doc) (es : List CommitPoint) (marks : List (D × CommitPoint)) : Type 0 where
     pub points : ArePoints (disk.faults committer.disk) (length labels) (length docs) last es
     pub closed : last.failed ≡ committer.closed
     pub counted : disk.faults start ≤ disk.faults committer.disk
@@ -72,6 +75,6 @@ module _ {D : Type 0} (disk : Ghosts D) where
     pub numbers : committer.state.next + 1000003 ≤ begun.next + 1000003 * length es
     pub tells : told → (s : Told) × (disk.told committer.disk ≡ Some s)
     pub followed : told → IsFollowed start committer
-    pub keeps : settled → Keeps start committer labels docs es
+    pub keeps : settled → Keeps start committer labels docs es marks
     pub committed : settled → committer.closed ≡ None → IsLast committer last labels docs
     pub untouched : length es ≤ 1 → quiet (state_of disk committer.disk)

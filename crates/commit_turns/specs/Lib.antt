@@ -3,6 +3,7 @@ pub mod Seen
 pub mod Points
 pub mod Frames
 pub mod Recovery
+pub mod Surviving
 pub mod Commits
 pub mod Turns
 pub mod Answers

@@ -1,19 +1,24 @@
 -- The value of the commits chronicle, by its fields.
-use Rattle.std.specs.Prelude.{◌≡◌, List}
+use Rattle.std.specs.Prelude.{◌≡◌, ◌++◌, List}
 use Rattle.chronicle.specs.Frame.{Frame}
 use Rattle.facet_disk.specs.declared.disk.Disk.{Ghosts as Disks}
 use Rattle.commit_turns.specs.Commits.{Stands}
 use Rattle.commit_turns.specs.Frames.{commits_frame}
 use Rattle.taxo_cache.specs.Seen.{labels_of}
 use Rattle.commit_turns.specs.Seen.{docs_of}
+use Rattle.commit_turns.specs.Surviving.{marks_of}
 use Rattle.commit_turns.specs.declared.start.Start.{Ghosts as Names}
 use Rattle.pair_manager.specs.declared.point.CommitPoint.{CommitPoint}
 use Rattle.commit_turns.specs.declared.turn.CommitTurn.{CommitTurn}
 
 module _ {D N : Type 0} {d : Disks D} {n : Names N} where
-  -- the value stands for these points
-  abbrev pub StandsFor : CommitTurn D N d n → List CommitPoint → Type 0
-  StandsFor v es = Stands d n.told n.settled n.quiet v.start.value v.begun.value.state v.committer v.last (labels_of v.labels.seen) (docs_of v.operations.seen) es
+  -- the value stands for these points, each of which was entered on such a disk
+  abbrev pub StandsWith : CommitTurn D N d n → List CommitPoint → List (D × CommitPoint) → Type 0
+  StandsWith v es marks = Stands d n.told n.settled n.quiet v.start.value v.begun.value.state v.committer v.last (labels_of v.labels.seen) (docs_of v.operations.seen) es marks
+
+  -- it stands for these points more, which are entered on the disk as it is now; those before stay marked as they were
+  abbrev pub StandsOn : CommitTurn D N d n → CommitTurn D N d n → List CommitPoint → Type 0
+  StandsOn old new ps = (es : List CommitPoint) (marks : List (D × CommitPoint)) → StandsWith old es marks → StandsWith new (es ++ ps) (marks ++ marks_of new.committer.disk ps)
 
   -- what never changes of it
   abbrev pub frame_of : CommitTurn D N d n → Frame
@@ -23,3 +28,8 @@ module _ {D N : Type 0} {d : Disks D} {n : Names N} where
   -- what its frame is made of stays
   abbrev pub KeepsFrame : CommitTurn D N d n → CommitTurn D N d n → Type 0
   KeepsFrame old new = (new.start ≡ old.start) × (new.begun ≡ old.begun) × (new.committer.config ≡ old.committer.config)
+
+-- the value stands for these points
+pub record StandsFor {D N : Type 0} {d : Disks D} {n : Names N} (v : CommitTurn D N d n) (es : List CommitPoint) : Type 0 where
+  pub marks : List (D × CommitPoint)
+  pub stands : StandsWith v es marks

@@ -1,4 +1,4 @@
-ghost use Rattle.std.specs.Prelude.{◌≡◌, ◌≤◌, ◌<◌, ◌^◌, ◌*◌, ◌+◌, ◌∷◌, [], ◌++◌, ◌↔◌, List, ℕ, Some, Err, IfErr, IfOk, length, map};
+ghost use Rattle.std.specs.Prelude.{◌≡◌, ◌≤◌, ◌<◌, ◌^◌, ◌*◌, ◌+◌, ◌∷◌, [], ◌↔◌, ℕ, Some, Err, IfErr, IfOk, length, map};
 ghost use Rattle.std.specs.Arc.{arc_value};
 ghost use mathlib.Core.List.{IsPrefix};
 ghost use Rattle.chronicle.specs.Shown.{MayTake, SameToken};
@@ -15,9 +15,8 @@ ghost use Rattle.commit_turns.specs.Answers.{Enters};
 ghost use Rattle.commit_turns.specs.Frames.{HasNumbers};
 ghost use Rattle.commit_turns.specs.Points.{entered, made, failed_after};
 ghost use Rattle.commit_turns.specs.Seen.{docs_of, ComesBack};
-ghost use Rattle.commit_turns.specs.Turns.{StandsFor, frame_of};
+ghost use Rattle.commit_turns.specs.Turns.{StandsOn, frame_of};
 ghost use Rattle.pair_manager.specs.Passes.{IsOf};
-ghost use Rattle.pair_manager.specs.declared.point.CommitPoint.{CommitPoint as Point};
 
 use crate::start::Start;
 use crate::turn::CommitTurn;
@@ -102,8 +101,7 @@ fn commit_in_turn<D: Disk, N: Name + Start, R: Wait>(
     ensures list { SeesLabels seen_labels.new }
     ensures labels { ComesBack seen_labels.old seen_labels.new }
     ensures operations { ComesBack seen_operations.old seen_operations.new }
-    ensures stands { (points : List Point) → StandsFor state.old points
-        → StandsFor state.new (points ++ entered state.old.last (length (labels_of seen_labels.new.seen)) result) }
+    ensures stands { StandsOn state.old state.new (entered state.old.last (length (labels_of seen_labels.new.seen)) result) }
     ensures frame { frame_of state.new ≡ frame_of state.old }
     ensures ok { IfOk result (λ n. (n ≡ length seen_operations.new.seen) × (state.new.last ≡ made n (length (labels_of seen_labels.new.seen)))) }
     ensures disk { IfErr result (λ e. (count : ℕ) → e ≡ OfDisk count

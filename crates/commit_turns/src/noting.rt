@@ -1,4 +1,4 @@
-ghost use Rattle.std.specs.Prelude.{◌≡◌, ◌≤◌, ◌<◌, ◌^◌, ◌+◌, ◌++◌, ◌↔◌, ℕ, List, Some, Err, IfErr, IfOk, length, map};
+ghost use Rattle.std.specs.Prelude.{◌≡◌, ◌≤◌, ◌<◌, ◌^◌, ◌+◌, ◌↔◌, ℕ, Some, Err, IfErr, IfOk, length, map};
 ghost use Rattle.std.specs.Arc.{arc_value};
 ghost use Rattle.facet_model.specs.Stored.{Decodes};
 ghost use Rattle.facet_names.specs.Labels.{IsLabelList};
@@ -9,8 +9,7 @@ ghost use Rattle.taxo_cache.specs.Seen.{labels_of};
 ghost use Rattle.index_state.specs.Index.{AreOwn};
 ghost use Rattle.commit_turns.specs.Points.{entered, made, failed_after};
 ghost use Rattle.commit_turns.specs.Seen.{docs_of};
-ghost use Rattle.commit_turns.specs.Turns.{StandsFor, KeepsFrame};
-ghost use Rattle.pair_manager.specs.declared.point.CommitPoint.{CommitPoint as Point};
+ghost use Rattle.commit_turns.specs.Turns.{StandsOn, KeepsFrame};
 
 use crate::start::Start;
 use crate::turn::CommitTurn;
@@ -35,8 +34,10 @@ impl<D: Disk, N: Start> CommitTurn<D, N> {
         requires decodes { Decodes view.now self.old.committer.config (map arc_value segments.now) (docs_of self.old.operations.seen) }
         requires labels { view.now ≡ labels_of self.old.labels.seen }
         requires operations { operations ≡ length self.old.operations.seen }
-        ensures stands { (points : List Point) → StandsFor self.old points
-            → StandsFor self.new (points ++ entered self.old.last (length view.now) result) }
+
+        // That point is marked with the disk as it then is, and the points before it stay marked as they were.
+        ensures stands { StandsOn self.old self.new (entered self.old.last (length view.now) result) }
+
         ensures notes { (self.new.labels ≡ self.old.labels) × (self.new.operations ≡ self.old.operations) }
         ensures frame { KeepsFrame self.old self.new }
         ensures ok { IfOk result (λ n. (n ≡ operations) × (self.new.last ≡ made n (length view.now))) }

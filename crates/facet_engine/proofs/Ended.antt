@@ -13,13 +13,13 @@ use Rattle.facet_model.specs.Documents.{Doc}
 use Rattle.facet_model.specs.Flags.{Config}
 use Rattle.facet_model.specs.Histories.{Operation, docs, knows, never_falls, is_pair, are_publications}
 use Rattle.facet_names.specs.Labels.{GoesOn}
-use Rattle.facet_names.proofs.LabelLists.{Labels, goes_further}
+use Rattle.facet_names.proofs.LabelLists.{Labels}
 use Rattle.commit_turns.specs.Ending.{Lasts}
 use Rattle.commit_turns.specs.Points.{first_of, last_of}
-use Rattle.commit_turns.specs.Recovery.{AreFirst, Holds, HoldsJust, docs_found}
+use Rattle.commit_turns.specs.Recovery.{AreFirst, Holds}
 use Rattle.commit_turns.specs.Seen.{ComesBack}
-use Rattle.commit_turns.proofs.Imaged.{holds_more}
-use Rattle.commit_turns.proofs.Prefixed.{first_on}
+use Rattle.commit_turns.proofs.Imaged.{holds_more, just_more}
+use Rattle.commit_turns.proofs.Surviving.{survive_more}
 use Rattle.pair_manager.specs.declared.pass.Pass.{Pass}
 use Rattle.pair_manager.specs.declared.point.CommitPoint.{CommitPoint as Point}
 use Rattle.pair_manager.specs.declared.publication.Publication.{Publication}
@@ -165,23 +165,13 @@ are_published notes =
 -- ---- labels and documents may go on
 
 module _ (config : Config) (labels more : Labels) (docs docs' : List Doc) (on : GoesOn labels more) (first : AreFirst docs docs') where
-  just_more : (p : Point) (c : Image) → HoldsJust config labels docs p c → HoldsJust config more docs' p c
-  just_more p c h = record {
-    recovers = record {
-      found = h.recovers.found;
-      is = h.recovers.is;
-      labels_first = goes_further h.recovers.found.labels labels more h.recovers.labels_first on;
-      docs_first = first_on (docs_found h.recovers.found) docs docs' h.recovers.docs_first first;
-    };
-    labels_many = h.labels_many;
-    docs_many = h.docs_many;
-  }
-
   pub lasts_more : {D : Type 0} (disk : Ghosts D) (moment : ℕ) (points : List Point) (now : D) → Lasts disk config moment labels docs points now → Lasts disk config moment more docs' points now
   lasts_more disk moment points now lasts = record {
-    moments = λ c left. holds_more config labels more docs docs' (first_of points) c on first (lasts.moments c left);
+    opened = λ c left. holds_more config labels more docs docs' (first_of points) c on first (lasts.opened c left);
+    marks = lasts.marks;
+    moments = survive_more disk config labels more docs docs' points lasts.marks now on first lasts.moments;
     exit = All-weaker (λ (p : Point). (c : Image) → disk.may_leave now c → Holds config labels docs p c) (λ p. (c : Image) → disk.may_leave now c → Holds config more docs' p c)
         (λ p holds c left. holds_more config labels more docs docs' p c on first (holds c left)) points lasts.exit;
-    exact = λ none c left. just_more (last_of points) c (lasts.exact none c left);
+    exact = λ none c left. just_more config labels more docs docs' (last_of points) c on first (lasts.exact none c left);
     settled = lasts.settled;
   }
