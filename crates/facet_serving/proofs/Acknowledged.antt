@@ -1,5 +1,5 @@
 -- What becomes of the commits of a run.
-use Rattle.std.proofs.Common.{◌≡◌, ◌∙◌, ◌⊎◌, inl, inr, ⊎_elim, ℕ, ◌+◌, ◌*◌, ◌^◌, ◌≤◌, ◌<◌, List, ◌++◌, length, drop, Some, slice_get, sym, ap, subst, arith}
+use Rattle.std.proofs.Common.{◌≡◌, ◌∙◌, ◌⊎◌, inl, inr, ⊎_elim, ℕ, ◌+◌, ◌*◌, ◌^◌, ◌≤◌, ◌<◌, List, ◌++◌, length, map, drop, Some, true, slice_get, sym, ap, subst, arith}
 use Rattle.std.specs.Prelude.{All}
 use Rattle.std.proofs.lemmas.List.{length-map, take-append-drop}
 use Rattle.std.proofs.lemmas.List.Elements.{All-weaker}
@@ -7,22 +7,25 @@ use Rattle.std.proofs.lemmas.List.Sums.{count_by-le-length}
 use Rattle.std.proofs.lemmas.Nat.{mul-le}
 use Rattle.std.proofs.Math.Nat.{le_trans}
 use mathlib.Core.List.{IsPrefix}
+use Rattle.commit_turns.specs.Ending.{Lasts}
 use Rattle.commit_turns.specs.Recovery.{AreFirst, Holds as HoldsPoint, docs_found}
+use Rattle.commit_turns.specs.Surviving.{HadJust, HasSince}
 use Rattle.facet_disk.specs.Images.{Image, Told}
 use Rattle.facet_disk.specs.declared.disk.Disk.{Ghosts}
 use Rattle.facet_engine.specs.declared.ending.Trace.{Trace}
 use Rattle.facet_io.specs.Faults.{Rose}
 use Rattle.facet_model.specs.Documents.{Doc}
 use Rattle.facet_model.specs.Histories.{Operation, docs}
-use Rattle.facet_output.proofs.Among.{In, all_at, in_map}
+use Rattle.facet_output.proofs.Among.{In, all_at, in_map, of_map}
 use Rattle.facet_output.proofs.Answers.{get_map}
 use Rattle.facet_output.proofs.Fronts.{get_back}
 use Rattle.facet_output.proofs.Outcomes.{durable_point, failed_point}
 use Rattle.facet_output.specs.Answered.{Answered, in_writing_order}
 use Rattle.facet_output.specs.Commits.{has_outcome}
+use Rattle.facet_output.specs.Output.{has_shown}
 use Rattle.facet_output.specs.Replying.{IsCommitted, IsRight}
 use Rattle.facet_output.specs.Seen.{CommitPoint as Point, history_of, labels_of}
-use Rattle.facet_output.specs.Telling.{closed_by, durable, durable_by, failed, failed_by, shows, stood, stood_by}
+use Rattle.facet_output.specs.Telling.{closed_by, durable_by, failed, failed_by, shows, stood, stood_by}
 use Rattle.facet_replies.specs.Replies.{no_memory, numbered, refused}
 use Rattle.facet_words.specs.Commands.{Settings}
 use Rattle.facet_words.specs.Sessions.Commands.{Command, Order, commit}
@@ -34,7 +37,7 @@ use Rattle.facet_serving.proofs.Adds.{right_of, shown_before}
 use Rattle.facet_serving.proofs.Commits.{failed_before}
 use Rattle.facet_serving.proofs.Counted.{written_few}
 use Rattle.facet_serving.proofs.Placed.{add_stands}
-use Rattle.facet_serving.specs.Acknowledged.{AcknowledgedStays, CommitsAreAcknowledged, HasAdd, Holds, IsAcknowledged, IsHeld}
+use Rattle.facet_serving.specs.Acknowledged.{AcknowledgedStays, AcknowledgedSurvives, CommitsAreAcknowledged, HasAdd, HeldSince, Holds, IsAcknowledged, IsHeld, IsHeldSince}
 use Rattle.facet_serving.specs.Sessions.{Ran, SpendsFrom}
 use Rattle.facet_serving.specs.Stores.{CountsFault, points_of}
 use Rattle.facet_output.proofs.Gluing.{all_by}
@@ -50,25 +53,50 @@ first_at some all k doc first lt at =
     get_back some all k doc begins lt at
 
 module _ {D : Type 0} (ghosts : Ghosts D) (settings : Settings) (phases : List (List Order)) (trace : Trace) (old new : D) (ran : Ran ghosts settings phases trace old new) where
-  held : (c : Image) → All (λ (p : CommitPoint). HoldsPoint settings.config (labels_of ran.last) (docs (history_of ran.last)) p c) (points_of ran.last.commits)
-      → (a : Answered) (n : ℕ) → In a ran.answered → a.order.command ≡ commit → a.reply ≡ numbered n → Holds settings ran.last ran.answered a n c
-  held c all a n there is says =
-      let acknowledged : durable a ≡ Some n = λ i. durable_by (is i) (says i) in
+  -- what an image has of the point of an acknowledged commit is what that acknowledged
+  held_by : (c : Image) (a : Answered) (n : ℕ) → In a ran.answered → a.order.command ≡ commit → a.reply ≡ numbered n → (p : CommitPoint) → p.operations ≡ n
+      → has_shown (labels_of ran.last) ran.last.pairs ran.answered a p.labels ≡ true → HoldsPoint settings.config (labels_of ran.last) (docs (history_of ran.last)) p c
+      → Holds settings ran.last ran.answered a n c
+  held_by c a n there is says p size shown_to h =
       let stands : stood a ≡ Some n = λ i. stood_by (is i) (says i) in
-      let p = durable_point ran.opened ran.last ran.answered ran.points a n there acknowledged in
-      let h = all_at (λ (p : CommitPoint). HoldsPoint settings.config (labels_of ran.last) (docs (history_of ran.last)) p c) (points_of ran.last.commits) (point p.0) all (in_map point ran.last.commits p.0 p.1) in
       let found = docs_found h.recovers.found in
-      let many : n ≤ length found = (let from = h.docs_from in let e = p.3 in omega arith) in
+      let many : n ≤ length found = (let from = h.docs_from in omega (arith, from, size)) in
       record {
         recovers = h.recovers;
         many = many;
-        labels = (p.0.1.labels, h.labels_from, p.4);
+        labels = (p.labels, h.labels_from, shown_to);
         adds = all_by (HasAdd a found) ran.answered (λ b among doc place after b_is b_says.
             let shown = shown_before settings phases ran.opened (labels_of ran.last) (history_of ran.last) ran.last.pairs ran.answered ran.right a b n there among stands after in
-            let size = ap shows b_says in
+            let added = ap shows b_says in
             let r = add_stands ghosts settings phases trace old new ran b doc place among b_is b_says in
             let at = get_map (λ (o : Operation). o.doc) (history_of ran.last) place (record { session = b.order.session; doc = doc }) r.1 in
-            first_at found (docs (history_of ran.last)) place doc h.recovers.docs_first (omega (arith, shown, size, many)) at);
+            first_at found (docs (history_of ran.last)) place doc h.recovers.docs_first (omega (arith, shown, added, many)) at);
+      }
+
+  held : (c : Image) → All (λ (p : CommitPoint). HoldsPoint settings.config (labels_of ran.last) (docs (history_of ran.last)) p c) (points_of ran.last.commits)
+      → (a : Answered) (n : ℕ) → In a ran.answered → a.order.command ≡ commit → a.reply ≡ numbered n → Holds settings ran.last ran.answered a n c
+  held c all a n there is says =
+      let p = durable_point ran.opened ran.last ran.answered ran.points a n there (λ i. durable_by (is i) (says i)) in
+      held_by c a n there is says (point p.0) p.3 p.4
+      (all_at (λ (p : CommitPoint). HoldsPoint settings.config (labels_of ran.last) (docs (history_of ran.last)) p c) (points_of ran.last.commits) (point p.0) all (in_map point ran.last.commits p.0 p.1))
+
+  -- the disk as it was when the point of an acknowledged commit was entered
+  held_since : Lasts ghosts settings.config (ghosts.moment old) (labels_of ran.last) (docs (history_of ran.last)) (points_of ran.last.commits) new
+      → (a : Answered) (n : ℕ) → In a ran.answered → a.order.command ≡ commit → a.reply ≡ numbered n → HeldSince ghosts settings ran.last ran.answered new a n
+  held_since lasts a n there is says =
+      let p = durable_point ran.opened ran.last ran.answered ran.points a n there (λ i. durable_by (is i) (says i)) in
+      let s = lasts.moments in
+      let among : In (point p.0) (map (λ (m : D × CommitPoint). m.1) lasts.marks) = subst (In (point p.0)) (sym s.are) (in_map point ran.last.commits p.0 p.1) in
+      let m = of_map (λ (m : D × CommitPoint). m.1) lasts.marks (point p.0) among in
+      let since = all_at (HasSince ghosts settings.config (labels_of ran.last) (docs (history_of ran.last)) new) lasts.marks m.0 s.since m.1 in
+      let just = all_at (HadJust ghosts settings.config (labels_of ran.last) (docs (history_of ran.last))) lasts.marks m.0 s.just m.1 in
+      let unfailed = ap (λ (q : CommitPoint). q.failed) (sym m.2) ∙ p.2 in
+      record {
+        at = m.0.0;
+        earlier = since.later;
+        just = λ c left. let h = just unfailed c left in (h.recovers.found, h.recovers.is, h.docs_many ∙ ap (λ (q : CommitPoint). q.operations) (sym m.2) ∙ p.3);
+        since = λ c left. held_by c a n there is says (point p.0) p.3 p.4
+            (subst (λ (q : CommitPoint). HoldsPoint settings.config (labels_of ran.last) (docs (history_of ran.last)) q c) (sym m.2) (since.each c left));
       }
 
 -- a count that rose to one that is at most another rose to that
@@ -122,6 +150,11 @@ module _ {D : Type 0} (ghosts : Ghosts D) where
       All-weaker (λ (p : CommitPoint). (c : Image) → ghosts.may_leave new c → HoldsPoint settings.config (labels_of ran.last) (docs (history_of ran.last)) p c)
       (λ (p : CommitPoint). HoldsPoint settings.config (labels_of ran.last) (docs (history_of ran.last)) p c) (λ p h. h c left) (points_of ran.last.commits) lasts.exit in
       all_by (IsHeld settings ran.last ran.answered c) ran.answered (λ a there n is says. held ghosts settings phases trace old new ran c all a n there is says)
+
+  pub acknowledged_survives : AcknowledgedSurvives ghosts
+  acknowledged_survives settings phases trace old new t tells settled ran =
+      let lasts = ran.keeps.lasts t tells settled in
+      all_by (IsHeldSince ghosts settings ran.last ran.answered new) ran.answered (λ a there n is says. held_since ghosts settings phases trace old new ran lasts a n there is says)
 
   pub commits_are_acknowledged : CommitsAreAcknowledged ghosts
   commits_are_acknowledged s phases trace old new t orders fewer tells from still ran =

@@ -16,7 +16,7 @@ use Rattle.facet_words.specs.Sessions.Commands.{Order, Script, add, commit}
 use Rattle.facet_words.specs.Sessions.Laws.{orders_in}
 use Rattle.facet_words.specs.Sessions.Scripts.{script}
 use Rattle.generator.specs.Generated.{generated}
-use Rattle.store_opening.specs.Files.{greatest_number}
+use Rattle.store_opening.specs.Files.{Found, files, greatest_number}
 use Rattle.store_opening.specs.Newest.{next_after}
 use Rattle.store_opening.specs.Settled.{IsSettled}
 use Rattle.facet_serving.specs.Reading.{script_limit}
@@ -47,6 +47,25 @@ abbrev pub AcknowledgedStays : {D : Type 0} → Ghosts D → Type 0
 AcknowledgedStays {D} ghosts = (settings : Settings) (phases : List (List Order)) (trace : Trace) (old new : D) (t : Told) → ghosts.told old ≡ Some t
     → IsSettled ghosts settings.config t old
     → (ran : Ran ghosts settings phases trace old new) → (c : Image) → ghosts.may_leave new c → All (IsHeld settings ran.last ran.answered c) ran.answered
+
+-- Of a commit that was acknowledged so: there was a moment at which whatever a crash left had just so many documents, and whatever a crash at any moment since
+-- then left holds all that it acknowledged.
+pub record HeldSince {D : Type 0} (ghosts : Ghosts D) (settings : Settings) (last : Seen) (answered : List Answered) (now : D) (a : Answered) (n : ℕ) : Type 0 where
+  -- the disk as it was at that moment
+  pub at : D
+  pub earlier : ghosts.moment at ≤ ghosts.moment now
+  pub just : (c : Image) → ghosts.may_leave at c → (f : Found) × (files settings.config c ≡ Ok f) × (length (docs_found f) ≡ n)
+  pub since : (c : Image) → ghosts.left_since now (ghosts.moment at) c → Holds settings last answered a n c
+
+-- of a commit that was acknowledged: it holds since then
+abbrev pub IsHeldSince : {D : Type 0} → Ghosts D → Settings → Seen → List Answered → D → Answered → Type 0
+IsHeldSince ghosts settings last answered now a = (n : ℕ) → a.order.command ≡ commit → a.reply ≡ numbered n → HeldSince ghosts settings last answered now a n
+
+-- Over such a disk each acknowledged commit survives a crash at every later moment.
+abbrev pub AcknowledgedSurvives : {D : Type 0} → Ghosts D → Type 0
+AcknowledgedSurvives {D} ghosts = (settings : Settings) (phases : List (List Order)) (trace : Trace) (old new : D) (t : Told) → ghosts.told old ≡ Some t
+    → IsSettled ghosts settings.config t old
+    → (ran : Ran ghosts settings phases trace old new) → All (IsHeldSince ghosts settings ran.last ran.answered new) ran.answered
 
 -- ---- commits are acknowledged
 

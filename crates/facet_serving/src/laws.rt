@@ -1,4 +1,4 @@
-ghost use Rattle.facet_serving.specs.Acknowledged.{AcknowledgedStays, CommitsAreAcknowledged, HaveFewOrders};
+ghost use Rattle.facet_serving.specs.Acknowledged.{AcknowledgedStays, AcknowledgedSurvives, CommitsAreAcknowledged, HaveFewOrders};
 ghost use Rattle.facet_serving.specs.Added.{AddsArePlaced, EachAddStands, EachIsAddedOnce};
 ghost use Rattle.facet_serving.specs.Alike.{EqualFilesOpenTheSame, EqualStoresReplyAlike, EqualStoresWriteTheSame};
 ghost use Rattle.facet_serving.specs.Laws.{AcknowledgedIsReopened, LeavesStore};
@@ -24,10 +24,11 @@ pub fn adds_stand<D: Disk>(disk: &D)
 }
 
 /// States that whatever a crash leaves at the end has what each acknowledged commit has acknowledged: the documents of the adds before it, and the labels
-/// that its session had been shown. If the disk's count of faults does not rise and file numbers are left, a commit is acknowledged or is out of memory. This
-/// holds for scripts that are read and for generated ones. The call does nothing.
+/// that its session had been shown. So has whatever a crash leaves at any moment since that commit. If the disk's count of faults does not rise and file
+/// numbers are left, a commit is acknowledged or is out of memory. This holds for scripts that are read and for generated ones. The call does nothing.
 pub fn commits_stay<D: Disk>(disk: &D)
     ensures stays { AcknowledgedStays D.Disk }
+    ensures survives { AcknowledgedSurvives D.Disk }
     ensures acknowledged { CommitsAreAcknowledged D.Disk }
     ensures few { HaveFewOrders }
 {
