@@ -16,7 +16,7 @@ use Rattle.facet_words.specs.Commands.{Settings}
 use Rattle.taxo_cache.specs.Seen.{labels_of}
 use Rattle.pair_manager.specs.declared.pass.Pass.{Pass}
 use Rattle.pair_manager.specs.declared.point.CommitPoint.{CommitPoint as Point}
-use Rattle.pair_manager.specs.Passes.{SamePass}
+use Rattle.pair_manager.specs.Passes.{SamePass, SeesMoreOperations}
 use Rattle.facet_output.specs.Held.{Held}
 use Rattle.facet_output.specs.Seen.{Entries, Sees, EntersNone, EntersBehind, entered_by, failures}
 use Rattle.facet_output.specs.Steps.{IsStep, EntersCommit}
@@ -25,6 +25,7 @@ use Rattle.chronicle.proofs.Prefixes.{prefix_trans}
 use Rattle.facet_engine.specs.Sessions.{HaveOneNumber}
 use Rattle.facet_engine.specs.Replies.{commit_reply}
 use Rattle.facet_engine.specs.Steps.{seen_of, point_of, committed}
+use Rattle.facet_engine.proofs.Between.{same_since, labels_since, operations_since}
 use Rattle.facet_engine.proofs.Seeing.{told, told_begins, told_none, told_behind, labels_none, operations_none, pairs_none}
 use Rattle.facet_adding.proofs.Tried.{same_sees_on}
 use Rattle.facet_engine.proofs.Refreshed.{many_operations, many_in_history, more_labels}
@@ -185,3 +186,13 @@ module _ (settings : Settings) (held : Held) (phase line number : ℕ) (old new 
         took = tt;
         place = refl;
       }
+
+-- ---- the same of a pass that has first seen more operations of others
+
+module _ (settings : Settings) (held : Held) (phase line number : ℕ) (old mid new : Pass) (have : HaveOneNumber number old) (more : SeesMoreOperations old mid) where
+  pub commit_step_since : (result : Result ℕ CommitFault) → SamePass mid new → SeesOn mid.labels new.labels → SeesOn mid.operations new.operations → new.pairs ≡ mid.pairs
+      → Enters (length (labels_of new.labels.seen)) mid.commits new.commits result → IfOk result (λ k. k ≡ length new.operations.seen)
+      → IfErr result (λ e. (number : ℕ) → e ≡ faults.NumbersSpent number → 2 ^ 63 ≤ number) → IsStep settings held (committed old new result phase line)
+  commit_step_since result same labels operations pairs e answer limit =
+      commit_step settings held phase line number old new have (same_since old mid new more same) (labels_since old mid new more labels) (operations_since old mid new more operations) (pairs ∙ more.pairs)
+      result (subst (λ (t : Shown Point). Enters (length (labels_of new.labels.seen)) t new.commits result) more.commits e) answer limit

@@ -4,6 +4,7 @@ pub mod Merged
 pub mod Committed
 pub mod Naming
 pub mod SeenPairs
+pub mod Between
 pub mod Told
 pub mod Ended
 pub mod Opened

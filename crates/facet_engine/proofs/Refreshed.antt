@@ -3,7 +3,8 @@ use Rattle.std.proofs.Common.{◌≡◌, ◌∙◌, inl, inr, ◌+◌, ◌-◌, 
 use Rattle.std.specs.Prelude.{IfOk, OnOk, OnErr}
 use Rattle.std.proofs.lemmas.List.{length-map, length-append}
 use mathlib.Core.List.{IsPrefix}
-use Rattle.chronicle.specs.Shown.{mine, SeesOn, EntersBehind}
+use Rattle.chronicle.specs.Shown.{Shown, mine, SeesOn, EntersBehind}
+use Rattle.chronicle.proofs.Prefixes.{prefix_length}
 use Rattle.facet_model.specs.Documents.{Doc}
 use Rattle.facet_model.specs.Histories.{Operation}
 use Rattle.facet_words.specs.Commands.{Settings}
@@ -11,13 +12,14 @@ use Rattle.taxo_cache.specs.Seen.{labels_of}
 use Rattle.pair_manager.specs.declared.pass.Pass.{Pass}
 use Rattle.pair_manager.specs.declared.publication.Publication.{Publication}
 use Rattle.pair_manager.specs.Published.{numbers}
-use Rattle.pair_manager.specs.Passes.{SamePass}
+use Rattle.pair_manager.specs.Passes.{SamePass, SeesMoreOperations}
 use Rattle.facet_output.specs.Held.{Held}
 use Rattle.facet_output.specs.Seen.{Sees, EntersNone, EntersBehind as Behind, history_of}
 use Rattle.facet_output.specs.Steps.{IsStep}
 use Rattle.facet_output.proofs.TwoRan.{no_new}
 use Rattle.facet_engine.specs.Sessions.{HaveOneNumber}
 use Rattle.facet_engine.specs.Steps.{seen_of, refreshed}
+use Rattle.facet_engine.proofs.Between.{same_since, labels_since, operations_since}
 use Rattle.facet_engine.proofs.Seeing.{enters_behind, told, told_begins, told_behind, labels_none, operations_none, pairs_none, commits_none}
 use Rattle.facet_adding.proofs.Tried.{same_sees_on}
 
@@ -88,3 +90,20 @@ module _ (settings : Settings) (held : Held) (phase line number : ℕ) (old new 
         took = tt;
         place = refl;
       }
+
+-- ---- the same of a pass that has first seen more operations of others
+
+module _ (settings : Settings) (held : Held) (phase line number : ℕ) (old mid new : Pass) (have : HaveOneNumber number old) (more : SeesMoreOperations old mid) where
+  no_fewer : {E : Type 0} (result : Result ℕ E) → IfOk result (λ k. length mid.operations.seen ≤ k) → IfOk result (λ k. length old.operations.seen ≤ k)
+  no_fewer (Ok k) fresh = omega (arith, fresh, prefix_length old.operations.seen mid.operations.seen more.operations.0)
+  no_fewer (Err fault) fresh = tt
+
+  pub refresh_step_since : {E : Type 0} (result : Result ℕ E) → SamePass mid new → SeesOn mid.labels new.labels → SeesOn mid.operations new.operations → IsPrefix mid.pairs.seen new.pairs.seen → new.commits ≡ mid.commits
+      → IfOk result (λ k. k ≡ length new.operations.seen) → IfOk result (λ k. length mid.operations.seen ≤ k)
+      → OnOk result (EntersBehind (record { operations = length new.operations.seen; labels = length (labels_of new.labels.seen) }) mid.pairs new.pairs) → OnErr result (mine new.pairs ≡ mine mid.pairs)
+      → IsStep settings held (refreshed old new result phase line)
+  refresh_step_since result same labels operations pairs commits answer fresh enters none =
+      let all : Publication = record { operations = length new.operations.seen; labels = length (labels_of new.labels.seen) } in
+      refresh_step settings held phase line number old new have (same_since old mid new more same) (labels_since old mid new more labels) (operations_since old mid new more operations)
+      (subst (λ (t : Shown Publication). IsPrefix t.seen new.pairs.seen) more.pairs pairs) (commits ∙ more.commits) result answer (no_fewer result fresh)
+      (subst (λ (t : Shown Publication). OnOk result (EntersBehind all t new.pairs)) more.pairs enters) (subst (λ (t : Shown Publication). OnErr result (mine new.pairs ≡ mine t)) more.pairs none)

@@ -1,7 +1,8 @@
 -- Only a commit tells that the file numbers are spent.
-use Rattle.std.proofs.Common.{◌≡◌, ℕ, ◌+◌, ◌*◌, ◌<◌, length, refl, arith, Result, Ok, Err}
+use Rattle.std.proofs.Common.{◌≡◌, ℕ, ◌+◌, ◌*◌, ◌<◌, length, refl, sym, subst, arith, Result, Ok, Err}
 use Rattle.std.specs.Prelude.{IfErr}
 use Rattle.std.proofs.lemmas.List.{length-map}
+use Rattle.chronicle.specs.Shown.{Shown as Token}
 use Rattle.commit_plan.specs.declared.fault.CommitFault.{CommitFault}
 use Rattle.commit_plan.specs.declared.fault.CommitFault.TheVariants as commits
 use Rattle.commit_turns.specs.Frames.{HasNumbers}
@@ -86,3 +87,8 @@ commit_spends old new (Err (commits.NumbersSpent spent)) said next moment faults
     let point : ℕ × Point → ℕ × CommitPoint = λ e. (e.0, point_of e.1) in
     let many : length (seen_of new).commits ≡ length new.commits.seen = length-map new.commits.seen point in
     omega (arith, same, said spent refl next moment faults failures numbers, many)
+
+-- where the token of the commits did not change before
+pub spends_since : (old mid new : Pass) (reply : Reply) → mid.commits ≡ old.commits → SpendsWithin mid new reply → SpendsWithin old new reply
+spends_since old mid new reply is spends next moment faults failures numbers =
+    spends next moment faults failures (subst (λ (t : Token Point). HasNumbers next moment faults failures t.frame) (sym is) numbers)

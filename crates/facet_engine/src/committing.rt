@@ -20,6 +20,7 @@ impl<D: Disk, N: Name + Start> System<D, N> {
     ///
     /// Locks: that of the commits, for the whole call. In it, that of the operations and then that of the labels; both are released before the disk is
     /// called, so adds and searches do not wait for the disk.
+    /// With `auto_merge` it first merges segments if there are too many, before it takes these locks. If memory is short for that, it merges none.
     ///
     /// Errors: `Disk` if the disk failed, after which every commit fails with `Closed` until the store is reopened; `NumbersSpent` if a file number would be
     /// 2^63 or more; out of memory. Memory and disk calls are those of `commit_store::Committer::commit`.
@@ -34,6 +35,7 @@ impl<D: Disk, N: Name + Start> System<D, N> {
         ensures disk { IfErr result (λ e. (count : ℕ) → e ≡ OfDisk count
             → (next moment faults failures : ℕ) → HasNumbers next moment faults failures session.old.pass.commits.frame → Rose faults count) }
     {
+        self.keep_few(rt, &mut session.pass);
         commit(rt, &self.commits, &self.manager, &mut session.pass)
     }
 }

@@ -19,6 +19,7 @@ mod showing;
 mod stats;
 mod system;
 mod telling;
+mod upkeep;
 
 pub use carrying::carry_out;
 pub use ending::{EndedSystem, Trace};

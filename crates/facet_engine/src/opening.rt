@@ -214,6 +214,7 @@ impl<D: Disk, N: Name + Start> System<D, N> {
             labels: view.size(),
             failed: None,
         };
+        let auto_merge = settings.auto_merge;
         let (manager, config, mut operations, pairs) = match open_manager(
             alloc, keys, labels, &mut first, view, segments, settings,
         ) {
@@ -240,6 +241,7 @@ impl<D: Disk, N: Name + Start> System<D, N> {
             manager,
             commits,
             opened: (point.operations, point.labels),
+            auto_merge,
         };
         let pass = Pass {
             labels: first,

@@ -16,6 +16,7 @@ impl<D: Disk, N: Name + Start> System<D, N> {
     ///
     /// Locks: that of the pairs; in it, that of the operations and then that of the labels. The documents that were added since the last refresh become a
     /// segment. All labels are copied if one is new.
+    /// With `auto_merge` it first merges segments if there are too many, before it takes these locks. If memory is short for that, it merges none.
     ///
     /// Errors: out of memory. Then no pair is published.
     pub fn refresh<R: Wait>(&self, rt: &R, session: &mut Session) -> Result<u64, NoMemory>
@@ -24,6 +25,7 @@ impl<D: Disk, N: Name + Start> System<D, N> {
         ensures held { session.new.held ≡ session.old.held }
         ensures step { IsCall self.now session.old (refreshed session.old.pass session.new.pass result) }
     {
+        self.keep_few(rt, &mut session.pass);
         self.manager.refresh(rt, &mut session.pass)
     }
 }

@@ -18,6 +18,7 @@ pub struct System<D: Disk, N: Name + Start> {
     pub(crate) manager: Manager<N>,
     pub(crate) commits: Chronicle<CommitTurn<D, N>>,
     pub(crate) opened: (u64, u32),
+    pub(crate) auto_merge: bool,
 }
 
 impl<D: Disk, N: Name + Start> Model for System<D, N> {
