@@ -1,4 +1,4 @@
--- What never changes of a chronicle's value: plain data of one type for every chronicle.
+-- What never changes of a chronicle's value: plain data, of one type for every chronicle.
 use Rattle.std.specs.Prelude.{ℕ, List, []}
 use base.Stored.{Coded, coded×, coded_ℕ, coded_list, coded_via}
 use Rattle.atomic_table.specs.Seated.{TableId, table_id_coded}
@@ -10,11 +10,11 @@ pub record Frame : Type 0 where
   -- of other chronicles
   pub identities : List TableId
 
--- the frame that says nothing
+-- the empty frame
 abbrev pub empty_frame : Frame
 empty_frame = record { numbers = []; texts = []; identities = [] }
 
--- how the proofs keep a frame beside a value
+-- how the proofs store a frame next to a value
 abbrev pub frame_coded : Coded Frame
 frame_coded = coded_via (coded× (coded_list coded_ℕ) (coded× (coded_list (coded_list coded_ℕ)) (coded_list table_id_coded)))
     (λ (f : Frame). (f.numbers, (f.texts, f.identities)))

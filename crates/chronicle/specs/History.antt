@@ -1,4 +1,4 @@
--- A history: entries in the order in which they were entered, each beside the number of the token that entered it.
+-- A history: entries in the order in which they were entered, each with the number of the token that entered it.
 use Rattle.std.specs.Prelude.{◌==◌, ◌≤◌, nat_lt, length, if◌then◌else◌, ℕ, Bool, true, false, List, [], All, filter, map}
 
 module _ {E : Type 0} where
@@ -14,7 +14,7 @@ module _ {E : Type 0} where
   abbrev pub entered_by : ℕ → List (ℕ × E) → List (ℕ × E)
   entered_by n log = filter (λ x. x.0 == n) log
 
-  -- what a token of this number entered. A note enters nothing
+  -- what a token of this number entered; a note enters nothing
   abbrev pub own_of : Bool → ℕ → List (ℕ × E) → List (ℕ × E)
   own_of true n log = []
   own_of false n log = entered_by n log

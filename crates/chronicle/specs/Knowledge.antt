@@ -16,7 +16,7 @@ waiting_ticket (Waiting t) = some t
 waiting_ticket (InTurn t) = none
 waiting_ticket (WithSlot t) = none
 
--- whether it has the turn, with the slot in its place
+-- whether it holds the lock, with the slot in its place
 abbrev pub is_in_turn : Stage → Bool
 is_in_turn Spent = false
 is_in_turn Idle = false
@@ -36,7 +36,7 @@ slot_out (Waiting t) = Waiting t
 slot_out (InTurn t) = WithSlot t
 slot_out (WithSlot t) = WithSlot t
 
--- after the slot came home
+-- after the slot was put back
 abbrev pub slot_home : Stage → Stage
 slot_home Spent = Spent
 slot_home Idle = Idle
@@ -49,7 +49,7 @@ abbrev pub number_unless : Bool → ℕ → Option ℕ
 number_unless true n = none
 number_unless false n = some n
 
--- how many tokens were made of it, if it is no note and has number 0
+-- how many tokens were made from it, if it is no note and has number 0
 abbrev pub made_if_first : Bool → ℕ → ℕ → Option ℕ
 made_if_first true n m = none
 made_if_first false zero m = some m
@@ -64,7 +64,7 @@ module _ {E : Type 0} where
   abbrev pub number_of : Knowledge E → Option ℕ
   number_of k = number_unless k.is_note k.number
 
-  -- how many numbers were given, which the first token alone knows
+  -- how many numbers were given, which only the first token knows
   abbrev pub given_by : Knowledge E → Option ℕ
   given_by k = made_if_first k.is_note k.number k.made
 
@@ -72,15 +72,15 @@ module _ {E : Type 0} where
   abbrev pub with_stage : Stage → Knowledge E → Knowledge E
   with_stage g k = record { marker = k.marker; stage = g; is_note = k.is_note; number = k.number; made = k.made; seen = k.seen; told = k.told; frame = k.frame }
 
-  -- the same, at a stage and with a beginning of the history that it has seen
+  -- the same, at a stage and with a prefix of the history that it has seen
   abbrev pub having_seen : Stage → List (ℕ × E) → Knowledge E → Knowledge E
   having_seen g log k = record { marker = k.marker; stage = g; is_note = k.is_note; number = k.number; made = k.made; seen = log; told = k.told; frame = k.frame }
 
-  -- the first token, after one more was made of it
+  -- the first token, after one more was made from it
   abbrev pub after_making : Knowledge E → Knowledge E
   after_making k = record { marker = k.marker; stage = k.stage; is_note = k.is_note; number = k.number; made = k.made + 1; seen = k.seen; told = k.told; frame = k.frame }
 
-  -- the token that is made of it
+  -- the token that is made from it
   abbrev pub made_from : Knowledge E → Knowledge E
   made_from k = record { marker = k.marker; stage = Idle; is_note = false; number = k.made + 1; made = 0; seen = k.seen; told = []; frame = k.frame }
 
@@ -88,7 +88,7 @@ module _ {E : Type 0} where
   abbrev pub note_of : Knowledge E → Knowledge E
   note_of k = record { marker = k.marker; stage = Idle; is_note = true; number = 0; made = 0; seen = k.seen; told = []; frame = k.frame }
 
-  -- it is told what another has seen
+  -- it is shown what another has seen
   abbrev pub told_of : Knowledge E → Knowledge E → Knowledge E
   told_of k other = record { marker = k.marker; stage = k.stage; is_note = k.is_note; number = k.number; made = k.made; seen = k.seen; told = other.seen; frame = k.frame }
 

@@ -1,7 +1,8 @@
 -- The rule of a chronicle, which holds between any two steps of any threads.
--- Word 0 is the next ticket, word 1 the ticket that is served, word 2 how many entries were entered since opening, modulo 2 ^ 64, and word 3
--- whether somebody may sleep, of which the rule says nothing.
--- The one slot has the value, or None while a seat in its turn has it.
+-- Word 0 is the next ticket. Word 1 is the ticket that is served. Word 2 is how many entries were entered since
+-- opening,
+-- modulo 2 ^ 64. Word 3 is whether a thread may be sleeping; the rule does not restrict it.
+-- The only slot has the value, or None while a seat in its turn has it.
 use Rattle.std.specs.Prelude.{◌≡◌, ◌≢◌, ℕ, ◌+◌, ◌%◌, ◌^◌, ◌<◌, ◌≤◌, true, false, List, [], ◌∷◌, length, Option, Some, None}
 use mathlib.Core.Option.{some, none}
 use mathlib.Core.Option as maybe
@@ -16,14 +17,15 @@ use Rattle.chronicle.specs.declared.knowledge.Knowledge.{Knowledge}
 use Rattle.chronicle.specs.declared.knowledge.Stage.{Stage}
 use Rattle.chronicle.specs.declared.knowledge.Stage.TheVariants.{Spent, Idle, Waiting, InTurn, WithSlot}
 
--- Who has the turn, and where the slot is: nobody, and the value is in its slot; or one seat, with the slot in its place and empty; or one
--- seat, and the slot is out with it
+-- Who holds the lock, and where the slot is: nobody, and the value is in its slot; one seat, and the slot is in its
+-- place and empty;
+-- or one seat, and the slot is out with it.
 pub data Turn : Type 0 where
   nobody : Turn
   inside : ℕ → Turn
   reaching : ℕ → Turn
 
--- how many seats have the turn
+-- how many seats hold the lock
 abbrev pub taken : Turn → ℕ
 taken nobody = 0
 taken (inside j) = 1
@@ -48,7 +50,8 @@ module _ {E : Type 0} where
   abbrev pub KnowsGiven : ℕ → List (Knowledge E) → Type 0
   KnowsGiven given views = (j m : ℕ) (k : Knowledge E) → get_elem? views j ≡ some k → given_by k ≡ some m → m ≡ given
 
-  -- A ticket that waits is not served yet; the seat that has the turn has the ticket that is served, and has seen the whole history
+  -- A waiting ticket is not served yet. The seat that holds the lock has the served ticket, and has seen the whole
+  -- history.
   abbrev pub IsAt : ℕ → ℕ → List (ℕ × E) → Turn → ℕ → Knowledge E → Stage → Type 0
   IsAt next serving log turn j k Spent = k.is_note ≡ true
   IsAt next serving log turn j k Idle = Unit {0}
@@ -56,7 +59,7 @@ module _ {E : Type 0} where
   IsAt next serving log turn j k (InTurn ticket) = (turn ≡ inside j) × (ticket ≡ serving) × (k.seen ≡ log)
   IsAt next serving log turn j k (WithSlot ticket) = (turn ≡ reaching j) × (ticket ≡ serving) × (k.seen ≡ log)
 
-  -- what the seat j knows is so
+  -- what the seat j knows is true
   pub record Fits (frame : Frame) (given next serving : ℕ) (log : List (ℕ × E)) (turn : Turn) (j : ℕ) (k : Knowledge E) : Type 0 where
     pub at : IsAt next serving log turn j k k.stage
     pub framed : k.stage ≢ Spent → k.frame ≡ frame
@@ -67,7 +70,7 @@ module _ {E : Type 0} where
     pub own : own_of k.is_note k.number log ≡ own_of k.is_note k.number k.seen
 
 module _ {V E : Type 0} where
-  -- Where nobody has the turn, the slot has a value that stands for the whole history, and has the frame
+  -- If nobody holds the lock, the slot has a value that represents the whole history, and has the frame.
   abbrev pub SlotAt : (V → List E → Type 0) → (V → Frame) → Frame → List (ℕ × E) → List (maybe.Option (Option V)) → Turn → Type 0
   SlotAt stands frame f log homes nobody = (v : V) × (homes ≡ some (Some v) ∷ []) × stands v (entries log) × (frame v ≡ f)
   SlotAt stands frame f log homes (inside j) = homes ≡ some None ∷ []
@@ -75,7 +78,7 @@ module _ {V E : Type 0} where
 
   -- `about` is the value that the chronicle was opened with
   pub record IsChronicle (stands : V → List E → Type 0) (frame : V → Frame) (opening : V → List E) (about : Snapshot V) (s : State (Option V) (Knowledge E)) : Type 0 where
-    -- the history, of which the proofs alone know
+    -- the history, which exists in the proofs only
     pub log : List (ℕ × E)
     pub turn : Turn
     -- how many numbers were given after 0

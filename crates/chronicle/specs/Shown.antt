@@ -9,20 +9,20 @@ use Rattle.chronicle.specs.History.{own_of, NumbersUpTo}
 pub record Shown (E : Type 0) : Type 0 where
   -- the part of the history that its holder has seen
   pub seen : List (ℕ × E)
-  -- the number under which it enters; of a note it says nothing
+  -- the number under which it enters; it has no meaning for a note
   pub number : ℕ
-  -- how many tokens were made of it
+  -- how many tokens were made from it
   pub made : ℕ
   pub is_note : Bool
   pub holds_turn : Bool
-  -- it holds the turn for good
+  -- it holds the lock for good
   pub has_ended : Bool
   -- the chronicle that it belongs to
   pub identity : TableId
   -- the frame of that chronicle's value
   pub frame : Frame
 
--- how the proofs keep this beside a token
+-- how the proofs store this next to a token
 abbrev pub shown_coded : {E : Type 0} → Coded E → Coded (Shown E)
 shown_coded {E} c = coded_via (coded× (coded_list (coded× coded_ℕ c)) (coded× coded_ℕ (coded× coded_ℕ (coded× coded_bool (coded× coded_bool (coded× coded_bool (coded× table_id_coded frame_coded)))))))
     (λ (s : Shown E). (s.seen, (s.number, (s.made, (s.is_note, (s.holds_turn, (s.has_ended, (s.identity, s.frame))))))))
@@ -33,24 +33,24 @@ module _ {E : Type 0} where
   abbrev pub mine : Shown E → List (ℕ × E)
   mine t = own_of t.is_note t.number t.seen
 
-  -- it is no note, and does not hold the turn
+  -- it is no note, and does not hold the lock
   abbrev pub MayTake : Shown E → Type 0
   MayTake t = (t.is_note ≡ false) × (t.holds_turn ≡ false) × (t.has_ended ≡ false)
 
-  -- it holds the turn, and may pass it on
+  -- it holds the lock, and may release it
   abbrev pub MayGive : Shown E → Type 0
   MayGive t = (t.holds_turn ≡ true) × (t.has_ended ≡ false)
 
-  -- it is no note, and holds the turn, and not for good
+  -- it is no note, and holds the lock, but not for good
   abbrev pub MayEnter : Shown E → Type 0
   MayEnter t = (t.is_note ≡ false) × MayGive t
 
-  -- the same token of the same chronicle; what it has seen may differ, and whether it holds the turn
+  -- the same token of the same chronicle; what it has seen may differ, and whether it holds the lock
   abbrev pub SameToken : Shown E → Shown E → Type 0
   SameToken old new = (new.number ≡ old.number) × (new.made ≡ old.made) × (new.is_note ≡ old.is_note) × (new.identity ≡ old.identity)
       × (new.frame ≡ old.frame) × (new.has_ended ≡ old.has_ended)
 
-  -- the same token, which now holds the turn for good, and has maybe seen more
+  -- the same token, which now holds the lock for good, and has maybe seen more
   abbrev pub EndsWith : Shown E → Shown E → Type 0
   EndsWith old new = new ≡ record old { seen = new.seen; holds_turn = true; has_ended = true }
 
@@ -58,7 +58,7 @@ module _ {E : Type 0} where
   abbrev pub SeesOn : Shown E → Shown E → Type 0
   SeesOn old new = IsPrefix old.seen new.seen × (mine new ≡ mine old)
 
-  -- one more token was made of it, and nothing else changed
+  -- one more token was made from it, and nothing else changed
   abbrev pub MakesOne : Shown E → Shown E → Type 0
   MakesOne old new = (new.number ≡ old.number) × (new.made ≡ old.made + 1) × (new.is_note ≡ old.is_note) × (new.holds_turn ≡ old.holds_turn)
       × (new.seen ≡ old.seen) × (new.identity ≡ old.identity) × (new.frame ≡ old.frame) × (new.has_ended ≡ old.has_ended)
@@ -76,9 +76,9 @@ module _ {E : Type 0} where
   abbrev pub IsCounted : Shown E → Type 0
   IsCounted t = t.is_note ≡ false → t.number ≡ 0 → NumbersUpTo t.made t.seen
 
--- The token entered this one entry, behind all that was there when its turn came.
+-- The token entered this one entry, after all that was there when it got the lock.
 pub record EntersBehind {E : Type 0} (entry : E) (old new : Shown E) : Type 0 where
-  -- what stood there when the entry came
+  -- what was there when the entry came
   pub between : List (ℕ × E)
   pub on : IsPrefix old.seen between
   -- nothing of it is the token's own that it had not seen

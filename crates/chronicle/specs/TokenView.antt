@@ -1,4 +1,4 @@
--- How a token is seen: by what its one seat knows.
+-- A token as contracts see it: what its only seat knows.
 use Rattle.std.specs.Prelude.{◌≡◌, Bool, true, false, List, [], ◌∷◌}
 use Rattle.atomic_table.specs.Seated.{TableId}
 use Rattle.chronicle.specs.Frame.{empty_frame}

@@ -1,4 +1,4 @@
-// The steps on the table. Each function keeps the rule, and says what its seat then knows.
+// The steps on the table. Each function keeps the rule, and its contract states what its seat then knows.
 ghost use Rattle.std.specs.Prelude.{◌≡◌, ◌⊎◌, true, false, [], ◌∷◌, ◌++◌, Some};
 ghost use mathlib.Core.List.{IsPrefix};
 ghost use Rattle.chronicle.specs.History.{entries, longer};
@@ -20,23 +20,25 @@ pub(crate) type Board<V, E> = Shared<Option<V>, Knowledge<E>, Snapshot<V>, TurnR
 
 pub(crate) type Holder<V, E> = Seat<Option<V>, Knowledge<E>>;
 
-// The words of the table, and its one slot.
+// the words of the table, and its only slot
 const NEXT: usize = 0;
 
 const SERVING: usize = 1;
 
 const ENTERED: usize = 2;
 
-// 1 where somebody may sleep until the turn is given back.
+// 1 if a thread may be sleeping until the lock is released
 const SLEEPING: usize = 3;
 
 const VALUE: usize = 0;
 
-// How often a thread looks whether the turn is free before it sleeps. To wake one takes as long as many turns.
+// How often a thread checks whether the lock is free before it sleeps. To wake a thread takes as long as that many uses
+// of the lock.
 const LOOKS: u32 = 100;
 
-// Draws a ticket, and no sooner than nobody has one: so who runs has the turn at once, and nobody waits until a certain thread was woken for it. The last number
-// is never drawn, so tickets do not wrap: who finds it sleeps for ever.
+// Draws a ticket, and only while no ticket is out. So a thread that runs gets the lock immediately, and nobody waits
+// until a certain thread is awake.
+// The last number is never drawn, so tickets do not wrap; a thread that would draw it sleeps for ever.
 pub(crate) fn draw_ticket<V: Standing, R: Wait>(
     rt: &R,
     board: &Board<V, V::Entry>,
@@ -56,7 +58,7 @@ pub(crate) fn draw_ticket<V: Standing, R: Wait>(
             board.park(rt, NEXT, u32::MAX);
         } else if ticket == served {
             if board.compare_exchange::<Draw>(seat, NEXT, ticket, ticket + 1) == ticket {
-                // One is woken at a time, so who was woken sees to it that the next one is.
+                // `give` wakes one thread at a time, so a woken thread makes its own `give` wake the next one.
                 if slept {
                     board.store::<Call>(seat, SLEEPING, 1);
                 }
@@ -74,7 +76,8 @@ pub(crate) fn draw_ticket<V: Standing, R: Wait>(
     unreachable!()
 }
 
-// Sleeps until a turn is given back. It says first that it does, and then looks once more: whoever gives the turn back after that look finds what it said.
+// Sleeps until the lock is released. It first sets the word and then checks once more: a release after that check finds
+// the word set.
 fn await_give<V: Standing, R: Wait>(
     rt: &R,
     board: &Board<V, V::Entry>,
@@ -91,7 +94,8 @@ fn await_give<V: Standing, R: Wait>(
     }
 }
 
-// Takes the value out when the ticket is served. No ticket is drawn while another is out, so that is at once; but the rule does not say so.
+// Takes the value out when the ticket is served. No ticket is drawn while another is out, so it is served immediately;
+// but the rule does not state that.
 pub(crate) fn await_turn<V: Standing, R: Wait>(
     rt: &R,
     board: &Board<V, V::Entry>,
@@ -117,7 +121,7 @@ pub(crate) fn await_turn<V: Standing, R: Wait>(
     unreachable!()
 }
 
-// Puts the value back, passes the turn on, and wakes one of those who sleep.
+// Puts the value back, releases the lock, and wakes one sleeping thread.
 pub(crate) fn pass_turn<V: Standing>(
     board: &Board<V, V::Entry>,
     seat: &mut Holder<V, V::Entry>,
@@ -141,7 +145,7 @@ pub(crate) fn pass_turn<V: Standing>(
     }
 }
 
-// Adds the entry to the history. `W` is how the call says in the proofs which entry that is.
+// Adds the entry to the history. With `W` the call says in the proofs which entry that is.
 pub(crate) fn add_entry<V: Standing, W: Adding<V::Entry>>(
     board: &Board<V, V::Entry>,
     seat: &mut Holder<V, V::Entry>,
@@ -157,7 +161,7 @@ pub(crate) fn add_entry<V: Standing, W: Adding<V::Entry>>(
     board.fetch_add::<Enter<W>>(seat, ENTERED, 1);
 }
 
-// A seat of the next number, which the first seat gives.
+// Makes a seat with the next number from the first seat.
 pub(crate) fn make_seat<V: Standing>(
     board: &Board<V, V::Entry>,
     first: &mut Holder<V, V::Entry>,
@@ -184,7 +188,8 @@ pub(crate) fn note_seat<V: Standing>(
     board.split_seat::<Note>(of)
 }
 
-// Tells the seat what another has seen, and spends the other. A join by itself tells nothing, so a load of a word compares the two.
+// Shows the seat what another has seen, and spends the other. A join by itself shows nothing, so a load of a word
+// compares the two.
 pub(crate) fn tell_seat<V: Standing>(
     board: &Board<V, V::Entry>,
     seat: &mut Holder<V, V::Entry>,

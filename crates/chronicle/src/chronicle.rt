@@ -15,12 +15,14 @@ use std::mem;
 use std::snapshot::Snapshot;
 use std::sync::Wait;
 
-/// A turn lock round a value, with a history that only grows. Contracts see it as its identity, which each of its tokens shows.
+/// A lock around a value, with a history that only grows. It is a ticket lock; holding it is called a turn. Contracts
+/// see a chronicle as its identity, which each of its tokens shows.
 ///
-/// The history takes no memory: it lies in the proofs alone. A chronicle is the value, four words and their allocation, however much was
-/// entered. It is shared by reference, and may be shared among threads where the value may be sent.
+/// The history exists in proofs only and uses no memory. At run time a chronicle is the value and four words in one
+/// allocation. It is shared by reference, also among threads if the value is `Send`.
 ///
-/// What is not claimed: that a turn ever comes, who comes first, or any order of what different tokens entered beyond what one has seen.
+/// Not guaranteed: progress, fairness, and any order of the entries of different tokens beyond what one of them has
+/// seen.
 #[derive(Drop)]
 pub struct Chronicle<V: Standing> {
     table: Table<Option<V>, Knowledge<V::Entry>, Snapshot<V>, TurnRule, Global>,
@@ -40,8 +42,10 @@ impl<V: Standing> Model for Chronicle<V> {
 }
 
 impl<V: Standing> Chronicle<V> {
-    /// A chronicle over the value, with its first token, whose number is 0. The entries of the opening list are the first token's own.
-    /// Where there is no memory, the value comes back.
+    /// Makes a chronicle of the value, and its first token, whose number is 0. The entries of the opening list belong
+    /// to the first token.
+    ///
+    /// Errors: out of memory, with the value.
     pub fn open(alloc: Global, value: V) -> Result<(Chronicle<V>, Token<V::Entry>), V>
         requires { V.stands value (V.opening value) }
         ensures own { IfOk result (λ r. (r.1.identity ≡ r.0) × (r.1.frame ≡ V.frame value)) }
@@ -76,7 +80,8 @@ impl<V: Standing> Chronicle<V> {
         }
     }
 
-    /// Another token that may enter. The `k`-th one that is made of the first token has number `k`.
+    /// Makes another token that may enter. The `k`-th token made from the first one has number `k`. It allocates
+    /// nothing.
     pub fn token(&self, first: &mut Token<V::Entry>) -> Token<V::Entry>
         requires own { first.old.identity ≡ self.now }
         requires first { (first.old.is_note ≡ false) × (first.old.number ≡ 0) }
@@ -98,7 +103,8 @@ impl<V: Standing> Chronicle<V> {
         }
     }
 
-    /// A copy of what the token has seen, which may be kept or handed on, and may never enter. It may be made while the token holds the turn.
+    /// Copies what the token has seen. A note can be stored or passed on, and can never enter. It can be made while the
+    /// token holds the lock. It allocates nothing.
     pub fn note(&self, of: &mut Token<V::Entry>) -> Token<V::Entry>
         requires own { of.old.identity ≡ self.now }
         ensures of { of.new ≡ of.old }
@@ -116,8 +122,8 @@ impl<V: Standing> Chronicle<V> {
         }
     }
 
-    /// Tells `into` what `from` has seen. Of the two seen lists one begins the other, and `into` then has the longer. `from` is gone, with its
-    /// number.
+    /// Shows `into` what `from` has seen, and consumes `from`. One of the two seen lists is a prefix of the other, and
+    /// `into` then has the longer. The number of `from` is lost. It allocates nothing.
     pub fn meet(&self, into: &mut Token<V::Entry>, from: Token<V::Entry>)
         requires own { (into.old.identity ≡ self.now) × (from.identity ≡ self.now) }
         requires idle { (into.old.holds_turn ≡ false) × (from.holds_turn ≡ false) }
@@ -139,10 +145,13 @@ impl<V: Standing> Chronicle<V> {
         into.badge = told.into_badge();
     }
 
-    /// Waits for the turn, and hands out the value, which then stands for all that was entered so far. The token has then seen that.
+    /// Takes the lock, and returns the value, which represents the whole history. The token has then seen the whole
+    /// history.
     ///
-    /// The turn goes to whoever comes while it is free, and not to who waits longest. Who waits looks a while, and then sleeps. A thread that waits for a turn which it
-    /// holds by another token waits for ever, and so does everybody where the holder never gives.
+    /// It waits while another token holds the lock: it checks for a short time, and then sleeps. The lock goes to the
+    /// thread that comes while it is free, and not to the one that waits longest. It allocates nothing.
+    ///
+    /// It waits for ever if the thread holds the lock by another token, or if the holder never releases it.
     pub fn take<R: Wait>(&self, rt: &R, token: &mut Token<V::Entry>) -> V
         requires own { token.old.identity ≡ self.now }
         requires idle { MayTake token.old }
@@ -158,7 +167,8 @@ impl<V: Standing> Chronicle<V> {
         value
     }
 
-    /// Adds one entry at the end of the history, under the token's number.
+    /// Adds one entry at the end of the history, under the token's number. It drops the entry and allocates nothing.
+    /// The token holds the lock.
     pub fn enter(&self, token: &mut Token<V::Entry>, entry: V::Entry)
         requires own { token.old.identity ≡ self.now }
         requires turn { MayEnter token.old }
@@ -172,7 +182,8 @@ impl<V: Standing> Chronicle<V> {
         self.enter_lent(token, &entry);
     }
 
-    /// The same of an entry that stays the caller's: the history takes no memory, so none has to be made for it.
+    /// Adds an entry as [`enter`](Chronicle::enter) does, and leaves it to the caller, so none has to be made for the
+    /// history.
     pub fn enter_lent(&self, token: &mut Token<V::Entry>, entry: &V::Entry)
         requires own { token.old.identity ≡ self.now }
         requires turn { MayEnter token.old }
@@ -188,7 +199,8 @@ impl<V: Standing> Chronicle<V> {
         token.badge = writer.into_badge();
     }
 
-    /// Gives the value back, and passes the turn on. It never waits.
+    /// Releases the lock, and returns the value to it. The value has to represent the whole history. It never waits and
+    /// allocates nothing.
     pub fn give(&self, token: &mut Token<V::Entry>, value: V)
         requires own { token.old.identity ≡ self.now }
         requires turn { MayGive token.old }
@@ -202,8 +214,8 @@ impl<V: Standing> Chronicle<V> {
         token.badge = holder.into_badge();
     }
 
-    /// Takes the turn for good: as [`take`](Chronicle::take), and no call gives the turn back. Every later `take` waits for ever. The token can
-    /// enter nothing more; a note of it can still be made.
+    /// Takes the lock for good: as [`take`](Chronicle::take), and no call releases it. Each later `take` waits for
+    /// ever. The token can enter nothing more; a note of it can still be made.
     pub fn end<R: Wait>(&self, rt: &R, token: &mut Token<V::Entry>) -> V
         requires own { token.old.identity ≡ self.now }
         requires idle { MayTake token.old }

@@ -1,4 +1,4 @@
-// What a seat of the table knows. It exists in the proofs alone: no value of these types is made.
+// What a seat of the table knows. It exists in the proofs only: no value of these types is made.
 ghost use Rattle.std.specs.Prelude.{◌≡◌, ℕ, Bool, List};
 ghost use base.Fml.{ftrue};
 ghost use base.Stored.{coded×, coded_ℕ, coded_list};
@@ -8,25 +8,34 @@ use std::marker::{Model, PhantomData};
 
 /// How far a seat is on its way through a turn. The number is its ticket.
 pub enum Stage {
-    /// Joined into another seat, and gone.
+    /// It was joined into another seat, and is gone.
     Spent,
+    /// It waits for nothing.
     Idle,
+    /// It has a ticket, which is not served yet.
     Waiting(u64),
-    /// It has the turn and the value. The slot is in its place, and empty.
+    /// It holds the lock and the value. The slot is in its place, and empty.
     InTurn(u64),
-    /// It has the turn, and the slot is out with it: just emptied, or about to be filled.
+    /// It holds the lock, and the slot is out with it: just emptied, or about to be filled.
     WithSlot(u64),
 }
 
+/// What a seat knows: its stage, its number, how many tokens were made from it, and what it has seen.
 pub struct Knowledge<E> {
     marker: PhantomData<E>,
+    /// How far it is on its way through a turn.
     pub stage: Stage,
+    /// Whether it is a note, which never enters.
     pub is_note: bool,
+    /// The number under which it enters. It has no meaning for a note.
     pub number: u64,
+    /// How many tokens were made from it.
     pub made: u64,
+    /// The part of the history that it has seen.
     pub ghost seen: { List (ℕ × E) } by { coded_list (coded× coded_ℕ E.code) },
-    // What a seat that was joined into this one had seen, until it is compared.
+    /// What a seat that was joined into this one had seen, until the two are compared.
     pub ghost told: { List (ℕ × E) } by { coded_list (coded× coded_ℕ E.code) },
+    /// The frame of the chronicle's value.
     pub ghost frame: { Frame } by { frame_coded },
 }
 

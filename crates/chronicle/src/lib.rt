@@ -1,5 +1,6 @@
-//! A turn lock round a value, with a history that only grows. A thread waits for its turn, takes the value out, enters what it did into the
-//! history and gives the value back. A token is what a holder knows: the entries that it has seen, and which of them are its own.
+//! A lock around a value, with a history that only grows. A thread takes the lock and the value, enters what it did
+//! into the history, and gives the value back. A token is what its holder knows: the entries that it has seen, and
+//! which of them are its own. `docs/chronicle.md` explains the rule.
 #![tactic(auto)]
 
 mod board;

@@ -1,4 +1,4 @@
-// The rule of the table, and what each step on it tells. `specs/Rule.antt` and `specs/Steps.antt` state them.
+// The rule of the table, and what each step on it shows. `specs/Rule.antt` and `specs/Steps.antt` state them.
 ghost use Rattle.std.specs.Prelude.{Option, None};
 ghost use Rattle.chronicle.specs.Knowledge.{after_making, made_from, note_of, told_of, spent};
 ghost use Rattle.chronicle.specs.Steps.{Draws, Calls, Looks, TakesSlot, ReturnsSlot, Passes, Enters, Compares};
@@ -9,6 +9,7 @@ use atomic_table::{Join, Play, Split, TableRule};
 use std::marker::{Brand, PhantomData};
 use std::snapshot::Snapshot;
 
+/// The rule of a chronicle's table.
 pub struct TurnRule;
 
 impl<V: Standing> TableRule<Option<V>, Knowledge<V::Entry>, Snapshot<V>> for TurnRule {
@@ -26,14 +27,14 @@ impl<V: Standing> Play<Option<V>, Knowledge<V::Entry>> for Draw {
     ghost then = { Draws };
 }
 
-// The word of those who sleep is written.
+// The word of the sleeping threads is written.
 pub(crate) struct Call;
 
 impl<V: Standing> Play<Option<V>, Knowledge<V::Entry>> for Call {
     ghost then = { Calls };
 }
 
-// The serving number is read, and where it is one's own ticket, the slot is taken out with the value.
+// The serving number is read. If it is the caller's ticket, the slot is taken out with the value.
 pub(crate) struct Look;
 
 impl<V: Standing> Play<Option<V>, Knowledge<V::Entry>> for Look {
@@ -54,14 +55,14 @@ impl<V: Standing> Play<Option<V>, Knowledge<V::Entry>> for TakeSlot {
     ghost then = { TakesSlot };
 }
 
-// The filled slot is put back, and the turn passes on.
+// The filled slot is put back, and the lock is released.
 pub(crate) struct Pass;
 
 impl<V: Standing> Play<Option<V>, Knowledge<V::Entry>> for Pass {
     ghost then = { Passes };
 }
 
-// Which entry is added. Each call of `Chronicle::enter_lent` picks it.
+// Which entry is added. Each call of `Chronicle::enter_lent` chooses it.
 pub(crate) trait Adding<E> {
     ghost added: { Option E };
 }
@@ -78,7 +79,7 @@ impl<V: Standing, W: Adding<V::Entry>> Play<Option<V>, Knowledge<V::Entry>> for 
     ghost then = { Enters W.added };
 }
 
-// A token of the next number is made of the first one.
+// A token of the next number is made from the first one.
 pub(crate) struct Make;
 
 impl<E> Split<Knowledge<E>> for Make {
@@ -95,7 +96,7 @@ impl<E> Split<Knowledge<E>> for Note {
     ghost right = { note_of };
 }
 
-// One seat is told what another has seen, and the other is spent.
+// One seat is shown what another has seen, and the other is spent.
 pub(crate) struct Tell;
 
 impl<E> Join<Knowledge<E>> for Tell {
@@ -104,7 +105,7 @@ impl<E> Join<Knowledge<E>> for Tell {
     ghost spent = { spent };
 }
 
-// What was told is compared with what was seen. A join tells nothing by itself, so this is a step of its own.
+// What was shown is compared with what was seen. A join shows nothing by itself, so this is a step of its own.
 pub(crate) struct Compare;
 
 impl<V: Standing> Play<Option<V>, Knowledge<V::Entry>> for Compare {

@@ -1,4 +1,4 @@
--- The plain data of what the words say.
+-- The plain data of command-line arguments.
 use Rattle.std.specs.Prelude.{string_bytes}
 use Rattle.command_line.specs.Words as plain
 use Rattle.command_line.specs.declared.words.CommandLine.{CommandLine}

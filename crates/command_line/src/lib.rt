@@ -1,4 +1,4 @@
-//! The words of the command line: `facets [--generate N] [--sessions K] DIR`.
+//! The command-line arguments: `facets [--generate N] [--sessions K] DIR`.
 #![tactic(auto)]
 
 mod words;

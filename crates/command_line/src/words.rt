@@ -9,14 +9,14 @@ use clap::{Arg, ArgMatches, Command};
 use facet_names::NoMemory;
 use std::alloc::{AllocError, Global};
 
-/// What the words say.
+/// The command-line arguments, parsed.
 #[derive(Debug, Drop)]
 pub struct CommandLine {
     /// The directory of the store.
     pub dir: String,
-    /// How many documents are generated, 1 to 1,000,000. None where a script is read.
+    /// How many documents to generate, 1 to 1,000,000. `None` if a script is read.
     pub generate: Option<u32>,
-    /// How many sessions generate them, 1 to 8. It says nothing where a script is read.
+    /// How many sessions generate them, 1 to 8. It has no meaning if a script is read.
     pub sessions: u32,
 }
 
@@ -38,7 +38,7 @@ fn command<'a>(alloc: Global) -> Result<Command<'a>, AllocError>
         .arg(dir)
 }
 
-// What the command finds among the words. None where it does not take them.
+// Returns what `clap` finds in the arguments, or `None` for a usage error.
 fn matches_in<'a>(alloc: Global, words: &'a [String]) -> Result<Option<ArgMatches<'a>>, NoMemory>
     ensures some { IfOk result (λ found. IfSome found (λ m. (fault_of app (map string_bytes words.entry.now) ≡ [])
         × (rows_of (found_of m) ≡ matches_of app (map string_bytes words.entry.now)))) }
@@ -69,14 +69,14 @@ fn number_in(text: &str, low: u32, high: u32) -> Option<u32>
     }
 }
 
-// The text under a name.
+// Returns the text under a name.
 fn text_under<'a>(matches: &ArgMatches<'a>, id: &str) -> Option<&'a str>
     ensures { option_map (λ s. s.now) result ≡ first_of id.now (rows_of (found_of matches.now)) }
 {
     matches.get_str(id)
 }
 
-// The number under a name, where it is from `low` to `high`; Some(None) where none is given.
+// Returns the number under a name if it is from `low` to `high`, and `Some(None)` if none is given.
 fn number_under(matches: &ArgMatches<'_>, id: &str, low: u32, high: u32) -> Option<Option<u32>>
     ensures is { result ≡ given_within low high (first_of id.now (rows_of (found_of matches.now))) }
     ensures within { IfSome result (λ given. IfSome given (λ n. (low ≤ n) × (n ≤ high))) }
@@ -90,7 +90,7 @@ fn number_under(matches: &ArgMatches<'_>, id: &str, low: u32, high: u32) -> Opti
     }
 }
 
-// What was found, put together.
+// Makes a command line of what was found.
 fn line_of(alloc: Global, matches: &ArgMatches<'_>) -> Result<Option<CommandLine>, NoMemory>
     ensures is { IfOk result (λ line. option_map words_view line ≡ words_of_rows (rows_of (found_of matches.now))) }
     ensures generate { IfOk result (λ line. IfSome line (λ l. IfSome l.generate (λ n. (1 ≤ n) × (n ≤ 1000000)))) }
@@ -113,8 +113,11 @@ fn line_of(alloc: Global, matches: &ArgMatches<'_>) -> Result<Option<CommandLine
     }))
 }
 
-/// What the words behind the program's name say, as `clap` reads them for a command with one required word, the directory, and the options `--generate` and
-/// `--sessions`, each with a number in its range. None where it does not take them.
+/// Parses the arguments after the program's name, as `clap` does for a command with one required argument, the
+/// directory, and the options `--generate` and `--sessions`, each with a number in its range. It returns `None` for a
+/// usage error.
+///
+/// Errors: out of memory.
 #[tactic(auto, unfolding(crate::specs::Words::words_of))]
 pub fn read_words(alloc: Global, words: &[String]) -> Result<Option<CommandLine>, NoMemory>
     ensures is { IfOk result (λ line. option_map words_view line ≡ words_of (map string_bytes words.now)) }

@@ -1,4 +1,4 @@
--- What commit files say, as plain data.
+-- The contents of commit files, as plain data.
 use Rattle.std.specs.Prelude.{◌≡◌, ◌+◌, ◌||◌, ℕ, Bool, List, [], ◌∷◌}
 use Rattle.std.specs.Borrow.{Bor}
 use Rattle.std.specs.BTreeMap.{insert_entry}
@@ -23,11 +23,12 @@ pub record TaxonomyListing : Type 0 where
 abbrev pub taxonomy_listing : TaxonomyCommit → TaxonomyListing
 taxonomy_listing c = record { labels = c.labels; parts = c.parts.items }
 
--- the ordinal behind the last label of a segment
+-- the ordinal after the last label of a segment
 abbrev pub end_of : LabelPart → ℕ
 end_of part = part.first + part.count
 
--- The first segment begins at an ordinal, each next one where the one before it ends, and the last one ends where the labels do.
+-- The first segment begins at an ordinal, each next one where the one before it ends, and the last one ends with the
+-- last label.
 abbrev pub AreInOrder : ℕ → ℕ → List LabelPart → Type 0
 AreInOrder labels start [] = start ≡ labels
 AreInOrder labels start (part ∷ parts) = (part.first ≡ start) × AreInOrder labels (end_of part) parts
@@ -48,7 +49,7 @@ pub record IndexListing : Type 0 where
 abbrev pub index_listing : IndexCommit → IndexListing
 index_listing c = record { needs = c.needs; kept = c.kept; parts = c.parts.items }
 
--- documents that need so many labels, made under these declarations, in these segments
+-- documents that need so many labels, stored under these declarations, in these segments
 abbrev pub documents_listed : ℕ → Config → List DocumentPart → IndexListing
 documents_listed needs kept parts = record { needs = needs; kept = kept; parts = parts }
 
@@ -72,11 +73,11 @@ with_documents before part = before + part.documents
 abbrev pub is_some_set : DimFlags → Bool
 is_some_set f = f.hierarchical || f.multi_valued || f.require_dim_count
 
--- declarations by their dimensions' bytes, rising; of two with one dimension the first
+-- declarations by their dimensions' bytes, rising; of two with one dimension, the first
 unfoldable pub in_order : Config → Config
 in_order [] = []
 in_order (d ∷ ds) = insert_entry word_cmp (in_order ds) d.0 d.1
 
--- what is kept of a config: the declarations with a flag that is set, rising by their dimensions' bytes
+-- the declarations of a config that are stored: those that set a flag, rising by their dimensions' bytes
 unfoldable pub kept_of : Config → Config
 kept_of config = filter (λ d. is_some_set d.1) (in_order config)

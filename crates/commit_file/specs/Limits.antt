@@ -1,4 +1,4 @@
--- What can stand in a commit file.
+-- What a commit file can hold.
 use Rattle.std.specs.Prelude.{◌≡◌, ◌<◌, ◌≤◌, ◌^◌, ℕ, List, length}
 use Rattle.std.specs.List.{sum_by}
 use Rattle.facet_codec.specs.Laws.{IsText}
@@ -25,14 +25,14 @@ pub record IsDeclaration (d : List ℕ × DimFlags) : Type 0 where
   pub some : 1 ≤ length d.0
   pub text : IsText 1024 d.0
 
--- what a commit of the taxonomy can say
+-- what a commit of the taxonomy can hold
 pub record IsTaxonomy (c : TaxonomyListing) : Type 0 where
   pub labels : c.labels ≤ 1000000
   pub some : 0 < length c.parts
   pub few : length c.parts < 2 ^ 32
   pub order : AreInOrder c.labels 1 c.parts
 
--- what a commit of the index can say
+-- what a commit of the index can hold
 pub record IsIndex (c : IndexListing) : Type 0 where
   pub kept : kept_of c.kept ≡ c.kept
   pub some : 0 < length c.parts

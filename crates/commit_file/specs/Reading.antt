@@ -1,4 +1,4 @@
--- Reading commit files from left to right, with the first fault that is met.
+-- Reading commit files from left to right, with the first fault.
 use Rattle.std.specs.Prelude.{◌≡◌, ◌==◌, ◌+◌, ◌-◌, ◌/◌, ◌%◌, ◌&&◌, ◌||◌, ℕ, zero, suc, not, nat_lt, nat_le, List, [], ◌∷◌, length, take, drop, Result, Ok, Err, if◌then◌else◌}
 use Rattle.std.specs.Ordering.{is_lt}
 use Rattle.std.specs.Str.{bytes_eq}
@@ -16,7 +16,7 @@ use Rattle.commit_file.specs.declared.taxonomy.LabelPart.{LabelPart}
 use Rattle.commit_file.specs.declared.index.DocumentPart.{DocumentPart}
 use Rattle.commit_file.specs.Commits.{TaxonomyListing, IndexListing, end_of, with_documents}
 
--- ---- what a call answers
+-- ---- what a call returns
 
 -- Unless memory ran out, the fault is the one that reading meets.
 abbrev pub Fails : {Y : Type 0} → FileFault → Result Y FileFault → Type 0
@@ -24,24 +24,24 @@ Fails (Damaged kept found) read = read ≡ Err (Damaged kept found)
 Fails (Malformed at) read = read ≡ Err (Malformed at)
 Fails NoMemory read = Unit {0}
 
--- A call read a value, and its cursor stands behind it.
+-- A call read a value, and its cursor is after it.
 abbrev pub Reads : {X Y : Type 0} → (X → Y) → Result X FileFault → Place → Result (Y × Place) FileFault → Type 0
 Reads view (Ok x) new read = read ≡ Ok (view x, new)
 Reads view (Err e) new read = Fails e read
 
--- A call passed bytes that have to stand here, and its cursor stands behind them.
+-- A call passed bytes that have to be here, and its cursor is after them.
 abbrev pub Passes : {X : Type 0} → Result X FileFault → Place → Result Place FileFault → Type 0
 Passes (Ok x) new read = read ≡ Ok new
 Passes (Err e) new read = Fails e read
 
--- A call over bytes answered what reading them gives.
+-- A call over bytes returned what reading them gives.
 abbrev pub Gives : {X Y : Type 0} → (X → Y) → Result X FileFault → Result Y FileFault → Type 0
 Gives view (Ok x) read = read ≡ Ok (view x)
 Gives view (Err e) read = Fails e read
 
 -- ---- parts of every commit
 
--- a value of the codec, whose fault is told by its place
+-- a value of the codec; its fault is reported by its place
 abbrev pub told : {A : Type 0} → Result A CodecFault → Result A FileFault
 told read = told_as (λ e. Malformed (fault_at e)) read
 
@@ -74,7 +74,7 @@ some_at p = do
 abbrev pub digest_at : Place → Result (List ℕ × Place) FileFault
 digest_at p = told (bytes_at 32 p)
 
--- So many values, each of which is read with how many come behind it and what the ones before it come to.
+-- So many values. Each is read given how many come after it, and a sum of those before it.
 unfoldable pub each_at : {A S : Type 0} → (ℕ → S → Place → Result (A × Place) FileFault) → (S → A → S) → ℕ → S → Place → Result (List A × Place) FileFault
 each_at read next zero state p = Ok ([], p)
 each_at read next (suc n) state p = do
@@ -93,7 +93,7 @@ body_of bytes = take (length bytes - 32) bytes
 abbrev pub digest_in : List ℕ → List ℕ
 digest_in bytes = drop (length bytes - 32) bytes
 
--- the bytes before the digest, where they have that digest
+-- the bytes before the digest, if they have that digest
 unfoldable pub unsealed : List ℕ → Result (List ℕ) FileFault
 unsealed bytes = if nat_lt (length bytes) 32 then Err (Malformed (length bytes)) else
     (if bytes_eq (digest_in bytes) (sha256 (body_of bytes)) then Ok (body_of bytes) else Err (Damaged (digest_in bytes) (sha256 (body_of bytes))))
@@ -112,13 +112,13 @@ first_at start p = do
   n ← told (u32_at p)
   if n.0 == start then Ok n else Err (Malformed p.at)
 
--- how many labels a segment has that begins at `start`; where none is behind it, it ends where the labels do
+-- how many labels a segment has that begins at `start`; the last one ends with the last label
 unfoldable pub count_at : ℕ → ℕ → ℕ → Place → Result (ℕ × Place) FileFault
 count_at labels behind start p = do
   n ← told (u32_at p)
   if behind == 0 && not (start + n.0 == labels) then Err (Malformed p.at) else Ok n
 
--- a segment of labels that begins at `start`, with so many segments behind it
+-- a segment of labels that begins at `start`, with so many segments after it
 unfoldable pub label_part_at : ℕ → ℕ → ℕ → Place → Result (LabelPart × Place) FileFault
 label_part_at labels behind start p = do
   number ← told (u64_at p)
@@ -127,11 +127,11 @@ label_part_at labels behind start p = do
   digest ← digest_at count.1
   Ok (record { number = number.0; first = first.0; count = count.0; digest = digest.0 }, digest.1)
 
--- so many segments of labels, the first of which begins at ordinal 1, and each next one where the one before it ends
+-- so many segments of labels; the first begins at ordinal 1, each next one where the one before it ends
 abbrev pub label_parts_at : ℕ → ℕ → Place → Result (List LabelPart × Place) FileFault
 label_parts_at labels n p = each_at (label_part_at labels) (λ _ part. end_of part) n 1 p
 
--- what stands before the digest of a taxonomy commit
+-- what precedes the digest of a taxonomy commit
 unfoldable pub taxonomy_at : ℕ → List ℕ → Result TaxonomyListing FileFault
 taxonomy_at number bytes = do
   start ← head_at 0x4654434d number (record { at = 0; rest = bytes })
@@ -148,17 +148,17 @@ taxonomy_commit number bytes = do
 
 -- ---- an index commit
 
--- the flags that a number tells
+-- the flags in a number
 abbrev pub flags_of : ℕ → DimFlags
 flags_of n = record { hierarchical = n % 2 == 1; multi_valued = n / 2 % 2 == 1; require_dim_count = nat_le 4 n }
 
--- flags in one byte, of which one is set
+-- flags in one byte, at least one of them set
 unfoldable pub flags_at : Place → Result (DimFlags × Place) FileFault
 flags_at p = do
   n ← told (u8_at p)
   if n.0 == 0 || nat_lt 7 n.0 then Err (Malformed p.at) else Ok (flags_of n.0, n.1)
 
--- a dimension of at most 1,024 bytes that comes after the one before it; the first one comes after the empty text
+-- a dimension of at most 1,024 bytes, greater than the one before it; the first one is greater than the empty text
 unfoldable pub dim_at : List ℕ → Place → Result (List ℕ × Place) FileFault
 dim_at before p = do
   dim ← told (text_at 1024 p)
@@ -171,7 +171,7 @@ declaration_at before p = do
   flags ← flags_at dim.1
   Ok ((dim.0, flags.0), flags.1)
 
--- so many declarations, each of whose dimensions comes after the one before it
+-- so many declarations; each dimension is greater than the one before it
 abbrev pub declarations_at : ℕ → Place → Result (Config × Place) FileFault
 declarations_at n p = each_at (λ _. declaration_at) (λ _ d. d.0) n [] p
 
@@ -181,7 +181,7 @@ documents_at before p = do
   n ← told (u32_at p)
   if nat_lt 1000000 (before + n.0) then Err (Malformed p.at) else Ok n
 
--- a segment of documents behind so many documents
+-- a segment of documents after so many documents
 unfoldable pub document_part_at : ℕ → Place → Result (DocumentPart × Place) FileFault
 document_part_at before p = do
   number ← told (u64_at p)
@@ -193,7 +193,7 @@ document_part_at before p = do
 abbrev pub document_parts_at : ℕ → Place → Result (List DocumentPart × Place) FileFault
 document_parts_at n p = each_at (λ _. document_part_at) with_documents n 0 p
 
--- what stands before the digest of an index commit
+-- what precedes the digest of an index commit
 unfoldable pub index_at : ℕ → List ℕ → Result IndexListing FileFault
 index_at number bytes = do
   start ← head_at 0x4649434d number (record { at = 0; rest = bytes })

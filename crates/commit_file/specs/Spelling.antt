@@ -8,7 +8,7 @@ use Rattle.commit_file.specs.declared.taxonomy.LabelPart.{LabelPart}
 use Rattle.commit_file.specs.declared.index.DocumentPart.{DocumentPart}
 use Rattle.commit_file.specs.Commits.{TaxonomyListing, IndexListing}
 
--- bytes, and their digest behind them
+-- bytes, and their digest after them
 abbrev pub with_digest : List ℕ → List ℕ
 with_digest bytes = bytes ++ sha256 bytes
 
@@ -40,7 +40,8 @@ declaration_bytes d = text d.0 ++ one_byte (flags_number d.1)
 unfoldable pub document_bytes : DocumentPart → List ℕ
 document_bytes part = be64 part.number ++ (be32 part.documents ++ part.digest)
 
--- `FICM`, the version and the number; how many labels are needed, how many declarations there are, these, how many segments, and the segments
+-- `FICM`, the version and the number; how many labels are needed, how many declarations, these, how many segments, and
+-- these
 unfoldable pub index_bytes : ℕ → IndexListing → List ℕ
 index_bytes number c = head_bytes 0x4649434d number ++ (be32 c.needs ++ (vint (length c.kept) ++ (flat_map declaration_bytes c.kept ++ (be32 (length c.parts) ++ flat_map document_bytes c.parts))))
 

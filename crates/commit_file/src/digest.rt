@@ -10,14 +10,15 @@ use sha2::{Digest, Sha256};
 
 const SIZE: usize = 32;
 
-/// The SHA-256 of bytes. It goes over them once, and takes no memory.
+/// Returns the SHA-256 digest of bytes (FIPS 180-4). It reads them once, and allocates nothing.
 pub fn digest_of(bytes: &[u8]) -> [u8; 32]
     ensures { result ≡ sha256 bytes.now }
 {
     Sha256::digest(bytes)
 }
 
-/// Whether bytes have the digest that was kept of them. It goes over them once, and takes no memory.
+/// Checks that bytes have the digest that was stored. It reads them once, and allocates nothing. Errors: `Damaged` with
+/// both digests.
 pub fn check_digest(kept: [u8; 32], bytes: &[u8]) -> Result<(), FileFault>
     ensures ok { IfOk result (λ _. sha256 bytes.now ≡ kept) }
     ensures err { IfErr result (λ e. e ≡ Damaged kept (sha256 bytes.now)) }
@@ -31,7 +32,7 @@ pub fn check_digest(kept: [u8; 32], bytes: &[u8]) -> Result<(), FileFault>
     }
 }
 
-/// The bytes before the digest at the end, where they have that digest.
+/// Returns the bytes before the digest at the end, if they have that digest.
 #[tactic(auto, unfolding(crate::specs::Reading::unsealed))]
 pub(crate) fn body(bytes: &[u8]) -> Result<&[u8], FileFault>
     ensures { Gives (λ b. b.now) result (unsealed bytes.now) }
@@ -48,7 +49,7 @@ pub(crate) fn body(bytes: &[u8]) -> Result<&[u8], FileFault>
     Ok(body)
 }
 
-/// Puts the digest of bytes behind them.
+/// Appends the digest of the bytes.
 pub(crate) fn seal(bytes: &mut Vec<u8>) -> Result<(), NoMemory>
     ensures { OnOk result (bytes.new.items ≡ with_digest bytes.old.items) }
 {

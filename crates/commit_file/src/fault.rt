@@ -3,14 +3,14 @@ ghost use Rattle.std.specs.Prelude.{◌≡◌};
 use facet_codec::CodecFault;
 use std::alloc::{AllocError, AllocFailed};
 
-/// Why bytes are no commit file, or not the segment that a commit names.
+/// Why bytes are not a commit file, or not the segment that a commit names.
 #[derive(Clone, Copy, Debug, PartialEq, Eq)]
 pub enum FileFault {
-    /// The digest that was kept is not the digest that was found.
+    /// The digest that was stored, `kept`, is not the digest of the bytes, `found`.
     Damaged { kept: [u8; 32], found: [u8; 32] },
-    /// The first part that breaks the format begins at this place, in bytes from the first one of all.
+    /// The first part that breaks the format begins at this place, in bytes from 0.
     Malformed { at: u64 },
-    /// An allocation was refused.
+    /// Out of memory.
     NoMemory,
 }
 

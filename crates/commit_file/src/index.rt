@@ -22,25 +22,31 @@ use facet_names::NoMemory;
 use std::alloc::Global;
 use std::hash::RandomState;
 
-/// A segment of documents: its number, how many documents it has, and the digest of its bytes.
+/// A segment of documents, as a commit names it.
 #[derive(Clone, Copy, Debug, PartialEq, Eq)]
 pub struct DocumentPart {
+    /// The number of its file.
     pub number: u64,
+    /// How many documents it has.
     pub documents: u32,
+    /// The SHA-256 digest of its bytes.
     pub digest: [u8; 32],
 }
 
-/// What a commit of the index says: how many labels its documents need, the declarations that are kept, and the segments of documents.
+/// A commit of the index.
 #[derive(Drop)]
 pub struct IndexCommit {
+    /// How many labels its documents need, with the root.
     pub needs: u32,
+    /// The flags of the dimensions under which the documents were stored; dimensions without a flag are left out.
     pub kept: FacetsConfig,
+    /// The segments of documents, in order.
     pub parts: Vec<DocumentPart>,
 }
 
 const MAGIC: u32 = 0x4649_434d;
 
-// The flags that a number tells.
+// Returns the flags in a number: 1 for hierarchical, 2 for multi-valued, 4 for a required count.
 fn flags_of(n: u8) -> DimFlags
     ensures { result ≡ flags_of n }
 {
@@ -51,7 +57,7 @@ fn flags_of(n: u8) -> DimFlags
     }
 }
 
-// Flags in one byte, of which one is set.
+// Reads flags in one byte. At least one is set.
 #[tactic(auto, unfolding(crate::specs::Reading::flags_at))]
 fn flags(cursor: &mut Cursor<'_>) -> Result<DimFlags, FileFault>
     ensures { Reads (λ x. x) result cursor.new (flags_at cursor.old) }
@@ -64,7 +70,7 @@ fn flags(cursor: &mut Cursor<'_>) -> Result<DimFlags, FileFault>
     Ok(flags_of(n))
 }
 
-// A dimension, which comes after the one before it.
+// Reads a dimension. It is greater than the one before it.
 #[tactic(auto, unfolding(crate::specs::Reading::dim_at))]
 fn dim<'a>(cursor: &mut Cursor<'a>, before: &str) -> Result<&'a str, FileFault>
     ensures read { Reads (λ x. x.now) result cursor.new (dim_at before.now cursor.old) }
@@ -80,7 +86,7 @@ fn dim<'a>(cursor: &mut Cursor<'a>, before: &str) -> Result<&'a str, FileFault>
     Ok(dim)
 }
 
-// A declaration, whose dimension comes after the one before it.
+// Reads a declaration. Its dimension is greater than the one before it.
 #[tactic(auto, unfolding(crate::specs::Reading::declaration_at))]
 fn declaration<'a>(cursor: &mut Cursor<'a>, before: &str) -> Result<Declaration<'a>, FileFault>
     ensures read { Reads declaration result cursor.new (declaration_at before.now cursor.old) }
@@ -105,7 +111,7 @@ fn keep(kept: &mut FacetsConfig, one: Declaration<'_>) -> Result<(), FileFault>
     }
 }
 
-// So many declarations.
+// Reads `n` declarations.
 fn declarations(
     alloc: Global,
     keys: RandomState,
@@ -124,7 +130,7 @@ fn declarations(
     Ok(kept)
 }
 
-// How many documents a segment has that stands behind so many documents.
+// Reads how many documents a segment has, after `before` documents of other segments.
 #[tactic(auto, unfolding(crate::specs::Reading::documents_at))]
 fn documents(cursor: &mut Cursor<'_>, before: u64) -> Result<u32, FileFault>
     requires { before ≤ 1000000 }
@@ -139,7 +145,7 @@ fn documents(cursor: &mut Cursor<'_>, before: u64) -> Result<u32, FileFault>
     Ok(n)
 }
 
-// A segment of documents that stands behind so many documents.
+// Reads a segment of documents, after `before` documents of other segments.
 #[tactic(auto, unfolding(crate::specs::Reading::document_part_at))]
 fn document_part(cursor: &mut Cursor<'_>, before: u64) -> Result<DocumentPart, FileFault>
     requires { before ≤ 1000000 }
@@ -156,7 +162,7 @@ fn document_part(cursor: &mut Cursor<'_>, before: u64) -> Result<DocumentPart, F
     })
 }
 
-// So many segments of documents.
+// Reads `n` segments of documents.
 fn document_parts(
     alloc: Global,
     cursor: &mut Cursor<'_>,
@@ -174,7 +180,7 @@ fn document_parts(
     Ok(parts)
 }
 
-// What stands before the digest.
+// Reads what precedes the digest.
 #[tactic(auto, unfolding(crate::specs::Reading::index_at))]
 fn index(
     alloc: Global,
@@ -199,9 +205,12 @@ fn index(
     Ok(IndexCommit { needs, kept, parts })
 }
 
-/// The commit of the index that the bytes of a file with this number are, or the first fault. The digest is looked at before the rest, and the rest from
-/// left to right. It takes memory for the declarations and segments that it has met, and goes over the bytes twice. Look-ups of declared dimensions
-/// hash names with `keys`.
+/// Reads a commit of the index from the bytes of the file with this number. It checks the digest first, and then reads
+/// the rest from left to right. Look-ups of declared dimensions hash names with `keys`.
+///
+/// Costs: it reads the bytes twice, and allocates memory for the declarations and segments that it reads.
+///
+/// Errors: the first fault; out of memory.
 #[tactic(auto, unfolding(crate::specs::Reading::index_commit))]
 pub fn read_index_commit(
     alloc: Global,
@@ -242,10 +251,11 @@ fn write(
     Ok(out)
 }
 
-/// The bytes of a commit of the index with this number. It sorts the declarations, goes over the segments once, and takes memory for both and for the
-/// bytes. A declaration of which no flag is set is left out.
+/// Returns the bytes of a commit of the index with this number. A declaration without a flag is left out.
 ///
-/// Beside a refused allocation, there is no memory for 2^32 declarations or more.
+/// Costs: it sorts the declarations, visits each segment once, and allocates memory for both and for the bytes.
+///
+/// Errors: out of memory, also for 2^32 declarations or more.
 pub fn write_index_commit(
     alloc: Global,
     number: u64,

@@ -15,7 +15,7 @@ pub(crate) struct Declaration<'a> {
     pub flags: DimFlags,
 }
 
-// The flags of each declared dimension, by its bytes; of two declarations of one dimension the first.
+// Returns the flags of each declared dimension, in the order of bytes; of two declarations of one dimension, the first.
 #[tactic(auto, unfolding(crate::specs::Commits::in_order))]
 fn in_order(alloc: Global, config: &FacetsConfig) -> Result<BTreeMap<&str, DimFlags>, NoMemory>
     ensures is { IfOk result (λ m. map entry m.entries ≡ in_order config.now) }
@@ -47,7 +47,7 @@ fn push_set<'a>(kept: &mut Vec<Declaration<'a>>, one: Declaration<'a>) -> Result
     Ok(())
 }
 
-/// The declarations of a config of which a flag is set, by their dimensions' bytes.
+/// Returns the declarations of a config that set a flag, in the order of their dimensions' bytes.
 #[tactic(auto, unfolding(crate::specs::Commits::kept_of))]
 pub(crate) fn kept(alloc: Global, config: &FacetsConfig) -> Result<Vec<Declaration<'_>>, NoMemory>
     ensures is { IfOk result (λ v. map declaration v.items ≡ kept_of config.now) }

@@ -1,7 +1,8 @@
-//! The commit files of a store, format 1. A commit of the taxonomy names its segments of labels, and one of the index its segments of documents and
-//! the declarations that they were made under.
+//! The commit files of a store, format 1. A commit of the taxonomy names its segments of labels. A commit of the index
+//! names its segments of documents and the declarations under which they were stored.
 //!
-//! Numbers have their highest byte first, and the last 32 bytes of a file are the SHA-256 of those before them. A commit has exactly one spelling.
+//! Numbers are big-endian. The last 32 bytes of a file are the SHA-256 digest (FIPS 180-4) of those before them. A
+//! commit has exactly one spelling.
 #![tactic(auto)]
 
 mod digest;

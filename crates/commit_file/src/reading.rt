@@ -3,7 +3,7 @@ ghost use Rattle.commit_file.specs.Reading.{Reads, Passes, word_at, number_at, h
 use crate::fault::FileFault;
 use facet_codec::Cursor;
 
-/// This number, in four bytes.
+/// Reads this number, in four bytes.
 #[tactic(auto, unfolding(crate::specs::Reading::word_at))]
 fn word(cursor: &mut Cursor<'_>, wanted: u32) -> Result<(), FileFault>
     ensures { Passes result cursor.new (word_at wanted cursor.old) }
@@ -16,7 +16,7 @@ fn word(cursor: &mut Cursor<'_>, wanted: u32) -> Result<(), FileFault>
     Ok(())
 }
 
-/// The number of the file's name, which is not 0.
+/// Reads the number of the file's name, which is not 0.
 #[tactic(auto, unfolding(crate::specs::Reading::number_at))]
 fn number(cursor: &mut Cursor<'_>, wanted: u64) -> Result<(), FileFault>
     ensures { Passes result cursor.new (number_at wanted cursor.old) }
@@ -29,7 +29,7 @@ fn number(cursor: &mut Cursor<'_>, wanted: u64) -> Result<(), FileFault>
     Ok(())
 }
 
-/// The kind of the file, the version, and the number of the file's name.
+/// Reads the kind of the file, the version, and the number of the file's name.
 #[tactic(auto, unfolding(crate::specs::Reading::head_at))]
 pub(crate) fn head(cursor: &mut Cursor<'_>, kind: u32, wanted: u64) -> Result<(), FileFault>
     ensures { Passes result cursor.new (head_at kind wanted cursor.old) }
@@ -39,7 +39,7 @@ pub(crate) fn head(cursor: &mut Cursor<'_>, kind: u32, wanted: u64) -> Result<()
     number(cursor, wanted)
 }
 
-/// A number that is not 0.
+/// Reads a number that is not 0.
 #[tactic(auto, unfolding(crate::specs::Reading::some_at))]
 pub(crate) fn some(cursor: &mut Cursor<'_>) -> Result<u32, FileFault>
     ensures { Reads (λ x. x) result cursor.new (some_at cursor.old) }
@@ -52,7 +52,7 @@ pub(crate) fn some(cursor: &mut Cursor<'_>) -> Result<u32, FileFault>
     Ok(n)
 }
 
-/// The digest of a segment.
+/// Reads the digest of a segment.
 
 pub(crate) fn digest(cursor: &mut Cursor<'_>) -> Result<[u8; 32], FileFault>
     ensures { Reads (λ x. x) result cursor.new (digest_at cursor.old) }

@@ -14,25 +14,31 @@ use facet_codec::{Cursor, put_u32};
 use facet_names::NoMemory;
 use std::alloc::Global;
 
-/// A segment of labels: its number, the ordinal of its first label, how many labels it has, and the digest of its bytes.
+/// A segment of labels, as a commit names it.
 #[derive(Clone, Copy, Debug, PartialEq, Eq)]
 pub struct LabelPart {
+    /// The number of its file.
     pub number: u64,
+    /// The ordinal of its first label.
     pub first: u32,
+    /// How many labels it has.
     pub count: u32,
+    /// The SHA-256 digest of its bytes.
     pub digest: [u8; 32],
 }
 
-/// What a commit of the taxonomy says: how many labels there are with the root, and the segments that hold the others.
+/// A commit of the taxonomy.
 #[derive(Drop)]
 pub struct TaxonomyCommit {
+    /// How many labels there are, with the root; at most 1,000,000 are read.
     pub labels: u32,
+    /// The segments that hold all labels except the root, in order.
     pub parts: Vec<LabelPart>,
 }
 
 const MAGIC: u32 = 0x4654_434d;
 
-// How many labels there are.
+// Reads how many labels there are.
 #[tactic(auto, unfolding(crate::specs::Reading::labels_at))]
 fn labels(cursor: &mut Cursor<'_>) -> Result<u32, FileFault>
     ensures { Reads (λ x. x) result cursor.new (labels_at cursor.old) }
@@ -45,7 +51,7 @@ fn labels(cursor: &mut Cursor<'_>) -> Result<u32, FileFault>
     Ok(n)
 }
 
-// The ordinal at which a segment has to begin.
+// Reads the ordinal of a segment's first label, which has to be `start`.
 #[tactic(auto, unfolding(crate::specs::Reading::first_at))]
 fn first(cursor: &mut Cursor<'_>, start: u64) -> Result<u32, FileFault>
     ensures { Reads (λ x. x) result cursor.new (first_at start cursor.old) }
@@ -58,7 +64,7 @@ fn first(cursor: &mut Cursor<'_>, start: u64) -> Result<u32, FileFault>
     Ok(n)
 }
 
-// How many labels a segment has. The last segment ends where the labels do.
+// Reads how many labels a segment has. The last segment ends with the last label.
 #[tactic(auto, unfolding(crate::specs::Reading::count_at))]
 fn count(cursor: &mut Cursor<'_>, labels: u32, behind: u32, start: u32) -> Result<u32, FileFault>
     ensures { Reads (λ x. x) result cursor.new (count_at labels behind start cursor.old) }
@@ -71,7 +77,7 @@ fn count(cursor: &mut Cursor<'_>, labels: u32, behind: u32, start: u32) -> Resul
     Ok(n)
 }
 
-// A segment of labels, with so many segments behind it.
+// Reads a segment of labels that precedes `behind` other segments.
 #[tactic(auto, unfolding(crate::specs::Reading::label_part_at))]
 fn label_part(
     cursor: &mut Cursor<'_>,
@@ -93,7 +99,7 @@ fn label_part(
     })
 }
 
-// So many segments of labels.
+// Reads `n` segments of labels.
 fn label_parts(
     alloc: Global,
     cursor: &mut Cursor<'_>,
@@ -112,7 +118,7 @@ fn label_parts(
     Ok(parts)
 }
 
-// What stands before the digest.
+// Reads what precedes the digest.
 #[tactic(auto, unfolding(crate::specs::Reading::taxonomy_at))]
 fn taxonomy(alloc: Global, wanted: u64, body: &[u8]) -> Result<TaxonomyCommit, FileFault>
     ensures { Gives taxonomy_listing result (taxonomy_at wanted body.now) }
@@ -130,8 +136,12 @@ fn taxonomy(alloc: Global, wanted: u64, body: &[u8]) -> Result<TaxonomyCommit, F
     Ok(TaxonomyCommit { labels, parts })
 }
 
-/// The commit of the taxonomy that the bytes of a file with this number are, or the first fault. The digest is looked at before the rest, and the rest
-/// from left to right. It takes memory for the segments that it has met, and goes over the bytes twice.
+/// Reads a commit of the taxonomy from the bytes of the file with this number. It checks the digest first, and then
+/// reads the rest from left to right.
+///
+/// Costs: it reads the bytes twice, and allocates memory for the segments that it reads.
+///
+/// Errors: the first fault; out of memory.
 #[tactic(auto, unfolding(crate::specs::Reading::taxonomy_commit))]
 pub fn read_taxonomy_commit(
     alloc: Global,
@@ -165,8 +175,10 @@ fn write(
     Ok(out)
 }
 
-/// The bytes of a commit of the taxonomy with this number. It goes over the segments once, and takes memory for the bytes: 48 for each segment and 56
-/// beside them. It fails where that is refused.
+/// Returns the bytes of a commit of the taxonomy with this number. It visits each segment once, and allocates the
+/// bytes: 48 for each segment, and 56 more.
+///
+/// Errors: out of memory.
 pub fn write_taxonomy_commit(
     alloc: Global,
     number: u64,

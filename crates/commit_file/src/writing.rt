@@ -11,7 +11,7 @@ use crate::taxonomy::LabelPart;
 use facet_codec::{NoMemory, put_text, put_u8, put_u32, put_u64};
 use facet_model::DimFlags;
 
-/// The kind of the file, the version, and the number of the commit.
+/// Appends the kind of the file, the version, and the number of the commit.
 #[tactic(auto, unfolding(crate::specs::Spelling::head_bytes))]
 pub(crate) fn put_head(out: &mut Vec<u8>, kind: u32, number: u64) -> Result<(), NoMemory>
     ensures { OnOk result (out.new.items ≡ out.old.items ++ head_bytes kind number) }
@@ -42,7 +42,7 @@ fn put_label(out: &mut Vec<u8>, part: &LabelPart) -> Result<(), NoMemory>
     Ok(())
 }
 
-/// Segments of labels.
+/// Appends segments of labels.
 pub(crate) fn put_labels(out: &mut Vec<u8>, parts: &[LabelPart]) -> Result<(), NoMemory>
     ensures bytes { OnOk result (out.new.items ≡ out.old.items ++ flat_map label_bytes parts.now) }
     ensures fit { OnOk result (AllByRecursion IsLabelPart parts.now) }
@@ -80,7 +80,7 @@ fn put_declaration(out: &mut Vec<u8>, one: &Declaration<'_>) -> Result<(), NoMem
     Ok(())
 }
 
-/// Declarations.
+/// Appends declarations.
 pub(crate) fn put_declarations(out: &mut Vec<u8>, kept: &[Declaration<'_>]) -> Result<(), NoMemory>
     requires { AreDimensions (map declaration kept.now) }
     ensures bytes { OnOk result (out.new.items ≡ out.old.items ++ flat_map declaration_bytes (map declaration kept.now)) }
@@ -103,7 +103,7 @@ fn put_document(out: &mut Vec<u8>, part: &DocumentPart) -> Result<(), NoMemory>
     Ok(())
 }
 
-/// Segments of documents.
+/// Appends segments of documents.
 pub(crate) fn put_documents(out: &mut Vec<u8>, parts: &[DocumentPart]) -> Result<(), NoMemory>
     ensures bytes { OnOk result (out.new.items ≡ out.old.items ++ flat_map document_bytes parts.now) }
     ensures fit { OnOk result (AllByRecursion IsDocumentPart parts.now) }

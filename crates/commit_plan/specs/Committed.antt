@@ -56,8 +56,8 @@ pub record IsKept (k : Kept) : Type 0 where
   pub documents : k.part.documents ≡ length k.segment.records
   pub digest : k.part.digest ≡ sha256 (seg_bytes k.segment)
 
--- Numbers begin at 1. The segments of labels follow one another from ordinal 1 on, each with one label or more, and each segment of documents is named
--- by what it is.
+-- Numbers begin at 1. The segments of labels follow one another from ordinal 1 on, each with at least one label.
+-- The name of each segment of documents describes it.
 pub record IsCommitted (s : Committed) : Type 0 where
   pub some : 1 ≤ s.next
   pub room : s.next ≤ 2 ^ 63
@@ -65,6 +65,6 @@ pub record IsCommitted (s : Committed) : Type 0 where
   pub few : length s.label_parts < s.labels
   pub kept : AllByRecursion IsKept s.kept
 
--- a segment is read from its own bytes
+-- a segment is what its own bytes are read as
 abbrev pub IsOwn : Records → Type 0
 IsOwn s = IsSegment (seg_bytes s) s

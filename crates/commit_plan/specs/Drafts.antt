@@ -1,4 +1,4 @@
--- The files that a commit makes, and what is committed by them.
+-- The files that a commit writes, and what is committed by them.
 use Rattle.std.specs.Prelude.{◌≡◌, Ok, take, ℕ, ◌+◌, ◌-◌, Bool, true, false, ◌&&◌, ◌||◌, nat_lt, nat_le, if◌then◌else◌, List, [], ◌∷◌, ◌++◌, length, map, fold, Option, Some, None}
 use Rattle.std.specs.Option.{option_or}
 use Rattle.std.specs.Str.{bytes_eq}
@@ -22,7 +22,7 @@ use Rattle.seg_grammar.specs.Spelling.{seg_bytes}
 use Rattle.commit_plan.specs.Committed.{Kept, Committed, parts_in}
 use Rattle.commit_plan.specs.Strays.{in_order, strays}
 
--- files to be made, each by its name and its bytes, the first number and the next one
+-- files to be written, each by its name and its bytes, the first number and the next one
 pub record Drafted : Type 0 where
   pub from : ℕ
   pub next : ℕ
@@ -34,7 +34,7 @@ with_file d dir kind bytes = record { from = d.from; next = d.next + 1; files = 
 
 -- ---- the taxonomy
 
--- the segment of the labels that a longer list has more, under this number
+-- the segment of the labels that a longer list adds, under this number
 abbrev pub new_label_part : ℕ → ℕ → List (List (List ℕ)) → LabelPart
 new_label_part number first view = record { number = number; first = first; count = length view - first; digest = sha256 (labels_bytes view first) }
 
@@ -47,18 +47,19 @@ abbrev pub with_labels : Committed → List (List (List ℕ)) → Drafted → Dr
 with_labels old view d = with_file (with_file d Taxonomy Segment (labels_bytes view old.labels)) Taxonomy Pending
     (taxonomy_commit_bytes (d.next + 1) (labels_listed (length view) (label_parts_with d.next old view)))
 
--- both, where there are new labels
+-- both, if there are new labels
 abbrev pub labels_drafted : Committed → List (List (List ℕ)) → Drafted → Drafted
 labels_drafted old view d = if nat_lt old.labels (length view) then with_labels old view d else d
 
 -- ---- the index
 
--- how the first of these segments that has these bytes is named, and how many come up to it
+-- how the first of these segments with these bytes is named, and the segments after it
 unfoldable pub taken : List Kept → List ℕ → Option (DocumentPart × List Kept)
 taken [] bytes = None
 taken (k ∷ ks) bytes = if bytes_eq (seg_bytes k.segment) bytes then Some (k.part, ks) else taken ks bytes
 
--- Segments that are given in order: the files that they need, the committed segments that were not passed, and what is kept of them.
+-- Segments placed in order: the files that they need, the committed segments after the last one taken, and the segments
+-- of the next commit.
 pub record Placed : Type 0 where
   pub draft : Drafted
   pub behind : List Kept
@@ -68,7 +69,7 @@ pub record Placed : Type 0 where
 abbrev pub new_part : ℕ → Records → DocumentPart
 new_part number s = record { number = number; documents = length s.records; digest = sha256 (seg_bytes s) }
 
--- a segment with the name that was taken for it; without one it is new
+-- a segment under the name that was found for it; without a name it is new
 abbrev pub placed_by : Placed → Records → Option (DocumentPart × List Kept) → Placed
 placed_by p s (Some found) = record { draft = p.draft; behind = found.1; kept = p.kept ++ (record { part = found.0; segment = s }) ∷ [] }
 placed_by p s None = record {
@@ -81,7 +82,7 @@ placed_by p s None = record {
 abbrev pub place : Placed → Records → Placed
 place p s = placed_by p s (taken p.behind (seg_bytes s))
 
--- segments, behind files that were drafted before
+-- all segments, after files that were drafted before
 abbrev pub placed : Committed → List Records → Drafted → Placed
 placed old segments d = fold place (record { draft = d; behind = old.kept; kept = [] }) segments
 
@@ -96,11 +97,11 @@ are_same (k ∷ ks) (s ∷ ss) = bytes_eq (seg_bytes k.segment) (seg_bytes s) &&
 are_same [] (s ∷ ss) = false
 are_same (k ∷ ks) [] = false
 
--- the index is left out: there is nothing new in it, or nothing at all
+-- the index has no news: its segments are the committed ones, or there are none
 abbrev pub is_index_left_out : Committed → List Records → Bool
 is_index_left_out old segments = nat_le (length segments) 0 || are_same old.kept segments
 
--- the new segments and the commit, where the index is not left out
+-- the new segments and the commit, unless the index has no news
 abbrev pub index_drafted : Config → ℕ → Committed → List Records → Drafted → Drafted
 index_drafted config needs old segments d = if is_index_left_out old segments then d else with_index config needs (placed old segments d)
 
@@ -114,7 +115,7 @@ nothing_drafted next = record { from = next; next = next; files = [] }
 abbrev pub labels_first : Committed → List (List (List ℕ)) → Drafted
 labels_first old view = labels_drafted old view (nothing_drafted old.next)
 
--- the segments of documents behind them
+-- then the segments of documents
 abbrev pub segments_next : Committed → List (List (List ℕ)) → List Records → Placed
 segments_next old view segments = placed old segments (labels_first old view)
 
@@ -122,7 +123,7 @@ segments_next old view segments = placed old segments (labels_first old view)
 abbrev pub drafted : Config → Committed → List (List (List ℕ)) → List Records → Drafted
 drafted config old view segments = index_drafted config (length view) old segments (labels_first old view)
 
--- the last number that a commit takes; where it makes no file, the one before the next
+-- the last number that a commit takes; if it writes no file, the one before the next
 abbrev pub last_number : Config → Committed → List (List (List ℕ)) → List Records → ℕ
 last_number config old view segments = (drafted config old view segments).next - 1
 
@@ -173,7 +174,7 @@ commit_names dir (Some n) = file dir Commit n ∷ []
 abbrev pub named_files : Option ℕ → List LabelPart → Option ℕ → List Kept → List FileName
 named_files taxonomy label_parts index kept = commit_names Taxonomy taxonomy ++ (map (λ part. file Taxonomy Segment part.number) label_parts ++ (commit_names Index index ++ map (λ k. file Index Segment k.part.number) kept))
 
--- what is known after a commit, whose files are the only ones that are left
+-- what is known after a commit; only its files are left
 abbrev pub committed_by : Option ℕ → List LabelPart → ℕ → Option ℕ → List Kept → ℕ → Committed
 committed_by taxonomy label_parts labels index kept next = record {
   next = next;
@@ -190,13 +191,14 @@ committed_after config old view segments = committed_by
     (option_or (labels_number old view) old.taxonomy) (label_parts_after old view) (labels_after old view)
     (option_or (index_number old view segments) old.index) (kept_after old view segments) (drafted config old view segments).next
 
--- The files that a commit removes: those listed before it that are neither a newest commit file after it nor named by one. Of the files that it puts itself none is left over: each is named after it, or renamed.
+-- The files that a commit removes: those listed before it that are neither a newest commit file after it nor named by
+-- one. Its own files are all named or renamed.
 abbrev pub strays_after : Config → Committed → List (List (List ℕ)) → List Records → List FileName
 strays_after config old view segments = strays old.listed (committed_after config old view segments).listed
 
--- ---- what is written is read again
+-- ---- what is written can be read
 
--- the labels of the new segment behind the others, and the commit that names it
+-- the labels of the new segment after the others, and the commit that names it
 pub record AreLabelsAgain (old : Committed) (view : List (List (List ℕ))) (number : ℕ) : Type 0 where
   pub labels : stored_labels (take old.labels view) old.labels (length view - old.labels) (labels_bytes view old.labels) ≡ Ok view
   pub commit : taxonomy_commit (number + 1) (taxonomy_commit_bytes (number + 1) (labels_listed (length view) (label_parts_with number old view))) ≡ Ok (labels_listed (length view) (label_parts_with number old view))

@@ -17,7 +17,8 @@ use seg_file::Segment;
 use std::alloc::Global;
 use std::sync::Arc;
 
-/// The files of a commit, the number of a new commit of the index, where there is one, and the segments of documents.
+/// The files of a commit so far, the number of the new commit of the index if there is one, and the segments of
+/// documents.
 #[derive(Drop)]
 pub(crate) struct IndexDraft {
     pub draft: Draft,
@@ -25,7 +26,7 @@ pub(crate) struct IndexDraft {
     pub kept: Vec<StoredSegment>,
 }
 
-// How a commit names stored segments.
+// Returns how a commit names the stored segments.
 fn parts_of(alloc: Global, stored: &[StoredSegment]) -> Result<Vec<DocumentPart>, NoMemory>
     ensures { IfOk result (λ parts. parts.items ≡ parts_in (map kept_view stored.now)) }
 {
@@ -36,7 +37,7 @@ fn parts_of(alloc: Global, stored: &[StoredSegment]) -> Result<Vec<DocumentPart>
     Ok(parts)
 }
 
-// The same segments once more.
+// Returns the same segments, each with one owner more.
 fn kept_again(alloc: Global, stored: &[StoredSegment]) -> Result<Vec<StoredSegment>, NoMemory>
     ensures { IfOk result (λ again. map kept_view again.items ≡ map kept_view stored.now) }
 {
@@ -51,7 +52,7 @@ fn kept_again(alloc: Global, stored: &[StoredSegment]) -> Result<Vec<StoredSegme
     Ok(again)
 }
 
-// The new segments, and a commit that names all.
+// Adds the new segments, and a commit that names all segments.
 fn draft_new_index(
     alloc: Global,
     config: &FacetsConfig,
@@ -85,7 +86,8 @@ fn draft_new_index(
     })
 }
 
-/// The new segments and a commit that names all, or nothing where the segments are the stored ones or there are none.
+/// Adds the new segments and a commit that names all segments. It adds nothing if the segments are the stored ones, or
+/// if there are none.
 pub(crate) fn draft_index(
     alloc: Global,
     config: &FacetsConfig,

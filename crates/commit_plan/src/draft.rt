@@ -10,7 +10,7 @@ use facet_names::NoMemory;
 use std::alloc::Global;
 use std::marker::Model;
 
-/// The files that a commit is to make, in order. Each takes the next number.
+/// The files that a commit is to write, in order. Each takes the next number.
 #[derive(Drop)]
 pub(crate) struct Draft {
     from: u64,
@@ -32,7 +32,7 @@ impl Model for Draft {
 }
 
 impl Draft {
-    /// No file, and the number of the first.
+    /// Returns a draft without a file. `next` is the number of the first file.
     pub fn new(alloc: Global, next: u64) -> Draft
         ensures { result ≡ nothing_drafted next }
     {
@@ -43,14 +43,14 @@ impl Draft {
         }
     }
 
-    /// The number that the next file takes.
+    /// Returns the number that the next file takes.
     pub fn next(&self) -> u64
         ensures { result ≡ self.now.next }
     {
         self.next
     }
 
-    /// One more file, which is no commit file.
+    /// Adds a file, which is not a commit file. Errors: out of memory.
     pub fn put(&mut self, dir: Dir, kind: Kind, bytes: Vec<u8>) -> Result<(), NoMemory>
         requires number { self.old.next < 2 ^ 64 - 1 }
         requires kind { kind ≢ Commit }
@@ -66,7 +66,7 @@ impl Draft {
         Ok(())
     }
 
-    /// The plan of these files.
+    /// Returns the plan that writes these files.
     pub fn into_plan(self, taxonomy: Option<u64>, index: Option<u64>, strays: Vec<FileName>) -> Plan
         ensures numbers { (result.from ≡ self.from) × (result.to ≡ self.next) }
         ensures files { map file_view result.writes.items ≡ self.files }

@@ -2,16 +2,17 @@ ghost use Rattle.std.specs.Prelude.{◌≡◌};
 
 use facet_names::NoMemory;
 
-/// Why a commit was not made.
+/// Why a commit failed. Earlier commits are intact.
 #[derive(Clone, Copy, Debug, PartialEq, Eq)]
 pub enum CommitFault {
-    /// A call of the disk failed, and the disk counted so many faults. Each image of the disk is one of those that a crash during the commit may leave.
+    /// A disk call failed, and the disk has counted `count` faults by then. A crash leaves one of the states that a
+    /// crash during the commit may leave.
     Disk { count: u64 },
-    /// An earlier commit ended with this count of faults.
+    /// An earlier commit failed on the disk, when the disk had counted `count` faults. No disk call was made.
     Closed { count: u64 },
-    /// An allocation was refused. No call of the disk was made.
+    /// Out of memory. No disk call was made.
     NoMemory,
-    /// The last number that a file would take is 2^63 or more. No call of the disk was made.
+    /// The last file would need the number `number`, which is 2^63 or more. No disk call was made.
     NumbersSpent { number: u64 },
 }
 

@@ -12,7 +12,8 @@ use label_file::write_labels;
 use std::alloc::Global;
 use taxo_list::{Labelled, TaxoView};
 
-/// The number of a new commit of the taxonomy, where there is one, how many labels there are, and the segments that hold them.
+/// The number of the new commit of the taxonomy if there is one, how many labels there are, and the segments that hold
+/// them.
 #[derive(Drop)]
 pub(crate) struct LabelsDraft {
     pub commit: Option<u64>,
@@ -20,7 +21,7 @@ pub(crate) struct LabelsDraft {
     pub parts: Vec<LabelPart>,
 }
 
-// The segments of labels with a new one.
+// Returns the segments of labels with a new one.
 fn with_new_part(
     alloc: Global,
     state: &CommitState,
@@ -45,7 +46,7 @@ fn with_new_part(
     Ok(parts)
 }
 
-// A segment of the new labels, and a commit that names it.
+// Adds a segment of the new labels, and a commit that names it.
 fn draft_new_labels(
     alloc: Global,
     state: &CommitState,
@@ -79,7 +80,7 @@ fn draft_new_labels(
     })
 }
 
-/// A segment of the new labels and a commit that names it, or nothing where there are none.
+/// Adds a segment of the new labels and a commit that names it. It adds nothing if no label is new.
 pub(crate) fn draft_labels(
     alloc: Global,
     state: &CommitState,

@@ -1,4 +1,5 @@
-//! What a commit does to the files of a disk, planned in memory, and what is known of the files before it and after it. Nothing here calls the disk.
+//! The plan of a commit, made in memory: which files it writes and removes, and what is known of the files before and
+//! after it. Nothing here calls the disk.
 #![tactic(auto)]
 
 mod documents;

@@ -11,14 +11,15 @@ use commit_file::DocumentPart;
 use seg_file::Segment;
 use std::sync::Arc;
 
-// Whether a segment has these bytes.
+// Returns whether a segment has these bytes.
 fn has_bytes(segment: &Segment, bytes: &[u8]) -> bool
     ensures { result ≡ bytes_eq (seg_bytes segment.now) bytes.now }
 {
     segment.bytes() == bytes
 }
 
-/// How the first of the stored segments from a place on that has these bytes is named, and the place behind it. It compares bytes until it finds them.
+/// Returns how the first stored segment with these bytes is named, from a place on, and the place after it. It compares
+/// bytes until it finds them. It allocates nothing.
 pub(crate) fn take_same(
     stored: &[StoredSegment],
     from: usize,
@@ -37,7 +38,7 @@ pub(crate) fn take_same(
     None
 }
 
-/// Whether these are the stored segments, byte for byte. It compares bytes up to the first difference.
+/// Returns whether these are the stored segments, byte for byte. It compares bytes up to the first difference.
 pub(crate) fn are_same(stored: &[StoredSegment], segments: &[Arc<Segment>]) -> bool
     ensures { result ≡ are_same (map kept_view stored.now) (map arc_value segments.now) }
 {

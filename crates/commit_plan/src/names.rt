@@ -13,7 +13,7 @@ use facet_names::NoMemory;
 use std::alloc::Global;
 use std::collections::BTreeSet;
 
-// The name of a commit file, if there is one.
+// Adds the name of a commit file, if there is one.
 fn push_commit(names: &mut Vec<FileName>, dir: Dir, commit: Option<u64>) -> Result<(), NoMemory>
     ensures { OnOk result (names.new.items ≡ names.old.items ++ commit_names dir commit) }
 {
@@ -27,7 +27,7 @@ fn push_commit(names: &mut Vec<FileName>, dir: Dir, commit: Option<u64>) -> Resu
     Ok(())
 }
 
-// The names of segments of labels.
+// Adds the names of segments of labels.
 fn push_labels(names: &mut Vec<FileName>, parts: &[LabelPart]) -> Result<(), NoMemory>
     ensures { OnOk result (names.new.items ≡ names.old.items ++ map (λ part. file Taxonomy Segment part.number) parts.now) }
 {
@@ -41,7 +41,7 @@ fn push_labels(names: &mut Vec<FileName>, parts: &[LabelPart]) -> Result<(), NoM
     Ok(())
 }
 
-// The names of segments of documents.
+// Adds the names of segments of documents.
 fn push_documents(names: &mut Vec<FileName>, stored: &[StoredSegment]) -> Result<(), NoMemory>
     ensures { OnOk result (names.new.items ≡ names.old.items ++ map (λ k. file Index Segment k.part.number) (map kept_view stored.now)) }
 {
@@ -55,7 +55,7 @@ fn push_documents(names: &mut Vec<FileName>, stored: &[StoredSegment]) -> Result
     Ok(())
 }
 
-/// The names of the newest commit files and of the segments that they name.
+/// Returns the names of the newest commit files and of the segments that they name.
 pub(crate) fn named_files(
     alloc: Global,
     taxonomy: Option<u64>,
@@ -73,7 +73,7 @@ pub(crate) fn named_files(
     Ok(names)
 }
 
-/// Names in order, each once.
+/// Returns the names in order, each once.
 pub(crate) fn in_order(alloc: Global, names: &[FileName]) -> Result<BTreeSet<FileName>, NoMemory>
     ensures { IfOk result (λ ordered. ordered.keys ≡ in_order names.now) }
 {
@@ -84,7 +84,7 @@ pub(crate) fn in_order(alloc: Global, names: &[FileName]) -> Result<BTreeSet<Fil
     Ok(ordered)
 }
 
-/// The names of a set.
+/// Returns the names of a set, in order.
 pub(crate) fn names_of(alloc: Global, set: &BTreeSet<FileName>) -> Result<Vec<FileName>, NoMemory>
     ensures { IfOk result (λ names. names.items ≡ set.now.keys) }
 {
@@ -92,7 +92,7 @@ pub(crate) fn names_of(alloc: Global, set: &BTreeSet<FileName>) -> Result<Vec<Fi
     Ok(names)
 }
 
-/// The listed files that are not among the named ones, in order, each once.
+/// Returns the listed files that are not among the named ones, in order, each once.
 pub(crate) fn strays(
     alloc: Global,
     listed: &[FileName],

@@ -14,7 +14,8 @@ use std::alloc::Global;
 use std::marker::Model;
 use std::sync::Arc;
 
-/// Segments that are given in order: the files that they need, where the stored segments begin that were not passed, and what is kept.
+/// Finds out, segment by segment, which segments are stored already: the files that the new ones need, the place in the
+/// stored segments, and the segments of the next commit.
 #[derive(Drop)]
 pub(crate) struct Placing<'a> {
     alloc: Global,
@@ -37,7 +38,7 @@ impl<'a> Model for Placing<'a> {
 }
 
 impl<'a> Placing<'a> {
-    /// No segment was given.
+    /// Returns the state before the first segment.
     pub fn new(alloc: Global, stored: &'a [StoredSegment], draft: Draft) -> Placing<'a>
         ensures { result ≡ record { draft = draft; behind = map kept_view stored.now; kept = [] } }
     {
@@ -59,7 +60,7 @@ impl<'a> Placing<'a> {
         Ok(())
     }
 
-    // Keeps a segment that is new, with its file.
+    // Keeps a new segment, with its file.
     fn add(&mut self, segment: &Arc<Segment>) -> Result<(), NoMemory>
         requires { self.old.draft.next < 2 ^ 64 - 1 }
         ensures { OnOk result (self.new ≡ placed_by self.old (arc_value segment.now) None) }
@@ -76,7 +77,8 @@ impl<'a> Placing<'a> {
         Ok(())
     }
 
-    /// One segment more. It takes the first stored segment of the same bytes that was not passed, and else it is new.
+    /// Places one segment more. It takes the name of the first stored segment with the same bytes after the last one
+    /// that was taken. Otherwise the segment is new.
     pub fn place(&mut self, segment: &Arc<Segment>) -> Result<(), NoMemory>
         requires { self.old.draft.next < 2 ^ 64 - 1 }
         ensures { OnOk result (self.new ≡ place self.old (arc_value segment.now)) }
@@ -90,7 +92,7 @@ impl<'a> Placing<'a> {
         Ok(())
     }
 
-    /// All of them.
+    /// Places all segments, in order.
     pub fn place_all(&mut self, segments: &[Arc<Segment>]) -> Result<(), NoMemory>
         requires { self.old.draft.next + length segments.now < 2 ^ 64 - 1 }
         ensures { OnOk result (self.new ≡ fold place self.old (map arc_value segments.now)) }
@@ -101,7 +103,7 @@ impl<'a> Placing<'a> {
         Ok(())
     }
 
-    /// The files, and what is kept.
+    /// Returns the files, and the segments of the next commit.
     pub fn finish(self) -> (Draft, Vec<StoredSegment>)
         ensures draft { result.0 ≡ self.entry.draft }
         ensures kept { map kept_view result.1.items ≡ self.entry.kept }

@@ -27,17 +27,19 @@ use std::alloc::Global;
 use std::sync::Arc;
 use taxo_list::{Labelled, TaxoView};
 
-// The numbers of files are below this one.
+// the numbers of files are below this one
 const LIMIT: u64 = 0x8000_0000_0000_0000;
 
-/// The device calls of a commit, and what is known once they are made.
+/// The disk calls of a commit, and what is known after them.
 #[derive(Drop)]
 pub struct Planned {
+    /// The disk calls.
     pub plan: Plan,
+    /// What is known of the newest commits once all calls are made.
     pub after: CommitState,
 }
 
-// The plan of drafted parts.
+// Joins the drafted parts to a plan.
 fn join_parts(
     alloc: Global,
     state: &CommitState,
@@ -77,8 +79,13 @@ fn join_parts(
     Ok(Planned { plan, after })
 }
 
-/// The plan of a commit of these labels and segments. It makes no device call, and takes all memory of the commit: for the bytes of its files, and for
-/// the names of all files.
+/// Plans a commit of these labels and segments. It makes no disk call, and allocates all memory of the commit: the
+/// bytes of its files, and the names of all files.
+///
+/// Costs: the bytes of the segments are compared with those of the stored ones, and the SHA-256 digest of each new file
+/// is computed.
+///
+/// Errors: `NumbersSpent` if a file would need a number of 2^63 or more; out of memory.
 pub fn plan_commit(
     alloc: Global,
     config: &FacetsConfig,

@@ -16,7 +16,7 @@ use std::sync::Arc;
 use store_opening::Newest;
 use taxo_list::{Labelled, Taxonomy};
 
-// One more segment with its name.
+// Adds a segment with its name.
 fn push_stored(
     stored: &mut Vec<StoredSegment>,
     part: DocumentPart,
@@ -29,7 +29,7 @@ fn push_stored(
     Ok(())
 }
 
-// Segments with their names, one by one.
+// Returns the segments with their names.
 fn stored_segments(
     alloc: Global,
     parts: &[DocumentPart],
@@ -45,7 +45,7 @@ fn stored_segments(
     Ok(stored)
 }
 
-/// What is known of the newest commits that were read.
+/// Returns what is known of the newest commits that were read. It shares the segments. Errors: out of memory.
 pub fn state_of(
     alloc: Global,
     newest: Newest,

@@ -11,7 +11,7 @@ pub(crate) struct StoredSegment {
     pub segment: Arc<Segment>,
 }
 
-/// What is known of the newest commits of a disk.
+/// What is known of the newest commits of a disk: the names of all files, and the segments that the commits name.
 #[derive(Drop)]
 pub struct CommitState {
     // the number that the next file takes

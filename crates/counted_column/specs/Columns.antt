@@ -6,8 +6,9 @@ use Rattle.seg_postings.specs.Sets.{either}
 use Rattle.place_bits.specs.Misses.{HaveWords}
 use Rattle.place_bits.specs.Words.{Marked}
 
--- What a column keeps: how many documents there are, the dense ordinals with the set of documents of each, and the sparse ordinals, document after document,
--- with where those of each document start.
+-- What a column stores: how many documents there are, the dense ordinals with the set of documents of each, and the
+-- sparse ordinals,
+-- document after document, with where those of each document start.
 pub record Parts : Type 0 where
   pub docs : ℕ
   pub dense : List ℕ
@@ -33,7 +34,8 @@ list_at p n = either (dense_at p.dense p.maps n) (sparse_at p.starts p.ords n)
 abbrev pub lists_of : Parts → List (List ℕ)
 lists_of p = map (list_at p) (range_with_len 0 p.docs)
 
--- The dense ordinals rise, and each has a set with room for the documents. Those of a document that are not dense rise too. Where no ordinal is sparse there
+-- The dense ordinals rise, and each has a set with a bit for each document. A document's sparse ordinals rise too.
+-- Without sparse ordinals there
 -- may be no starts.
 pub record IsColumn (p : Parts) : Type 0 where
   pub few : p.docs ≤ 1000000

@@ -5,7 +5,7 @@ use Rattle.seg_postings.specs.Rising.{IsRising, is_in}
 use Rattle.place_bits.specs.Words.{Marked, empty_set}
 use Rattle.counted_column.specs.Columns.{sparse_at}
 
--- A slot tells which of the dense ordinals an ordinal is, from 1 on, or 0 where it is none. The dense ordinals rise.
+-- A slot is an ordinal's place among the dense ones, from 1 on, or 0 if it is not dense. The dense ordinals rise.
 pub record AreSlots (slots dense : List ℕ) : Type 0 where
   pub rising : IsRising dense
   pub none : (ord : ℕ) → slice_index_or slots ord 0 ≡ 0 → is_in ord dense ≡ false
@@ -19,7 +19,8 @@ has_slot slots j ords = list_any (λ ord. slice_index_or slots ord 0 == j + 1) o
 abbrev pub without_slot : List ℕ → List ℕ → List ℕ
 without_slot slots ords = filter (λ ord. slice_index_or slots ord 0 == 0) ords
 
--- A document with these ordinals was added to the sets of their slots, and its ordinals without a slot were put behind the others.
+-- A document with these ordinals was added to the sets of their slots, and its ordinals without a slot were added after
+-- the others.
 pub record AreAdded (slots : List ℕ) (doc : ℕ) (list : List ℕ) (old new : List Marked) (before after : List ℕ) : Type 0 where
   pub len : length new ≡ length old
   pub words : (j : ℕ) → j < length old → (slice_index_or new j (empty_set 0)).words ≡ (slice_index_or old j (empty_set 0)).words
@@ -27,7 +28,8 @@ pub record AreAdded (slots : List ℕ) (doc : ℕ) (list : List ℕ) (old new : 
       ≡ (is_in n (slice_index_or old j (empty_set 0)).places || (n == doc && has_slot slots j list))
   pub others : after ≡ before ++ without_slot slots list
 
--- The first documents were noted: each set has those whose ordinals have its slot, and the ordinals without a slot stand document after document.
+-- The first documents were stored: each set has those whose ordinals have its slot, and the ordinals without a slot
+-- follow document after document.
 pub record AreNoted (lists : List (List ℕ)) (slots : List ℕ) (number docs : ℕ) (maps : List Marked) (starts ords : List ℕ) : Type 0 where
   pub sets : length maps ≡ number
   pub words : (j : ℕ) → j < number → (slice_index_or maps j (empty_set 0)).words ≡ (length lists + 63) / 64

@@ -9,10 +9,15 @@ use seg_postings::Ords;
 use std::alloc::{AllocError, Global};
 use std::marker::Model;
 
-/// The counted ordinals of a segment's documents, in the documents' order. An ordinal below a million that at least one document in 64 has is dense, and
-/// has a bit for each document, set where the document has it; none is where there are fewer than 64 documents, nor one as great as 64 times the number of
-/// all ordinals that documents have. Of the others 4 bytes are kept for each document that has one, and where there are any, 4 bytes more a document. So the
-/// sets take at most 8 bytes a document for each ordinal that a document has.
+/// The counted ordinals of a segment's documents, stored so that sets of documents are counted quickly.
+///
+/// - An ordinal that at least one document in 64 has is dense. It has a bit map with a bit for each document.
+/// - Ordinals of 1,000,000 or more are not dense, nor are those of 64 times the number of all ordinals of the documents
+///   or more. With fewer than 64 documents no ordinal is dense.
+/// - The other ordinals are sparse. They are stored document by document.
+///
+/// Memory: a bit per document for each dense ordinal; 4 bytes for each sparse ordinal of a document; and, if there are
+/// any, 4 bytes per document. So the bit maps take at most 8 bytes for each ordinal that a document has.
 #[derive(Drop)]
 pub struct Column {
     docs: u32,
@@ -34,8 +39,10 @@ impl Model for Column {
 }
 
 impl Column {
-    /// The column of these lists, one for each document. It looks twice at each ordinal, and while it is made it takes 4 bytes for each ordinal up to the
-    /// greatest below a million, and 4 bytes a document. More than 4,294,967,295 sparse ordinals are answered as want of memory.
+    /// Makes the column of these lists, one for each document. It reads each ordinal twice. While it works, it also
+    /// takes 4 bytes for each ordinal up to the greatest one below 1,000,000.
+    ///
+    /// Errors: out of memory, also for more than 4,294,967,295 sparse ordinals.
     pub fn of(alloc: Global, lists: &[Ords<'_>]) -> Result<Column, AllocError>
         requires few { length lists.now ≤ 1000000 }
         requires rising { AllByRecursion IsRising lists.now }
@@ -60,8 +67,9 @@ impl Column {
         })
     }
 
-    /// Whether `count_at` takes less time than to count so many documents one by one, by estimates of instructions: 5 for each word of a dense ordinal's
-    /// set, 6 for each document's bit and 20 for a place's sparse ordinals, against 70 for a document that is counted alone.
+    /// Returns whether [`count_at`](Column::count_at) is cheaper than counting `number` documents one by one. The
+    /// estimates, in instructions: 5 for each word of a dense ordinal's bit map, 6 for each document's bit and 20 for
+    /// the sparse ordinals of a place, against 70 for a document that is counted alone. No contract depends on them.
     pub fn is_quick_for(&self, number: u64) -> bool {
         let words = (self.docs as u64 + 63) / 64;
         let sets = (self.dense.len() as u64).saturating_mul(5 * words);
@@ -75,8 +83,9 @@ impl Column {
         sets.saturating_add(lists) < number.saturating_mul(70)
     }
 
-    /// Adds at each ordinal how many of the documents at the places have it. It takes no memory. It looks at each word of the dense ordinals' sets, and
-    /// where an ordinal is sparse at each document's bit and at the sparse ordinals of the places.
+    /// Adds to each ordinal's count how many of the documents at the places have it. It reads each word of the dense
+    /// ordinals' bit maps. If there are sparse ordinals, it also reads the bit of each document, and the sparse
+    /// ordinals of the places. It allocates nothing.
     pub fn count_at(&self, places: &Bits, counts: &mut [u32])
         requires words { places.now.words ≡ (length self.now + 63) / 64 }
         requires below { (n : ℕ) → is_in n places.now.places ≡ true → n < length self.now }

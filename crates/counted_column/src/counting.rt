@@ -6,7 +6,7 @@ ghost use Rattle.counted_column.specs.Columns.{dense_at, sparse_at};
 
 use place_bits::Bits;
 
-/// Adds at each ordinal how many of the places its set has.
+/// Adds to each ordinal's count how many of the places its set has.
 pub(crate) fn count_maps(counts: &mut [u32], ords: &[u32], maps: &[Bits], places: &Bits)
     requires rising { IsRising ords.now }
     requires sets { length maps.now ≡ length ords.now }
@@ -25,7 +25,7 @@ pub(crate) fn count_maps(counts: &mut [u32], ords: &[u32], maps: &[Bits], places
     }
 }
 
-// Adds one at each of these ordinals.
+// Adds one to the count of each of these ordinals.
 fn count_each(counts: &mut [u32], ords: &[u32])
     requires rising { IsRising ords.now }
     requires within { (ord : ℕ) → is_in ord ords.now ≡ true → ord < length counts.old }
@@ -39,7 +39,8 @@ fn count_each(counts: &mut [u32], ords: &[u32])
     }
 }
 
-/// Adds at each ordinal how many of the places have it among their sparse ordinals: a look at each document's bit, and at the ordinals of each place.
+/// Adds to each ordinal's count how many of the places have it among their sparse ordinals. It reads each document's
+/// bit, and the ordinals of each place.
 pub(crate) fn count_sparse(counts: &mut [u32], starts: &[u32], ords: &[u32], places: &Bits)
     requires starts { 0 < length starts.now }
     requires few { length starts.now ≤ 1000001 }

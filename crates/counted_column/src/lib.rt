@@ -1,5 +1,6 @@
-//! The counted ordinals of a segment's documents, so that sets of documents are counted by bits: an ordinal that many documents have keeps a set of
-//! them, and what such a set has in common with the documents to be counted is found 64 at a time, as Lucene's bitset counting of facets does.
+//! The counted ordinals of a segment's documents, stored so that sets of documents are counted by bits. An ordinal of
+//! many documents has a bit map of them. What it has in common with the documents to be counted is found 64 at a time,
+//! as in bitset faceting.
 #![tactic(auto)]
 
 mod column;

@@ -1,4 +1,4 @@
-//! Making a column: which ordinals are dense, and the pass that notes each document's ordinals.
+//! Making a column: which ordinals are dense, and the pass that stores each document's ordinals.
 ghost use Rattle.std.specs.Prelude.{◌≡◌, ◌==◌, ◌<◌, ◌≤◌, ◌+◌, ◌++◌, ◌*◌, ◌/◌, [], ℕ, length, filter, replicate, slice_index_or, IfOk, OnOk};
 ghost use Rattle.place_bits.specs.Words.{empty_set};
 ghost use Rattle.counted_column.specs.Making.{AreSlots, AreAdded, AreNoted};
@@ -7,21 +7,22 @@ use place_bits::Bits;
 use seg_postings::Ords;
 use std::alloc::{AllocError, Global};
 
-// From here on no ordinal is dense, so that numbers of documents are kept for so many alone.
+// No ordinal from here on is dense. This bounds the counts of documents that are needed.
 const MOST_SLOTS: usize = 1000000;
 
-// Nor is one of fewer documents, which a word would hold. And numbers are kept for so many ordinals at the most for each that a document has, so that a segment
-// of few documents costs nothing by how many labels there are.
+// With fewer documents, which fit into a word, no ordinal is dense. The other constant bounds the counts per ordinal of
+// a document,
+// so that a segment of few documents costs nothing for the number of labels.
 const FEWEST_DOCUMENTS: usize = 64;
 
 const MOST_SLOTS_EACH: usize = 64;
 
-// How many of the documents have an ordinal that is dense at the least: one in 64.
+// Returns whether an ordinal with this number of documents is dense: at least one document in 64 has it.
 fn is_dense(number: u32, docs: u32) -> bool {
     number > 0 && number as u64 * 64 >= docs as u64
 }
 
-// One more than the greatest ordinal, as far as they may be dense.
+// Returns one more than the greatest ordinal that may be dense.
 fn slots_needed(lists: &[Ords<'_>]) -> usize
     ensures { result ≤ 1000000 }
 {
@@ -55,7 +56,7 @@ fn add_document(numbers: &mut [u32], list: &Ords<'_>)
     }
 }
 
-/// How many of the documents have each ordinal, up to the greatest that may be dense.
+/// Returns how many of the documents have each ordinal, up to the greatest that may be dense. Errors: out of memory.
 pub(crate) fn document_numbers(alloc: Global, lists: &[Ords<'_>]) -> Result<Vec<u32>, AllocError>
     ensures { IfOk result (λ v. length v.items ≤ 1000000) }
 {
@@ -67,7 +68,8 @@ pub(crate) fn document_numbers(alloc: Global, lists: &[Ords<'_>]) -> Result<Vec<
     Ok(numbers)
 }
 
-/// Puts in place of the number of documents of each ordinal which of the dense ones it is, from 1 on, or 0, and gives the dense ones, rising.
+/// Replaces each number of documents with the slot of its ordinal: its place among the dense ones, from 1 on, or 0.
+/// Returns the dense ordinals, rising. Errors: out of memory.
 pub(crate) fn dense_ordinals(
     alloc: Global,
     numbers: &mut [u32],
@@ -88,7 +90,7 @@ pub(crate) fn dense_ordinals(
     Ok(dense)
 }
 
-/// As many empty sets as said, with room for the documents.
+/// Returns `number` empty sets with a bit for each document. Errors: out of memory.
 pub(crate) fn empty_sets(alloc: Global, docs: u32, number: usize) -> Result<Vec<Bits>, AllocError>
     ensures { IfOk result (λ v. v.items ≡ replicate number (empty_set ((docs + 63) / 64))) }
 {
@@ -99,7 +101,7 @@ pub(crate) fn empty_sets(alloc: Global, docs: u32, number: usize) -> Result<Vec<
     Ok(sets)
 }
 
-// Which of the dense ordinals it is, from 1 on, or 0.
+// Returns the slot of an ordinal: its place among the dense ones, from 1 on, or 0.
 fn slot_of(slots: &[u32], ord: u32) -> u32
     ensures { result ≡ slice_index_or slots.now ord 0 }
 {
@@ -109,7 +111,7 @@ fn slot_of(slots: &[u32], ord: u32) -> u32
     }
 }
 
-// Notes a document at the sets of its dense ordinals, and adds its other ordinals to the sparse ones.
+// Adds a document to the sets of its dense ordinals, and its other ordinals to the sparse ones.
 fn note_list(
     list: &Ords<'_>,
     doc: u32,
@@ -133,7 +135,8 @@ fn note_list(
     Ok(())
 }
 
-/// Notes the ordinals of all documents, and where the sparse ones of each start and end. It starts from empty sets.
+/// Stores the ordinals of all documents, and where the sparse ones of each document start and end. The sets are empty
+/// at first. Errors: out of memory.
 pub(crate) fn note_lists(
     lists: &[Ords<'_>],
     slots: &[u32],

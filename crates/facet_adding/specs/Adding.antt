@@ -1,4 +1,4 @@
--- What an add of a document does to the tokens of a session.
+-- What adding a document does to the tokens of a session.
 use Rattle.std.specs.Prelude.{◌-◌, ℕ, List, IsTrue, length, slice_index_or, Result, Ok, Err}
 use Rattle.chronicle.specs.Shown.{SeesOn}
 use Rattle.facet_model.specs.CountedPaths.{AreResolved}
@@ -20,7 +20,8 @@ use Rattle.facet_adding.specs.declared.adding.AddFault.TheVariants as adds
 abbrev pub leaf_of : List ℕ → ℕ
 leaf_of ords = slice_index_or ords (length ords - 1) 0
 
--- Under any labels in which the prefixes of its document's labels have these ordinals, the entry is one of its document.
+-- Under any labels in which the prefixes of its document's labels have these ordinals, the entry is one of its
+-- document.
 abbrev pub IsEntryWhere : Config → List (List ℕ) → Entry → Type 0
 IsEntryWhere config resolved e = (labels : List (List (List ℕ))) → IsLabelList labels → AreResolved labels e.doc.labels resolved → IsEntry config labels e
 
@@ -28,7 +29,7 @@ IsEntryWhere config resolved e = (labels : List (List (List ℕ))) → IsLabelLi
 abbrev pub SeesLabelsOf : Pass → Doc → Type 0
 SeesLabelsOf pass doc = IsTrue (knows (labels_of pass.labels.seen) doc)
 
--- What an add of a document that the config accepts did, by its answer.
+-- What adding a document that the config accepts did, by its result.
 abbrev pub HasTried : ℕ → Operation → Pass → Pass → Result ℕ AddFault → Type 0
 HasTried limit added old new (Ok at) = SeesLabelsOf new added.doc × IsPlaced at added old.operations new.operations
 HasTried limit added old new (Err (adds.Broken fault)) = ⊥

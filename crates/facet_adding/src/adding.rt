@@ -21,19 +21,20 @@ use std::sync::Wait;
 use taxo_cache::Name;
 use taxo_list::TaxoFault;
 
-/// Why a document is not added.
+/// Why a document was not added.
 #[derive(Drop, Clone, Copy, Debug, PartialEq, Eq)]
 pub enum AddFault {
-    /// The config does not accept it.
+    /// The config rejects the document.
     Broken { fault: DocFault },
-    /// The list of labels has this size with the root, and a label more does not fit.
+    /// The list has `size` labels, with the root, and one more does not fit.
     LabelsFull { size: u64 },
-    /// There are this many documents, and one more does not fit.
+    /// There are `count` documents, and one more does not fit.
     DocsFull { count: u64 },
+    /// Out of memory.
     NoMemory,
 }
 
-// The path's own ordinal, which is the last one.
+// Returns the path's own ordinal, which is the last one.
 fn leaf_of(path: &Path, ordinals: &Resolved) -> u32
     requires as_long { length ordinals.now ≡ length path.now }
     ensures leaf { result ≡ leaf_of ordinals.now }
@@ -42,7 +43,7 @@ fn leaf_of(path: &Path, ordinals: &Resolved) -> u32
     ordinals.prefixes()[path.len() - 1]
 }
 
-// The own ordinal of each path.
+// Returns the own ordinal of each path.
 fn leaves_of(alloc: Global, paths: &[Path], resolved: &[Resolved]) -> Result<Vec<u32>, NoMemory>
     requires as_long { AreAsLong paths.now resolved.now }
     ensures leaves { IfOk result (λ v. v.items ≡ map leaf_of resolved.now) }
@@ -55,7 +56,7 @@ fn leaves_of(alloc: Global, paths: &[Path], resolved: &[Resolved]) -> Result<Vec
     Ok(leaves)
 }
 
-// The document with its ordinals, where the prefixes of its labels have these.
+// Returns the document with its ordinals, given those of the prefixes of its labels.
 fn entry_of(
     alloc: Global,
     config: &FacetsConfig,
@@ -76,7 +77,14 @@ fn entry_of(
     })
 }
 
-/// Adds a document that the config accepts. Its entry is made before the operations' turn is waited for; the index may still have to grow then.
+/// Adds a document that the config accepts after all others, and returns its place, from 0. It makes the document's
+/// entry before it takes the lock of the operations; in that lock, the index may still have to grow.
+///
+/// Locks: if a label is missing from the cache, that of the labels, once for all labels; then that of the operations.
+/// It holds one at a time.
+///
+/// Errors: `LabelsFull` and `DocsFull` at the limits of the settings; out of memory. Labels that were added before
+/// stay.
 pub fn add_to<N: Name, R: Wait>(
     rt: &R,
     alloc: Global,

@@ -1,4 +1,5 @@
-//! A document that a session adds: its labels are resolved, and then it is an operation behind all others, or the add is refused.
+//! Adding a document of a session: its labels are resolved, and then it becomes an operation after all others, or the
+//! add is rejected.
 #![tactic(auto)]
 
 mod adding;

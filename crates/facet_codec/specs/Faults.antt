@@ -1,4 +1,4 @@
--- Faults, and readers that tell them as a kind of their own.
+-- Faults, and readers that report them as a kind of their own.
 use Rattle.std.specs.Prelude.{ℕ, Result, Ok, Err}
 use Rattle.facet_codec.specs.declared.fault.CodecFault.{CodecFault}
 use Rattle.facet_codec.specs.declared.fault.CodecFault.TheVariants.{Short, LongSpelling, NotUtf8, OutOfRange}
@@ -10,7 +10,7 @@ fault_at (LongSpelling at) = at
 fault_at (NotUtf8 at) = at
 fault_at (OutOfRange at) = at
 
--- the same, where a fault is told as one of another kind
+-- the same, if a fault is reported as one of another kind
 abbrev pub told_as : {A F G : Type 0} → (F → G) → Result A F → Result A G
 told_as f (Ok x) = Ok x
 told_as f (Err e) = Err (f e)

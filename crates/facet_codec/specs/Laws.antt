@@ -1,4 +1,4 @@
--- How reading and spelling belong together.
+-- How reading and spelling are related.
 use Rattle.std.specs.Prelude.{◌≡◌, ℕ, ◌+◌, ◌<◌, ◌≤◌, true, List, ◌++◌, length, Result, Ok}
 use Rattle.std.specs.Str.{is_utf8}
 use Rattle.facet_codec.specs.Places.{Place, IsBytes}
@@ -9,11 +9,11 @@ pub record Takes (p : Place) (spelling : List ℕ) (q : Place) : Type 0 where
   pub at : q.at ≡ p.at + length spelling
   pub bytes : IsBytes q.rest
 
--- What a read that succeeded took is the spelling of its value, which fits. So a value has one spelling.
+-- What a successful read took is the spelling of its value, which fits. So a value has one spelling.
 abbrev pub IsSpelled : {A F : Type 0} → (Place → Result (A × Place) F) → (A → List ℕ) → (A → Type 0) → Type 0
 IsSpelled {A} read spell Fits = (p : Place) (x : A) (q : Place) → IsBytes p.rest → read p ≡ Ok (x, q) → Takes p (spell x) q × Fits x
 
--- Of a spelling and whatever follows, reading gives the value back and leaves what follows.
+-- Reading a spelling and whatever follows returns the value and leaves what follows.
 abbrev pub ReadsBack : {A F : Type 0} → (Place → Result (A × Place) F) → (A → List ℕ) → (A → Type 0) → Type 0
 ReadsBack {A} read spell Fits = (at : ℕ) (x : A) (rest : List ℕ) → Fits x
     → read (record { at = at; rest = spell x ++ rest }) ≡ Ok (x, record { at = at + length (spell x); rest = rest })

@@ -1,4 +1,4 @@
--- Where reading stands.
+-- The place of reading.
 use Rattle.std.specs.Prelude.{ℕ, ◌+◌, ◌<◌, List, drop, get_or}
 
 -- how many bytes were read, and the bytes that are left
@@ -6,7 +6,7 @@ pub record Place : Type 0 where
   pub at : ℕ
   pub rest : List ℕ
 
--- behind the next n bytes
+-- after the next n bytes
 abbrev pub skip : ℕ → Place → Place
 skip n p = record { at = p.at + n; rest = drop n p.rest }
 

@@ -7,10 +7,10 @@ use crate::fault::CodecFault;
 use crate::vint::read_vint;
 use std::marker::Model;
 
-/// Reads lent bytes from left to right, and hands out slices of them without copying.
+/// Reads borrowed bytes from left to right, and returns slices of them without copying.
 ///
-/// Each call answers the value at the front of what is left, or the first fault that reading it meets. After a fault the cursor stands where it
-/// stood, so that `at` is the place of the fault. No call takes memory.
+/// Each call returns the value at the beginning of what is left, or the first fault in reading it. After a fault the
+/// cursor has not moved, so `at` is the place of the fault. No call allocates.
 #[derive(Drop)]
 pub struct Cursor<'a> {
     at: usize,
@@ -29,28 +29,28 @@ impl<'a> Model for Cursor<'a> {
 }
 
 impl<'a> Cursor<'a> {
-    /// A cursor at the first byte.
+    /// Returns a cursor at the first byte.
     pub fn new(bytes: &'a [u8]) -> Cursor<'a>
         ensures { result ≡ record { at = 0; rest = bytes.now } }
     {
         Cursor { at: 0, rest: bytes }
     }
 
-    /// How many bytes were read.
+    /// Returns how many bytes were read.
     pub fn at(&self) -> usize
         ensures { result ≡ self.now.at }
     {
         self.at
     }
 
-    /// How many bytes are left.
+    /// Returns how many bytes are left.
     pub fn rest(&self) -> usize
         ensures { result ≡ length self.now.rest }
     {
         self.rest.len()
     }
 
-    /// Does nothing. Its contract says what is true of each cursor, for callers that rest a proof on it.
+    /// Does nothing. Its contract states what holds for each cursor, for callers whose proofs need it.
     pub fn bounds(&self)
         ensures bytes { IsBytes self.now.rest }
         ensures size { self.now.at + length self.now.rest < 2 ^ 64 }
@@ -58,7 +58,7 @@ impl<'a> Cursor<'a> {
         are_bytes(self.rest);
     }
 
-    /// One byte.
+    /// Reads one byte. Errors: `Short`.
     pub fn u8(&mut self) -> Result<u8, CodecFault>
         ensures { Reads (λ x. x) result self.old self.new (u8_at self.old) }
     {
@@ -72,7 +72,7 @@ impl<'a> Cursor<'a> {
         }
     }
 
-    /// Four bytes, the highest first.
+    /// Reads four bytes, big-endian. Errors: `Short`.
     pub fn u32(&mut self) -> Result<u32, CodecFault>
         ensures { Reads (λ x. x) result self.old self.new (u32_at self.old) }
     {
@@ -85,7 +85,7 @@ impl<'a> Cursor<'a> {
         Ok(u32::from_be_bytes([front[0], front[1], front[2], front[3]]))
     }
 
-    /// Eight bytes, the highest first.
+    /// Reads eight bytes, big-endian. Errors: `Short`.
     pub fn u64(&mut self) -> Result<u64, CodecFault>
         ensures { Reads (λ x. x) result self.old self.new (u64_at self.old) }
     {
@@ -100,7 +100,9 @@ impl<'a> Cursor<'a> {
         ]))
     }
 
-    /// A number of one to five bytes, seven bits a byte, the low bits first.
+    /// Reads a vInt: a number of one to five bytes, seven bits per byte, the low bits first.
+    ///
+    /// Errors: `Short`; `LongSpelling` if a shorter spelling exists; `OutOfRange` if it is not below 2^32.
     pub fn vint(&mut self) -> Result<u32, CodecFault>
         ensures { Reads (λ x. x) result self.old self.new (vint_at self.old) }
     {
@@ -110,7 +112,7 @@ impl<'a> Cursor<'a> {
         Ok(found.value)
     }
 
-    /// So many bytes.
+    /// Reads `n` bytes. Errors: `Short`.
     pub fn bytes(&mut self, n: usize) -> Result<&'a [u8], CodecFault>
         ensures { Reads (λ x. x.now) result self.old self.new (bytes_at n self.old) }
     {
@@ -123,7 +125,9 @@ impl<'a> Cursor<'a> {
         Ok(front)
     }
 
-    /// A text: its length as a vInt, at most `max`, and its bytes in UTF-8, which are checked in one pass.
+    /// Reads a text: its length as a vInt, at most `max`, and its bytes, which are checked to be UTF-8 in one pass.
+    ///
+    /// Errors: those of the length; `OutOfRange` if it is above `max`; `Short`; `NotUtf8`.
     #[tactic(auto, unfolding(crate::specs::Reading::text_at))]
     pub fn text(&mut self, max: u32) -> Result<&'a str, CodecFault>
         ensures { Reads (λ x. x.now) result self.old self.new (text_at max self.old) }
@@ -152,7 +156,7 @@ fn are_bytes(bytes: &[u8])
     ensures { IsBytes bytes.now }
 {}
 
-// The text that the bytes are.
+// Returns the text in the bytes.
 fn utf8(bytes: &[u8]) -> Option<&str>
     ensures { MatchOption result (is_utf8 bytes.now ≡ false) (λ s. (is_utf8 bytes.now ≡ true) × (s.now ≡ bytes.now)) }
 {

@@ -3,21 +3,21 @@ ghost use Rattle.facet_codec.specs.Faults.{fault_at};
 
 use std::alloc::{AllocError, AllocFailed};
 
-/// Why a value could not be read. `at` is where it begins, in bytes from the first one of all.
+/// Why a value could not be read. `at` is where the value begins, in bytes from 0.
 #[derive(Clone, Copy, Debug, PartialEq, Eq)]
 pub enum CodecFault {
     /// The bytes end before the value does.
     Short { at: u64 },
-    /// The last byte of a vInt is 0 and is not its only one: the number has a shorter spelling.
+    /// A vInt of several bytes ends with 0, so the number has a shorter spelling.
     LongSpelling { at: u64 },
-    /// The bytes of a text are no UTF-8.
+    /// The bytes of a text are not UTF-8.
     NotUtf8 { at: u64 },
-    /// A vInt is not below 2^32, or a text is longer than is allowed.
+    /// A vInt is not below 2^32, or a text is longer than allowed.
     OutOfRange { at: u64 },
 }
 
 impl CodecFault {
-    /// Where the value begins that could not be read.
+    /// Returns where the value begins that could not be read.
     pub fn at(self) -> u64
         ensures { result ≡ fault_at self }
     {
@@ -30,7 +30,7 @@ impl CodecFault {
     }
 }
 
-/// An allocation was refused.
+/// Out of memory: an allocation failed.
 #[derive(Clone, Copy, Debug, PartialEq, Eq)]
 pub struct NoMemory;
 

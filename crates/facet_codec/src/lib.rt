@@ -1,7 +1,8 @@
-//! Numbers and texts as bytes: a cursor over lent bytes, and calls that append to a vector.
+//! Numbers and texts as bytes: a cursor over borrowed bytes, and calls that append to a vector.
 //!
-//! Each value has exactly one spelling. A fixed number has its highest byte first. A vInt, as in Lucene's `DataOutput.writeVInt`, has seven bits a
-//! byte, the low bits first, and the high bit set on every byte but the last; unlike Lucene, a longer spelling of a number is refused.
+//! Each value has exactly one spelling. Numbers of a fixed width are big-endian. A vInt has seven bits per byte, the
+//! low bits first, and the high bit set on every byte except the last, as Lucene's `DataOutput.writeVInt`. Unlike
+//! Lucene, this crate rejects a longer spelling of a number.
 #![tactic(auto)]
 
 mod cursor;

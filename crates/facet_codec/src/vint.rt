@@ -12,7 +12,8 @@ pub(crate) struct Found<'a> {
     pub(crate) rest: &'a [u8],
 }
 
-/// The number at the front of the bytes, which begin at `at`. Most numbers are one byte, which is looked at first.
+/// Reads the number at the beginning of the bytes, which begin at `at`. Most numbers are one byte, which is tried
+/// first.
 #[tactic(auto, unfolding(crate::specs::Reading::vint_from))]
 pub(crate) fn read_vint(at: usize, bytes: &[u8]) -> Result<Found<'_>, CodecFault>
     requires { at + length bytes.now < 2 ^ 64 }
@@ -37,7 +38,7 @@ pub(crate) fn read_vint(at: usize, bytes: &[u8]) -> Result<Found<'_>, CodecFault
     }
 }
 
-// The groups of a number after its first one, with at most `more` of them behind the next.
+// Reads the groups of a number after its first one, with at most `more` of them after the next.
 #[tactic(auto, using(crate::proofs::Groups::bound_below, crate::proofs::Groups::sixteen_le, crate::proofs::Groups::bound_more), unfolding(crate::specs::Reading::groups_at))]
 fn read_groups(start: u64, more: u32, at: usize, bytes: &[u8]) -> Result<Found<'_>, CodecFault>
     requires few { more ≤ 3 }

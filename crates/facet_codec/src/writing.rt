@@ -4,7 +4,7 @@ ghost use Rattle.facet_codec.specs.Writing.{Appends};
 
 use crate::fault::NoMemory;
 
-/// Appends one byte.
+/// Appends one byte. Errors: out of memory.
 pub fn put_u8(out: &mut Vec<u8>, v: u8) -> Result<(), NoMemory>
     ensures { Appends (one_byte v) result out.old.items out.new.items }
 {
@@ -12,7 +12,7 @@ pub fn put_u8(out: &mut Vec<u8>, v: u8) -> Result<(), NoMemory>
     Ok(())
 }
 
-/// Appends four bytes, the highest first.
+/// Appends four bytes, big-endian. Errors: out of memory.
 pub fn put_u32(out: &mut Vec<u8>, v: u32) -> Result<(), NoMemory>
     ensures { Appends (be32 v) result out.old.items out.new.items }
 {
@@ -20,7 +20,7 @@ pub fn put_u32(out: &mut Vec<u8>, v: u32) -> Result<(), NoMemory>
     Ok(())
 }
 
-/// Appends eight bytes, the highest first.
+/// Appends eight bytes, big-endian. Errors: out of memory.
 pub fn put_u64(out: &mut Vec<u8>, v: u64) -> Result<(), NoMemory>
     ensures { Appends (be64 v) result out.old.items out.new.items }
 {
@@ -28,7 +28,7 @@ pub fn put_u64(out: &mut Vec<u8>, v: u64) -> Result<(), NoMemory>
     Ok(())
 }
 
-/// Appends one to five bytes, seven bits a byte, the low bits first. It makes room for five.
+/// Appends a vInt of one to five bytes. It reserves capacity for five. Errors: out of memory.
 #[tactic(auto, unfolding(crate::specs::Spelling::groups))]
 pub fn put_vint(out: &mut Vec<u8>, v: u32) -> Result<(), NoMemory>
     ensures { Appends (vint v) result out.old.items out.new.items }
@@ -46,7 +46,7 @@ pub fn put_vint(out: &mut Vec<u8>, v: u32) -> Result<(), NoMemory>
     Ok(())
 }
 
-/// Appends the length of a text as a vInt, and its bytes.
+/// Appends a text: its length as a vInt, and its bytes. Errors: out of memory; then nothing was appended.
 pub fn put_text(out: &mut Vec<u8>, v: &str) -> Result<(), NoMemory>
     requires { length v.now < 2 ^ 32 }
     ensures { Appends (text v.now) result out.old.items out.new.items }

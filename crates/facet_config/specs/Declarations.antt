@@ -9,7 +9,7 @@ use Rattle.facet_model.specs.Flags.{Config}
 abbrev pub declarations : List (String Global × DimFlags) → Config
 declarations entries = map (λ e. (string_bytes e.0, e.1)) entries
 
--- a name that a dimension can be declared by has 1 to 1,024 bytes
+-- the name of a declared dimension has 1 to 1,024 bytes
 abbrev pub IsDimension : List ℕ → Type 0
 IsDimension dim = (1 ≤ length dim) × (length dim ≤ 1024)
 

@@ -25,7 +25,7 @@ abbrev pub lesser : Option (List ℕ) → List ℕ → Option (List ℕ)
 lesser None dim = Some dim
 lesser (Some d) dim = if is_lt (slice_cmp nat_cmp dim d) then Some dim else Some d
 
--- the lesser of the two where the dimension differs
+-- the lesser of the two if the dimension differs
 abbrev pub nearer : Config → Config → Option (List ℕ) → List ℕ → Option (List ℕ)
 nearer one other first dim = if is_different one other dim then lesser first dim else first
 
@@ -33,11 +33,11 @@ nearer one other first dim = if is_different one other dim then lesser first dim
 abbrev pub first_different : Config → Config → Option (List ℕ)
 first_different one other = fold (nearer one other) (fold (nearer one other) None (map (λ d. d.0) one)) (map (λ d. d.0) other)
 
--- What is found is the first difference; where nothing is found, no dimension's flags differ.
+-- What is found is the first difference. If nothing is found, no dimension's flags differ.
 pub record IsFoundDifference (one other : Config) (found : Option (List ℕ)) : Type 0 where
   pub some : IfSome found (λ dim. IsFirstDifference one other dim)
   pub none : IfNone found ((dim : List ℕ) → flags one dim ≡ flags other dim)
 
--- just one answer is the first difference, and going over the declarations of both finds it
+-- there is exactly one first difference, and comparing the declarations of both finds it
 abbrev pub OneDifference : Type 0
 OneDifference = (one other : Config) (found : Option (List ℕ)) → IsFoundDifference one other found ↔ (found ≡ first_different one other)

@@ -1,4 +1,4 @@
--- Why a declaration or a document is refused.
+-- Why a declaration or a document is rejected.
 use Rattle.std.specs.Prelude.{◌==◌, ◌||◌, ℕ, nat_lt, if◌then◌else◌, List, length, Option, Some, None, Result, Ok, Err}
 use Rattle.std.specs.List.{list_any}
 use Rattle.std.specs.Str.{bytes_eq}

@@ -12,10 +12,13 @@ use facet_model::Document;
 use facet_names::Path;
 
 impl FacetsConfig {
-    /// Whether the document may be added: each facet has a component behind its dimension, exactly one where that is not hierarchical, and a
-    /// dimension that is not multi-valued stands once. The first facet that breaks this is told, with what it breaks first.
+    /// Checks that the document may be added, as Lucene's `FacetsConfig.build` does. Each facet needs a component after
+    /// its dimension, and exactly one unless the dimension is hierarchical. A dimension may occur more than once only
+    /// if it is multi-valued.
     ///
-    /// It takes no memory, and compares each facet of a dimension that is not multi-valued with those before it.
+    /// It compares each facet of a dimension that is not multi-valued with those before it. It allocates nothing.
+    ///
+    /// Errors: the first facet that breaks a rule, with the first rule that it breaks.
     pub fn check(&self, doc: &Document) -> Result<(), DocFault>
         ensures { outcome result ≡ first_broken self.now doc.now }
     {
@@ -26,7 +29,7 @@ impl FacetsConfig {
         Ok(())
     }
 
-    // What the facet at a place breaks.
+    // Checks the facet at a place.
     fn check_facet(&self, facets: &[Path], at: usize, facet: &Path) -> Result<(), DocFault>
         requires { at < length facets.now }
         ensures { outcome result ≡ broken_at self.now facets.now (at, facet.now) }

@@ -13,7 +13,7 @@ use std::alloc::Global;
 use std::hash::RandomState;
 use std::marker::Model;
 
-// To compare with so many names takes less time than to hash one.
+// Comparing with this many names takes less time than hashing one.
 const FEW: usize = 8;
 
 const NO_FLAGS: DimFlags = DimFlags {
@@ -22,9 +22,11 @@ const NO_FLAGS: DimFlags = DimFlags {
     require_dim_count: false,
 };
 
-/// The declared dimensions with their flags, in the order in which they were declared. A dimension that was not declared has no flag set.
+/// The declared dimensions with their flags, in the order of declaration, as Lucene's `FacetsConfig`. A dimension that
+/// was not declared has no flag set.
 ///
-/// The flags of a dimension are found by comparing where few are declared, and by hash otherwise, so in the time of one look-up whatever their number.
+/// The flags of a dimension are found by comparing names if few are declared, and by hash otherwise. So a look-up takes
+/// constant time.
 #[derive(Drop)]
 pub struct FacetsConfig {
     pub(crate) dims: IndexMap<String, DimFlags, RandomState>,
@@ -44,7 +46,8 @@ impl Model for FacetsConfig {
 impl FacetsConfig {
     ghost use Rattle.facet_config.specs.declared.fault.DeclareFault.TheVariants.{NoMemory as Memory};
 
-    /// No dimension is declared. Look-ups hash names with `keys`, on which no answer depends.
+    /// Returns a config without a declaration. `keys` are hash keys of the names; no result depends on them. It
+    /// allocates nothing.
     pub fn new(alloc: Global, keys: RandomState) -> FacetsConfig
         ensures { result ≡ [] }
     {
@@ -65,7 +68,7 @@ impl FacetsConfig {
         NO_FLAGS
     }
 
-    /// The flags of a dimension. It takes no memory.
+    /// Returns the flags of a dimension. It takes constant time and allocates nothing.
     pub fn flags(&self, dim: &str) -> DimFlags
         ensures { result ≡ flags self.now dim.now }
     {
@@ -84,7 +87,10 @@ impl FacetsConfig {
         self.dims.contains_key(dim)
     }
 
-    /// Declares a dimension, once. The name is looked at first.
+    /// Declares a dimension, once. It checks the name first, and copies it.
+    ///
+    /// Errors: `BadName` if the name has no byte or more than 1,024; `Twice` if the dimension is declared already; out
+    /// of memory. Then nothing changes.
     pub fn declare(&mut self, dim: &str, flags: DimFlags) -> Result<(), DeclareFault>
         ensures ok { OnOk result (self.new ≡ self.old ++ (dim.now, flags) ∷ []) }
         ensures fits { IsOk result → declare_fault self.old dim.now ≡ None }
@@ -105,7 +111,7 @@ impl FacetsConfig {
         Ok(())
     }
 
-    /// How many dimensions are declared. Each has a name of 1 to 1,024 bytes.
+    /// Returns how many dimensions are declared. Each has a name of 1 to 1,024 bytes.
     pub fn len(&self) -> usize
         ensures is { result ≡ length self.now }
         ensures named { AreDimensions self.now }
@@ -113,7 +119,7 @@ impl FacetsConfig {
         self.dims.len()
     }
 
-    /// The dimension that was declared at a place, from 0, with its flags. It takes no memory.
+    /// Returns the dimension that was declared at a place, from 0, with its flags. It allocates nothing.
     pub fn declared(&self, at: usize) -> (&str, DimFlags)
         requires { at < length self.now }
         ensures is { slice_get self.now at ≡ Some (result.0.now, result.1) }
@@ -123,7 +129,7 @@ impl FacetsConfig {
         (name.as_str(), *flags)
     }
 
-    /// A config with the same declarations and memory of its own.
+    /// Copies the config with its declarations. Errors: out of memory.
     pub fn dup(&self) -> Result<FacetsConfig, NoMemory>
         ensures { IfOk result (λ c. c ≡ self.now) }
     {

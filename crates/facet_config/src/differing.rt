@@ -7,8 +7,8 @@ ghost use Rattle.facet_config.specs.Differences.{IsFirstDifference, first_differ
 use crate::config::FacetsConfig;
 
 impl FacetsConfig {
-    /// The first dimension, in the order of their bytes, whose flags differ in the two configs. It goes over the declarations of both, and takes
-    /// no memory.
+    /// Returns the first dimension, in the order of bytes, whose flags differ in the two configs, or `None`. It looks
+    /// up each declaration of both, and allocates nothing.
     pub fn differs<'a>(&'a self, other: &'a FacetsConfig) -> Option<&'a str>
         ensures is { option_map (λ s. s.now) result ≡ first_different self.now other.now }
         ensures none { IfNone result ((dim : List ℕ) → flags self.now dim ≡ flags other.now dim) }
@@ -19,7 +19,7 @@ impl FacetsConfig {
         other.first_different(self, other, own)
     }
 
-    // The first of a dimension and of those declared here that differ in the two configs.
+    // Returns the first of a dimension and of those declared here that differ in the two configs.
     fn first_different<'a>(
         &'a self,
         one: &FacetsConfig,
@@ -48,7 +48,7 @@ fn is_different(one: &FacetsConfig, other: &FacetsConfig, dim: &str) -> bool
         || f.require_dim_count != g.require_dim_count
 }
 
-// The dimension, where it differs in the two configs and is less than the first one so far.
+// Returns the dimension if it differs in the two configs and is less than the first one so far.
 fn nearer<'a>(
     one: &FacetsConfig,
     other: &FacetsConfig,

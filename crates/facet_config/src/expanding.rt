@@ -12,9 +12,14 @@ use facet_names::{NoMemory, Path};
 use std::alloc::Global;
 
 impl FacetsConfig {
-    /// The ordinals that are counted for a document, as Lucene's `FacetsConfig.build` adds them: those of its labels and, in a dimension that is
-    /// multi-valued, and hierarchical or with a required count, those of their ancestors; there the dimension's own only where its count is
-    /// required. Beside each label stand the ordinals of its prefixes.
+    /// Returns the ordinals that are counted for a document, each once and rising, as Lucene's `FacetsConfig.build`
+    /// adds them. `resolved` has the ordinals of each label's prefixes.
+    ///
+    /// - The ordinals of the labels are counted.
+    /// - In a multi-valued dimension that is hierarchical or requires a count, those of their ancestors are counted
+    ///   too. The dimension's own ordinal is among them only if its count is required.
+    ///
+    /// It sorts the ordinals, and allocates memory for them. Errors: out of memory.
     pub fn expand(
         &self,
         alloc: Global,
@@ -32,7 +37,7 @@ impl FacetsConfig {
         Ok(once(ords))
     }
 
-    // Puts the ordinals that are counted for a label behind these.
+    // Adds the ordinals that are counted for a label.
     fn expand_label(
         &self,
         label: &Path,
@@ -52,7 +57,7 @@ impl FacetsConfig {
     }
 }
 
-// Whether the prefix of so many components is counted for a label.
+// Returns whether the prefix of `len` components is counted for a label.
 #[tactic(auto, using(crate::proofs::Expanded::counted_prefix))]
 fn counts_prefix(flags: DimFlags, label: &Path, len: usize) -> bool
     requires some { 0 < len }
@@ -74,7 +79,7 @@ fn push_where(ords: &mut Vec<u32>, wanted: bool, ord: u32) -> Result<(), NoMemor
     Ok(())
 }
 
-// Each of the ordinals once, rising.
+// Returns each of the ordinals once, rising.
 fn once(mut ords: Vec<u32>) -> Counted
     ensures members { (ord : ℕ) → list_any (nat_eq ord) result ≡ list_any (nat_eq ord) ords.items }
     ensures rising { IsStrictlySortedBy nat_cmp result }

@@ -3,20 +3,20 @@ use std::alloc::{AllocError, AllocFailed};
 /// Why a dimension was not declared.
 #[derive(Clone, Copy, Debug, PartialEq, Eq)]
 pub enum DeclareFault {
-    /// The name has no byte, or more than 1,024.
+    /// The name has `len` bytes: none, or more than 1,024.
     BadName { len: u64 },
     /// The dimension was declared before.
     Twice,
-    /// An allocation was refused.
+    /// Out of memory.
     NoMemory,
 }
 
-/// What the first broken facet of a document breaks. Facets count from 0.
+/// Why a config rejects a document: the first facet that breaks a rule. Facets count from 0.
 #[derive(Clone, Copy, Debug, PartialEq, Eq)]
 pub enum DocFault {
-    /// The facet is a dimension alone.
+    /// The facet has no component after its dimension.
     NoComponent { facet: u64 },
-    /// The dimension is not hierarchical, and `len` components stand behind it in place of one.
+    /// The dimension is not hierarchical, and `len` components follow it instead of one.
     NotHierarchical { facet: u64, len: u64 },
     /// The dimension is not multi-valued, and an earlier facet has it too.
     NotMultiValued { facet: u64 },

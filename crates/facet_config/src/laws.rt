@@ -1,6 +1,7 @@
 ghost use Rattle.facet_config.specs.Differences.{OneDifference};
 
-/// One answer alone is the first difference of two configs: the one that [`differs`](crate::FacetsConfig::differs) gives.
+/// States that two configs have at most one first difference: the one that [`differs`](crate::FacetsConfig::differs)
+/// returns.
 pub fn one_difference()
     ensures { OneDifference }
 {}

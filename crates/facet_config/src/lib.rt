@@ -1,4 +1,5 @@
-//! How each dimension takes labels, as Lucene's `FacetsConfig`: its flags, and which documents they let in.
+//! How each dimension takes labels, as Lucene's `FacetsConfig`: its flags, which documents they accept, and which
+//! ordinals are counted.
 #![tactic(auto)]
 
 mod checking;

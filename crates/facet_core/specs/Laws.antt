@@ -1,4 +1,4 @@
--- What no list of events breaks, in the words of documents and labels.
+-- What no list of events breaks, in terms of documents and labels.
 use Rattle.std.specs.Prelude.{◌≡◌, ◌≤◌, ◌<◌, ℕ, List, length, take, All, IsTrue, fold, slice_index_or}
 use Rattle.facet_names.specs.Labels.{stands, prefixes}
 use Rattle.facet_model.specs.Histories.{docs}
@@ -13,7 +13,8 @@ ran s events = fold step s events
 abbrev pub EveryRunIsValid : Type 0
 EveryRunIsValid = (s : State) (events : List CoreEvent) → Valid s → Valid (ran s events)
 
--- The core t has a first part of the labels and a first part of the operations of s, and all that commits of s were acknowledged for.
+-- The core t has a prefix of the labels and a prefix of the operations of s, and all that was acknowledged to commits
+-- of s.
 pub record Keeps (s t : State) : Type 0 where
   pub labels : t.labels ≡ take (length t.labels) s.labels
   pub operations : t.history ≡ take (length t.history) s.history
@@ -23,7 +24,8 @@ pub record Keeps (s t : State) : Type 0 where
 abbrev pub CrashesKeepAcknowledged : Type 0
 CrashesKeepAcknowledged = (start : State) (events : List CoreEvent) (keep : ℕ) → Valid start → let s = ran start events in Keeps s (step s (crash keep))
 
--- A pair of n operations and m labels names no label outside its list: each prefix of each label of its documents is among the first m labels.
+-- A pair of n operations and m labels has no label outside its list: each prefix of each label of its documents is
+-- among the first m labels.
 abbrev pub NamesItsLabels : State → ℕ × ℕ → Type 0
 NamesItsLabels s p = p.0 ≤ length s.history × p.1 ≤ length s.labels
     × All (λ doc. All (λ label. All (λ path. IsTrue (stands (take p.1 s.labels) path)) (prefixes label)) doc.labels) (docs (take p.0 s.history))

@@ -33,7 +33,7 @@ refresh_view r = record { session = r.session; operations = r.operations; labels
 abbrev pub commit_view : Commit → plain.Commit
 commit_view c = record { operations = c.operations; labels = c.labels; calls = c.calls }
 
--- what a crash keeps of the labels and of the operations, where its number is one of the choices
+-- what a crash keeps of the labels and of the operations, if its number is one of the choices
 abbrev pub kept_by : plain.State → ℕ → Option (ℕ × (ℕ × ℕ))
 kept_by s keep = let l = length s.idx_may in
     if nat_lt keep (length s.tax_may * l) then Some (slice_index s.tax_may (keep / l), slice_index_or s.idx_may (keep % l) s.idx_read) else None

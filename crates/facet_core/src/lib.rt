@@ -1,5 +1,5 @@
-//! The pure core: labels, documents, refreshes, commits, device calls and crashes as one machine that goes from event to event, and the proof that
-//! no list of events breaks what was promised.
+//! The core as a pure state machine: labels, documents, refreshes, commits, disk calls and crashes, event by event, and
+//! the proof that no list of events breaks the guarantees. It is no part of the program.
 #![tactic(auto)]
 
 mod event;

@@ -14,10 +14,11 @@ use facet_names::{NoMemory, Path};
 use std::alloc::Global;
 use std::marker::Model;
 
-/// The whole state of an index and of its disk, as far as commits and refreshes go: the label list, the operations, what was published, what was
-/// acknowledged, the refresh and the commit in progress, and for each directory of the disk what it reads as and what a crash may leave.
+/// The state of an index and of its disk, as far as commits and refreshes are concerned: the label list, the
+/// operations, what was published, what was acknowledged, the refresh and the commit in progress, and for each
+/// directory of the disk what it reads as and what a crash may leave.
 ///
-/// The root of the labels is not kept, since it is always there.
+/// The root of the labels is not stored, since it is always there.
 #[derive(Debug, Drop)]
 pub struct Core {
     labels: Vec<Path>,
@@ -80,7 +81,8 @@ struct Kept {
 }
 
 impl Core {
-    /// The core with the root alone, no operation, and both published and acknowledged as that.
+    /// Returns a core with only the root and without operations. That state counts as published and acknowledged.
+    /// Errors: out of memory.
     pub fn new(alloc: Global) -> Result<Core, NoMemory>
         ensures empty { IfOk result (λ c. c ≡ empty_core) }
         ensures valid { IfOk result Valid }
@@ -104,7 +106,7 @@ impl Core {
         })
     }
 
-    /// The number of labels, the root among them.
+    /// Returns the number of labels, with the root.
     pub fn labels(&self) -> u64
         ensures labels { result ≡ length self.now.labels }
         ensures rooted { 1 ≤ result }
@@ -112,14 +114,15 @@ impl Core {
         self.labels.len() as u64 + 1
     }
 
-    /// The number of operations.
+    /// Returns the number of operations.
     pub fn operations(&self) -> u64
         ensures { result ≡ length self.now.history }
     {
         self.history.len() as u64
     }
 
-    /// What was published since the last crash, or since the beginning. After a crash it begins with the pair that was kept.
+    /// Returns what was published since the last crash, or since the beginning. After a crash it begins with the pair
+    /// that was kept.
     pub fn publications(&self) -> &[Publication]
         ensures { map pair result.now ≡ self.now.published }
     {
@@ -141,7 +144,7 @@ impl Core {
         match path.parent(alloc)? {
             Some(parent) => Ok(self.stands(&parent)),
             None => {
-                // The root, which is always there.
+                // The parent is the root, which is always there.
                 let _ = &self.labels;
                 Ok(true)
             }
@@ -257,7 +260,7 @@ impl Core {
         }
     }
 
-    /// The numbers that the next device call of a commit is about. The first call takes the labels.
+    /// Returns the numbers of the commit's next disk call. The first call takes the number of labels.
     fn pair_of(&self, commit: Commit) -> Publication
         requires { IfSome commit.labels (λ m. 1 ≤ m) }
         ensures operations { result.operations ≡ commit.operations }

@@ -1,9 +1,11 @@
 use facet_model::Document;
 
-/// A number of operations and the number of labels that covers them.
+/// A number of operations, and the number of labels that covers them.
 #[derive(Clone, Copy, Debug, PartialEq, Eq)]
 pub struct Publication {
+    /// How many operations.
     pub operations: u64,
+    /// How many labels, with the root.
     pub labels: u64,
 }
 
@@ -20,21 +22,21 @@ pub(crate) struct Refresh {
     pub(crate) labels: Option<u64>,
 }
 
-// The device calls of a commit that change what it has committed. They come after the calls that write and sync its files.
+// The disk calls of a commit that change what is committed. They come after the calls that write and sync its files.
 
-/// The commit file of the labels gets its name.
+/// The commit file of the labels is renamed.
 pub(crate) const RENAME_LABELS: u8 = 9;
 
-/// That is made durable.
+/// That rename is made durable.
 pub(crate) const SYNC_LABELS: u8 = 10;
 
-/// The commit file of the operations gets its name.
+/// The commit file of the operations is renamed.
 pub(crate) const RENAME_OPERATIONS: u8 = 11;
 
-/// That is made durable, and the commit is acknowledged. It is the last call.
+/// That rename is made durable, and the commit is acknowledged. It is the last call.
 pub(crate) const SYNC_OPERATIONS: u8 = 12;
 
-/// A commit takes its labels with its first device call.
+/// A commit in progress. It takes the number of labels with its first disk call.
 #[derive(Clone, Copy, Debug)]
 pub(crate) struct Commit {
     pub(crate) operations: u64,

@@ -42,9 +42,11 @@ fn apply(alloc: Global, core: &mut Core, event: &Event) -> Result<(), NoMemory>
     }
 }
 
-/// The core goes through an event. One that is not possible changes nothing. After NoMemory the core is as before.
+/// Applies an event to the core. An event that is not possible changes nothing.
 ///
-/// A label and a document are copied. Every other event takes memory for a few numbers at most.
+/// Costs: a label and a document are copied. Each other event allocates memory for a few numbers at most.
+///
+/// Errors: out of memory; then the core is as before.
 pub fn step(alloc: Global, core: &mut Core, event: &Event) -> Result<(), NoMemory>
     ensures ok { OnOk result (core.new ≡ plain_step core.old (event_view event.now)) }
     ensures err { OnErr result (core.new ≡ core.old) }
@@ -53,7 +55,7 @@ pub fn step(alloc: Global, core: &mut Core, event: &Event) -> Result<(), NoMemor
     apply(alloc, core, event)
 }
 
-/// The core goes through the events in their order. After NoMemory it stands after a prefix of them.
+/// Applies the events to the core, in order. Errors: out of memory; then a prefix of the events was applied.
 pub fn run(alloc: Global, core: &mut Core, events: &[Event]) -> Result<(), NoMemory>
     ensures ok { OnOk result (core.new ≡ ran core.old (map event_view events.now)) }
     ensures prefix { (k : ℕ) × (k ≤ length events.now) × (core.new ≡ ran core.old (map event_view (take k events.now))) }

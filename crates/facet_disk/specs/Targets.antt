@@ -5,7 +5,7 @@ use Rattle.facet_disk.specs.declared.name.FileName.{FileName}
 use Rattle.facet_disk.specs.declared.change.Change.{Change}
 use Rattle.facet_disk.specs.declared.change.Change.TheVariants.{Put, Renamed}
 
--- the new name of a change, where it gives one
+-- the new name of a change, if it gives one
 abbrev pub made : Change → List FileName
 made (Put name bytes) = name ∷ []
 made (Renamed from to) = to ∷ []

@@ -1,4 +1,4 @@
--- What a clock shows, by what it showed before its last tick.
+-- The list of a clock, given its list before its last tick.
 use Rattle.std.specs.Prelude.{ℕ, List, [], ◌∷◌, ◌++◌, Option, Some, None}
 use Rattle.std.specs.declared.snapshot.Snapshot.{Snapshot}
 

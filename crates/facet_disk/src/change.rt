@@ -11,7 +11,7 @@ pub(crate) struct Stored {
     ghost numbered: { name.number < 2 ^ 64 },
 }
 
-/// What a call of a disk in memory did.
+/// What a call of a disk in memory changed.
 #[derive(Debug, Drop)]
 pub(crate) enum Change {
     Put { name: FileName, bytes: Vec<u8> },

@@ -1,9 +1,9 @@
 use std::marker::Model;
 use std::snapshot::Snapshot;
 
-/// The calls of a disk so far, which contracts alone read: for each, how many changes were on record when it began.
+/// Counts the calls of a disk so far, for contracts only: for each call, how many changes were on record when it began.
 ///
-/// It does not end, as a number would, and keeps no more than its last entry.
+/// Contracts see the whole list, so the count has no greatest value. The code keeps only the last entry.
 #[derive(Drop)]
 pub struct Clock {
     before: Option<Snapshot<Clock>>,
@@ -24,7 +24,7 @@ impl Model for Clock {
 impl Clock {
     ghost use Rattle.std.specs.Prelude.{◌≡◌, ◌++◌, ◌∷◌, []};
 
-    /// No call was made.
+    /// Returns a clock before the first call.
     pub fn new() -> Clock
         ensures { result ≡ [] }
     {
@@ -34,7 +34,7 @@ impl Clock {
         }
     }
 
-    /// A call begins.
+    /// Counts a call, which begins now. `changes` is how many changes are on record.
     pub fn tick(&mut self, changes: usize)
         ensures { self.new ≡ self.old ++ changes ∷ [] }
     {

@@ -16,24 +16,23 @@ use std::io;
 use std::io::ErrorKind;
 use std::rt::Files;
 
-/// A folder of the operating system as a disk: the files of a directory stand in a folder of its name within it. It tells no files.
+/// A folder of the operating system as a disk. Each directory is a folder in it. Contracts know nothing of its files.
 ///
-/// From its first call on it holds the folder's lock until it is dropped; while another has it, each call answers `Failed` and does nothing.
-/// The lock makes no file. It keeps apart only those who ask for it, and not every network file system knows it.
-///
-/// The path names the folder once, when it is locked. Each file is then reached through the folder that is locked, also after the folder was
-/// renamed or a link in its path was moved. A system without `/proc` keeps the resolved path instead, and each call fails once that path leads
-/// to another folder.
-///
-/// A folder that is not there holds no file, and the first `put` makes it. Entries that are no name of ours are passed over.
-///
-/// An entry with the name of a file that is no plain file (a folder, a pipe, a socket, a device) is listed, so its number is not used again. To
-/// read or to sync it fails at once. `remove` leaves it in place and answers `Ok`, and so it leaves a link. A link to a plain file reads as that
-/// file.
-///
-/// `sync` syncs the file and its folder, and `sync_names` the folder. The first `put` in a directory syncs what holds its folder and what
-/// holds the disk's, made or not: a run that was cut off may have made them and not synced them. A want of memory inside a call that
-/// writes is a fault.
+/// - **Lock.** The first call locks the folder, and the lock is held until the disk is dropped. While another process
+///   holds it, each call returns `Failed` and does nothing. The lock makes no file. It is advisory, and not every
+///   network file system supports it.
+/// - **Path.** The path is resolved once, when the folder is locked. After that, files are reached through the locked
+///   folder, even if the folder is renamed or a link in its path moves. Without `/proc` the resolved path is used
+///   instead, and each call fails once that path leads to another folder.
+/// - **Missing folder.** A folder that does not exist holds no file, and the first `put` makes it. Entries whose names
+///   are not file names of a store are ignored.
+/// - **Other entries.** An entry with the name of a file that is not a plain file (a folder, pipe, socket or device) is
+///   listed, so its number is not used again. Reading or syncing it fails at once. `remove` leaves it in place and
+///   returns `Ok`, as it does for a link. A link to a plain file reads as that file.
+/// - **Durability.** `sync` syncs the file and its folder, and `sync_names` syncs the folder. The first `put` in a
+///   directory also syncs the folder above and the one above that, even if it made neither: an interrupted process may
+///   have made them and not synced them.
+/// - **Memory.** A call that writes returns `Failed` if it runs out of memory, and counts the fault.
 #[derive(Drop)]
 pub struct StdDisk<R: Files<File = File> + Send + Drop> {
     folder: HeldFolder<R>,
@@ -43,7 +42,7 @@ pub struct StdDisk<R: Files<File = File> + Send + Drop> {
 }
 
 impl<R: Files<File = File> + Send + Drop> StdDisk<R> {
-    /// The disk in the folder `dir`. It makes no call of the operating system.
+    /// Returns the disk in the folder `dir`. It makes no system call and copies the path. Errors: out of memory.
     pub fn new(alloc: Global, files: R, dir: &str) -> Result<StdDisk<R>, NoMemory>
         ensures { IfOk result (λ disk. (disk.faults ≡ 0) × (disk.failures ≡ 0)) }
     {
@@ -64,7 +63,7 @@ fn count_fault(faults: &mut u64)
     *faults = faults.saturating_add(1);
 }
 
-// The fault of a call on a file that must be there, which is counted.
+// Counts the fault of a call on a file that has to exist, and returns it.
 fn absent_fault(faults: &mut u64, failures: &mut u64, error: io::Error, name: FileName) -> DiskFault
     ensures rose { Rose faults.old faults.new }
     ensures later { faults.old ≤ faults.new }

@@ -9,14 +9,15 @@ use std::os::fd::AsRawFd;
 use std::os::unix::fs::MetadataExt;
 use std::rt::Files;
 
-/// A folder of the operating system, with a folder in it for each directory. Each call on it locks the folder first, and no call unlocks it.
+/// A folder of the operating system, with a folder in it for each directory. Each call locks the folder first, and no
+/// call unlocks it.
 ///
-/// The folder that is locked is the only one that is read or written. Its path names it once, when it is locked; where the path leads later, after
-/// a rename or through a link that was moved, has no effect.
+/// Only the locked folder is read and written. Its path is resolved once, when it is locked; where the path leads after
+/// a rename or a moved link has no effect.
 ///
 /// Only plain files are read, synced and removed. A link to a plain file is read as that file.
 ///
-/// An error of the kind `NotFound` says that a file is not there, and one of the kind `AlreadyExists` that one is.
+/// Errors: the kind `NotFound` means that a file does not exist, and `AlreadyExists` that one does.
 #[derive(Drop)]
 pub(crate) struct HeldFolder<R: Files<File = File> + Drop> {
     alloc: Global,
@@ -24,19 +25,19 @@ pub(crate) struct HeldFolder<R: Files<File = File> + Drop> {
     root: String,
     // the folder, with its lock
     lock: Option<File>,
-    // a path to the locked folder; each path of a file begins with it
+    // a path to the locked folder, the prefix of each file's path
     base: String,
-    // whether `base` may lead elsewhere one day, so that each call looks first
+    // whether `base` may lead elsewhere later, so that each call checks it first
     may_move: bool,
-    // whether it was not there at a call, and was not made by this disk since
+    // whether a call found no folder, and this disk has not made it since
     was_absent: bool,
-    // whether this directory's folder was seen to at a call that may make it
+    // whether this directory's folder was made or found by a call that makes it
     has_taxonomy: bool,
     has_index: bool,
 }
 
 impl<R: Files<File = File> + Drop> HeldFolder<R> {
-    /// It makes no call of the operating system.
+    /// Copies the path. It makes no system call. Errors: out of memory.
     pub(crate) fn new(alloc: Global, files: R, path: &str) -> Result<HeldFolder<R>, AllocError> {
         let root = String::from_str(alloc, path)?;
         Ok(HeldFolder {
@@ -52,7 +53,7 @@ impl<R: Files<File = File> + Drop> HeldFolder<R> {
         })
     }
 
-    // Locks the folder, unless it is locked. Where another has locked it, that is an error of the kind `WouldBlock`.
+    // Locks the folder, unless it is locked. If another process has locked it, the error is of the kind `WouldBlock`.
     fn take(&mut self) -> io::Result<()> {
         if let Some(folder) = &self.lock {
             return if !self.may_move || leads_to(&self.files, &self.base, folder)? {
@@ -73,8 +74,8 @@ impl<R: Files<File = File> + Drop> HeldFolder<R> {
         Ok(())
     }
 
-    // Locks the folder, and answers whether it is there. One that was not there, and then was made elsewhere, is another's: what this disk has
-    // told of it is not so.
+    // Locks the folder, and returns whether it exists. If it did not exist before and another process made it since,
+    // that is an error: what this disk has reported of it is no longer true.
     fn take_if_there(&mut self) -> io::Result<bool> {
         match self.take() {
             Ok(()) => if self.was_absent {
@@ -91,7 +92,7 @@ impl<R: Files<File = File> + Drop> HeldFolder<R> {
         }
     }
 
-    // The same, for a call on something in the folder.
+    // Does the same, for a call on something in the folder.
     fn take_there(&mut self) -> io::Result<()> {
         if self.take_if_there()? {
             Ok(())
@@ -112,7 +113,7 @@ impl<R: Files<File = File> + Drop> HeldFolder<R> {
         open_expected(&self.files, path, expected)?.sync_all()
     }
 
-    // Makes a folder that may be there already, and answers whether it was made.
+    // Makes a folder that may exist already, and returns whether it was made.
     fn make_folder(&self, path: &str) -> io::Result<bool> {
         match self.files.create_dir(path) {
             Ok(()) => Ok(true),
@@ -124,8 +125,8 @@ impl<R: Files<File = File> + Drop> HeldFolder<R> {
         }
     }
 
-    // Makes the folder of the store, which was not there, and locks it. A folder that has files of a store is not the one that was made: another
-    // run came first, or the path leads elsewhere by now.
+    // Makes the folder of the store, which did not exist, and locks it. If it has files of a store, it is not the one
+    // that was made: another process came first, or the path leads elsewhere by now.
     fn make_root(&mut self) -> io::Result<()> {
         if self.make_folder(&self.root)? {
             self.take()?;
@@ -136,8 +137,9 @@ impl<R: Files<File = File> + Drop> HeldFolder<R> {
         self.take_there()
     }
 
-    // Makes the folders that a file of a directory stands in, where they are not there, and syncs what holds them, made or not: a run that
-    // was cut off may have made them and not synced them, and a sync of the file is in vain where its folder does not last.
+    // Makes the folders of a directory's files, if they do not exist, and syncs the folders that hold them, even if
+    // they existed: an interrupted process may have made them and not synced them, and without that a synced file is
+    // not durable.
     fn make_folders(&mut self, dir: Dir) -> io::Result<()> {
         let is_done = match dir {
             Dir::Taxonomy => self.has_taxonomy,
@@ -158,7 +160,7 @@ impl<R: Files<File = File> + Drop> HeldFolder<R> {
         Ok(())
     }
 
-    // A name that is not there gives an error of that kind.
+    // A name that does not exist is an error of the kind `NotFound`.
     fn is_there(&self, path: &str) -> io::Result<bool> {
         match self.files.symlink_metadata(path) {
             Ok(_) => Ok(true),
@@ -170,7 +172,7 @@ impl<R: Files<File = File> + Drop> HeldFolder<R> {
         }
     }
 
-    /// The names of ours in a directory's folder; none where it is not there.
+    /// Returns the names of store files in a directory's folder; none if the folder does not exist.
     pub(crate) fn list(&mut self, alloc: Global, dir: Dir) -> io::Result<Names> {
         if !self.take_if_there()? {
             return Ok(Names::new(Vec::new(alloc)));
@@ -210,7 +212,7 @@ impl<R: Files<File = File> + Drop> HeldFolder<R> {
         self.files.open_file(&how, &path)?.write_all(bytes)
     }
 
-    /// It syncs the file and its directory's folder.
+    /// Syncs the file and its directory's folder.
     pub(crate) fn sync(&mut self, name: FileName) -> io::Result<()> {
         self.take_there()?;
         let path = self.file_path(name)?;
@@ -219,7 +221,7 @@ impl<R: Files<File = File> + Drop> HeldFolder<R> {
         self.sync_path(&folder, Expected::Folder)
     }
 
-    /// The operating system would put the file in the place of one of the new name, so that is looked for first.
+    /// Renames a file. The operating system would replace a file of the new name, so the call looks for one first.
     pub(crate) fn rename(&mut self, from: FileName, to: FileName) -> io::Result<()> {
         self.take_there()?;
         let old = self.file_path(from)?;
@@ -242,7 +244,7 @@ impl<R: Files<File = File> + Drop> HeldFolder<R> {
         self.sync_path(&path, Expected::Folder)
     }
 
-    /// It leaves what is no plain file, also a link to one: no store made that.
+    /// Removes a plain file. It leaves any other entry in place, also a link to a plain file: no store made it.
     pub(crate) fn remove(&mut self, name: FileName) -> io::Result<()> {
         self.take_there()?;
         let path = self.file_path(name)?;
@@ -254,14 +256,14 @@ impl<R: Files<File = File> + Drop> HeldFolder<R> {
     }
 }
 
-// What a path is to lead to.
+// What a path has to lead to.
 #[derive(Clone, Copy)]
 enum Expected {
     PlainFile,
     Folder,
 }
 
-// An error where something else was found.
+// Returns an error if something else was found.
 fn check_found(found: &Metadata, expected: Expected) -> io::Result<()> {
     match expected {
         Expected::PlainFile => if found.is_file() {
@@ -277,8 +279,8 @@ fn check_found(found: &Metadata, expected: Expected) -> io::Result<()> {
     }
 }
 
-// Opens what a path leads to, for reading, and follows links. Opening a pipe may wait for ever, and opening a device may do anything, so it is looked at
-// first. It is looked at again when it is open, since another entry may have taken the name.
+// Opens what a path leads to, for reading, and follows links. Opening a pipe may block, and opening a device may have
+// any effect, so it is checked first. It is checked again after opening, since another entry may have taken the name.
 fn open_expected<R: Files<File = File>>(
     files: &R,
     path: &str,
@@ -292,7 +294,7 @@ fn open_expected<R: Files<File = File>>(
     Ok(opened)
 }
 
-// Whether a path leads to an open folder. One that leads nowhere does not.
+// Returns whether a path leads to an open folder. A path that leads nowhere does not.
 fn leads_to<R: Files<File = File>>(files: &R, path: &str, folder: &File) -> io::Result<bool> {
     let Ok(found) = files.metadata(path) else {
         return Ok(false);
@@ -301,8 +303,8 @@ fn leads_to<R: Files<File = File>>(files: &R, path: &str, folder: &File) -> io::
     Ok(found.dev() == held.dev() && found.ino() == held.ino())
 }
 
-// The path to an open folder through no link, for a system that has no `/proc`. Where the path has led elsewhere since the folder was opened,
-// that is an error.
+// Returns the path to an open folder without links, for a system without `/proc`. It is an error if the path has led
+// elsewhere since the folder was opened.
 fn resolved_path<R: Files<File = File>>(
     alloc: Global,
     files: &R,
@@ -326,7 +328,7 @@ fn resolved_path<R: Files<File = File>>(
     }
 }
 
-// Puts the names of ours behind those that are known. A block has whole entries, each ended by a NUL.
+// Adds the names of store files. A block has whole entries, each ended by a NUL.
 fn add_names(block: &[u8], dir: Dir, names: &mut Vec<FileName>) -> io::Result<()> {
     for entry in block.split(|byte| *byte == 0) {
         if let Ok(text) = str::from_utf8(entry) {
@@ -338,8 +340,8 @@ fn add_names(block: &[u8], dir: Dir, names: &mut Vec<FileName>) -> io::Result<()
     Ok(())
 }
 
-// The names of ours that are left in an open folder. The system refuses a read that has no room for the next entry, so a block has room for
-// the longest.
+// Returns the names of store files that are left in an open folder. The system fails a read if the next entry does not
+// fit, so a block is longer than the longest entry.
 fn read_names<F: Read>(alloc: Global, folder: &mut F, dir: Dir) -> io::Result<Vec<FileName>> {
     let mut names = Vec::new(alloc);
     let mut block = [0; 4096];

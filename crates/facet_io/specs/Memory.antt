@@ -26,11 +26,11 @@ counted c = record c { made = one_more c.made }
 abbrev pub fails_next : CallState → Bool
 fails_next c = list_any (λ k. k == one_more c.made) c.failing
 
--- one call more, and a fault where it is to fail
+-- one call more, and a fault if it is to fail
 abbrev pub after_call : CallState → CallState
 after_call c = if fails_next c then with_fault (counted c) else counted c
 
--- the bytes left, and how many a read hands out at most
+-- the bytes left, and how many a read returns at most
 pub record SourceState : Type 0 where
   pub left : List ℕ
   pub piece : ℕ

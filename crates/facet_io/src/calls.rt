@@ -1,7 +1,8 @@
 use crate::failed::Failed;
 use std::marker::Model;
 
-/// The calls of an object in memory, and which of them are to fail. A count stands still at its type's end.
+/// Counts the calls of an object in memory and its faults, and decides which calls fail. Each count stays at 2^64 - 1
+/// once it is there.
 #[derive(Drop)]
 pub struct Calls {
     failing: Vec<u64>,
@@ -26,7 +27,7 @@ impl Calls {
     ghost use Rattle.facet_io.specs.Faults.{Rose, CountsFaults};
     ghost use Rattle.facet_io.specs.Memory.{no_call, fails_next, after_call, with_fault};
 
-    /// No call was made. Calls are counted from 1, and those in `failing` fail.
+    /// Returns counts of 0. Calls are counted from 1, and those in `failing` fail.
     pub fn new(failing: Vec<u64>) -> Calls
         ensures { result ≡ no_call failing.items }
     {
@@ -37,7 +38,7 @@ impl Calls {
         }
     }
 
-    /// Counts one more call; where it is to fail, it is a fault.
+    /// Counts one more call. Errors: `Failed` if the call is one of those that are to fail; it counts as a fault.
     pub fn count(&mut self) -> Result<(), Failed>
         ensures after { self.new ≡ after_call self.old }
         ensures fails { IsErr result ↔ IsTrue (fails_next self.old) }
@@ -60,14 +61,14 @@ impl Calls {
         self.faults = self.faults.saturating_add(1);
     }
 
-    /// How many calls were made.
+    /// Returns how many calls were made.
     pub fn made(&self) -> u64
         ensures { result ≡ self.now.made }
     {
         self.made
     }
 
-    /// How many faults were counted.
+    /// Returns how many faults were counted.
     pub fn faults(&self) -> u64
         ensures { result ≡ self.now.faults }
     {

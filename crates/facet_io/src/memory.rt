@@ -7,7 +7,7 @@ use crate::source::Source;
 use std::alloc::Global;
 use std::marker::Model;
 
-/// Bytes in memory as a source.
+/// A source of bytes in memory, for tests and the laboratory.
 #[derive(Drop)]
 pub struct MemorySource {
     bytes: Vec<u8>,
@@ -35,7 +35,8 @@ impl MemorySource {
     ghost use Rattle.std.specs.Prelude.{◌≡◌, ◌≤◌};
     ghost use Rattle.facet_io.specs.Memory.{no_call};
 
-    /// It hands out at most `piece` bytes at each read. Reads are counted from 1, and those in `failing` fail.
+    /// Returns a source of these bytes, whose reads return at most `piece` bytes. Reads are counted from 1, and those
+    /// in `failing` fail.
     pub fn new(bytes: Vec<u8>, piece: usize, failing: Vec<u64>) -> MemorySource
         requires { 1 ≤ piece }
         ensures { result ≡ record { left = bytes.items; piece = piece; calls = no_call failing.items } }
@@ -78,7 +79,7 @@ impl Source for MemorySource {
         ensures bytes { ReadConsumes (Some self.old.left) (Some self.new.left) result into.new }
         ensures cause { CountsFaults self.old.calls.faults self.new.calls.faults (IsErr result) }
 
-        // The reads that are listed fail, and no others; each hands out as much as it may.
+        // Exactly the listed reads fail. Each other read returns as many bytes as it may.
         ensures fails { IsErr result ↔ IsTrue (fails_next self.old.calls) }
         ensures count { IfOk result (λ k. k ≡ min (min (length into.new) self.old.piece) (length self.old.left)) }
         ensures calls { self.new.calls ≡ after_call self.old.calls }
@@ -92,7 +93,7 @@ impl Source for MemorySource {
     }
 }
 
-/// A sink in memory. Each write takes its whole piece.
+/// A sink in memory, for tests and the laboratory. Each write takes the whole piece.
 #[derive(Drop)]
 pub struct MemorySink {
     bytes: Vec<u8>,
@@ -114,7 +115,7 @@ impl MemorySink {
     ghost use Rattle.std.specs.Prelude.{◌≡◌, []};
     ghost use Rattle.facet_io.specs.Memory.{no_call};
 
-    /// It is empty at first. Writes are counted from 1, and those in `failing` fail.
+    /// Returns an empty sink. Writes are counted from 1, and those in `failing` fail.
     pub fn new(alloc: Global, failing: Vec<u64>) -> MemorySink
         ensures { result ≡ record { written = []; calls = no_call failing.items } }
     {
@@ -124,7 +125,7 @@ impl MemorySink {
         }
     }
 
-    /// What was written.
+    /// Returns what was written.
     pub fn bytes(&self) -> &[u8]
         ensures { result.now ≡ self.now.written }
     {
@@ -142,14 +143,14 @@ impl Sink for MemorySink {
 
     ghost faults = { λ s. s.calls.faults };
 
-    /// A write that finds no memory fails too.
+    /// Appends the whole piece. It also fails if it runs out of memory.
     fn write(&mut self, piece: &[u8]) -> Result<usize, Failed>
         requires { 0 < length piece.now }
         ensures bound { IfOk result (λ k. (0 < k) × (k ≤ length piece.now)) }
         ensures bytes { WriteAppends (Some self.old.written) (Some self.new.written) result piece.now }
         ensures cause { CountsFaults self.old.calls.faults self.new.calls.faults (IsErr result) }
 
-        // The writes that are listed fail. Another one fails for want of memory alone, which counts one more fault.
+        // The listed writes fail. Another one fails only out of memory, and counts one more fault.
         ensures fails { IsTrue (fails_next self.old.calls) → IsErr result }
         ensures count { IfOk result (λ k. k ≡ length piece.now) }
         ensures calls { OnOk result (self.new.calls ≡ after_call self.old.calls) }

@@ -6,7 +6,8 @@ ghost use Rattle.std.specs.Io.KnownBytes.{ReadConsumes, WriteAppends};
 use std::io;
 use std::io::{ErrorKind, Read, Write};
 
-/// One read, which is tried again where a signal interrupts it.
+/// Reads once, and again if a signal interrupts it. It allocates nothing. Errors: those of the reader except
+/// `Interrupted`.
 pub fn read_retrying<R: Read>(reader: &mut R, into: &mut [u8]) -> io::Result<usize>
     ensures bound { ReadsAtMost result into.new }
     ensures bytes { ReadConsumes (R.remaining reader.old) (R.remaining reader.new) result into.new }
@@ -23,7 +24,8 @@ pub fn read_retrying<R: Read>(reader: &mut R, into: &mut [u8]) -> io::Result<usi
     Err(ErrorKind::TimedOut.into())
 }
 
-/// One write, which is tried again where a signal interrupts it.
+/// Writes once, and again if a signal interrupts it. It allocates nothing. Errors: those of the writer except
+/// `Interrupted`.
 pub fn write_retrying<W: Write>(writer: &mut W, piece: &[u8]) -> io::Result<usize>
     ensures bound { WritesAtMost result piece.now }
     ensures bytes { WriteAppends (W.contents writer.old) (W.contents writer.new) result piece.now }

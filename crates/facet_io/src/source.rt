@@ -6,16 +6,16 @@ ghost use Rattle.facet_io.specs.Faults.{Rose, CountsFaults};
 use crate::failed::Failed;
 use std::alloc::Global;
 
-/// A source of bytes, read piece by piece to its end.
+/// A source of bytes, which is read piece by piece to its end.
 pub trait Source {
-    /// The bytes left, where the source tells them.
+    /// The bytes left, or `None` if contracts know nothing of them.
     ghost left: { Self → Option (List ℕ) };
 
-    /// How many faults it counted.
+    /// How many faults the source has counted.
     ghost faults: { Self → ℕ };
 
-    /// Reads the next bytes into the front of `into`, and answers how many. `Ok(0)` is the end of input.
-    /// `Failed` has taken nothing.
+    /// Reads the next bytes into the beginning of `into`, and returns how many. `Ok(0)` is the end of input. Errors:
+    /// `Failed`; then nothing was taken.
     fn read(&mut self, into: &mut [u8]) -> Result<usize, Failed>
         requires { 0 < length into.old }
         ensures bound { ReadsAtMost result into.new }
@@ -28,17 +28,20 @@ pub trait Source {
 pub enum ReadFault {
     /// A read failed.
     Failed,
-    /// More bytes than the limit came. One more than the limit was read, and no further one.
+    /// There are more bytes than the limit. One more than the limit was read.
     TooLong,
+    /// Out of memory.
     NoMemory,
 }
 
-// The bytes that are read at a time.
+// bytes per read
 const BLOCK: usize = 4096;
 
-/// All bytes that are left, where they are at most `limit`.
+/// Returns all bytes that are left, if they are at most `limit`.
 ///
-/// It asks for at most 4,096 bytes at a time, and keeps what was read in one vector that grows with it.
+/// It reads at most 4,096 bytes at a time, into one vector that grows.
+///
+/// Errors: `TooLong` if there are more bytes; `Failed` if a read failed; out of memory.
 pub fn read_to_end<S: Source>(
     alloc: Global,
     source: &mut S,
@@ -48,7 +51,8 @@ pub fn read_to_end<S: Source>(
     ensures whole { IfOk result (λ v. Consumes (S.left source.old) (S.left source.new) v.items × IsAtEnd (S.left source.new)) }
     ensures within { IfOk result (λ v. length v.items ≤ limit) }
 
-    // Whatever the answer, at most one byte more than the limit was read; at TooLong just so many, at Failed no more than the limit.
+    // Whatever it returns, at most one byte more than the limit was read: exactly one more for `TooLong`, and at most
+    // the limit for `Failed`.
     ensures taken { (bs : List ℕ) × (length bs ≤ limit + 1) × Consumes (S.left source.old) (S.left source.new) bs }
     ensures too_long { IsErrOf result ReadFault.TooLong → (bs : List ℕ) × (length bs ≡ limit + 1) × Consumes (S.left source.old) (S.left source.new) bs }
     ensures failed { IsErrOf result ReadFault.Failed → (bs : List ℕ) × (length bs ≤ limit) × Consumes (S.left source.old) (S.left source.new) bs }

@@ -4,7 +4,8 @@ use crate::sink::Sink;
 use crate::source::Source;
 use std::io::{Read, Write};
 
-/// A reader of the standard library as a source. A read that a signal interrupts is tried again; each other error is a fault.
+/// A reader of the standard library as a source. A read that a signal interrupts is repeated; each other error is a
+/// fault.
 #[derive(Drop)]
 pub struct StdSource<R: Read + Drop> {
     reader: R,
@@ -14,6 +15,7 @@ pub struct StdSource<R: Read + Drop> {
 impl<R: Read + Drop> StdSource<R> {
     ghost use Rattle.std.specs.Prelude.{◌≡◌};
 
+    /// Returns the source of a reader, with a count of 0 faults.
     pub fn new(reader: R) -> StdSource<R>
         ensures reader { result.reader ≡ reader }
         ensures faults { result.faults ≡ 0 }
@@ -38,8 +40,8 @@ impl<R: Read + Drop> Source for StdSource<R> {
     }
 }
 
-/// A writer of the standard library as a sink. A write that a signal interrupts is tried again; each other error is a fault, and so is a
-/// write that takes nothing.
+/// A writer of the standard library as a sink. A write that a signal interrupts is repeated; each other error is a
+/// fault, and so is a write of no bytes.
 #[derive(Drop)]
 pub struct StdSink<W: Write + Drop> {
     writer: W,
@@ -49,6 +51,7 @@ pub struct StdSink<W: Write + Drop> {
 impl<W: Write + Drop> StdSink<W> {
     ghost use Rattle.std.specs.Prelude.{◌≡◌};
 
+    /// Returns the sink of a writer, with a count of 0 faults.
     pub fn new(writer: W) -> StdSink<W>
         ensures writer { result.writer ≡ writer }
         ensures faults { result.faults ≡ 0 }

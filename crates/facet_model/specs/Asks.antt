@@ -1,4 +1,4 @@
--- What a search may ask, and which asks are refused.
+-- What a search may ask, and which asks are rejected.
 use Rattle.std.specs.Prelude.{◌==◌, ◌&&◌, ◌||◌, ℕ, if◌then◌else◌, not, Bool, List, length, Option, Some, None}
 use Rattle.facet_model.specs.declared.flags.DimFlags.{DimFlags}
 use Rattle.facet_model.specs.Flags.{Config, flags}
@@ -14,15 +14,15 @@ pub data AskFault : Type 0 where
   top_of_none : AskFault
   value_not_kept : AskFault
 
--- the value of the dimension alone is kept
+-- the value of a whole dimension is counted
 abbrev pub keeps_value : DimFlags → Bool
 keeps_value f = (f.hierarchical && not f.multi_valued) || (f.multi_valued && f.require_dim_count)
 
--- the count of the path is kept: a path of two components or more, or a dimension alone whose value is
+-- the value of the path is counted: a path of two components or more, or a dimension whose value is
 abbrev pub is_kept_path : Config → List (List ℕ) → Bool
 is_kept_path config path = not (length path == 1) || keeps_value (flags config (dim_of path))
 
--- No child is asked for, or the value of a dimension alone that is not kept.
+-- No child is asked for, or the value of a whole dimension that is not counted.
 abbrev pub ask_fault : Config → Asked → Option AskFault
 ask_fault config (top path n) = if n == 0 then Some top_of_none else None
 ask_fault config (one_value path) = if is_kept_path config path then None else Some value_not_kept

@@ -1,4 +1,4 @@
--- A config as texts, as which it stands where plain data has to tell it.
+-- A config as texts, for plain data that has to identify it.
 use Rattle.std.specs.Prelude.{ℕ, Bool, if◌then◌else◌, List, ◌∷◌, map}
 use Rattle.facet_model.specs.declared.flags.DimFlags.{DimFlags}
 use Rattle.facet_model.specs.Flags.{Config}

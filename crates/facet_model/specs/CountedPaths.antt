@@ -7,7 +7,8 @@ use Rattle.facet_model.specs.declared.flags.DimFlags.{DimFlags}
 use Rattle.facet_model.specs.Flags.{Config, flags}
 use Rattle.facet_model.specs.Documents.{dim_of}
 
--- The label itself is counted. In a dimension that is multi-valued, and hierarchical or with a required count, its ancestors are too, but the dimension alone only where its count is required.
+-- The label itself is counted. In a multi-valued dimension that is hierarchical or requires a count, its ancestors are
+-- counted too, but the dimension only if its count is required.
 abbrev pub is_counted_for : DimFlags → List (List ℕ) → List (List ℕ) → Bool
 is_counted_for f label path = path_eq label path
     || (is_under label path && nat_lt 0 (length path) && f.multi_valued && (f.hierarchical || f.require_dim_count) && (nat_lt 1 (length path) || f.require_dim_count))
@@ -28,10 +29,10 @@ counted_ordinals known config labels = places (is_counted config labels) known
 abbrev pub ordinals_of_label : Config → List (List ℕ) → List ℕ → List ℕ
 ordinals_of_label config label ords = map (λ e. e.1) (filter (λ e. is_counted_for (flags config (dim_of label)) label (take (e.0 + 1) label)) (enumerate_from 0 ords))
 
--- those of each label, of the ordinals beside it
+-- those of each label, given the ordinals at its place
 abbrev pub ordinals_of_labels : Config → List (List (List ℕ)) → List (List ℕ) → List ℕ
 ordinals_of_labels config labels resolved = flat_map (λ l. ordinals_of_label config l.0 l.1) (zip labels resolved)
 
--- each prefix of each label stands in the list at its ordinal
+-- each prefix of each label is in the list at its ordinal
 abbrev pub AreResolved : List (List (List ℕ)) → List (List (List ℕ)) → List (List ℕ) → Type 0
 AreResolved known labels resolved = AllZip (λ label ords. map (slice_get known) ords ≡ map Some (prefixes label)) labels resolved

@@ -15,7 +15,7 @@ PartCount = List ℕ × ℕ
 abbrev pub counted_child : Child → PartCount
 counted_child c = (c.part, c.count)
 
--- by count falling, ties by the component's bytes rising
+-- by falling counts, ties by the rising bytes of the components
 abbrev pub listing_cmp : PartCount → PartCount → Ordering
 listing_cmp = then_cmp (flip_args (on (λ c. c.1) nat_cmp)) (on (λ c. c.0) (slice_cmp nat_cmp))
 

@@ -3,7 +3,7 @@ use Rattle.facet_model.specs.declared.query.Query.{Query, fold-Query}
 use Rattle.facet_model.specs.declared.query.Query.TheOpen.{Query-F}
 use Rattle.facet_model.specs.Queries.{QueryTree, all, term, bool, queries}
 
--- one level, with each query inside already seen as its tree
+-- one level, with each query inside given as its tree
 abbrev pub query_step : Query-F QueryTree → QueryTree
 query_step Query-F.All = all
 query_step (Query-F.Term word) = term word

@@ -20,11 +20,12 @@ pub record Listed : Type 0 where
 abbrev pub AreChildren : List Doc → List (List ℕ) → List PartCount → Type 0
 AreChildren docs path all = IsListing (λ part. count docs (path ++ part ∷ [])) all
 
--- The sum of the children's counts where the dimension is not multi-valued. Else the count of the path where it is required, and -1 where not.
+-- The sum of the children's counts if the dimension is not multi-valued. Otherwise the count of the path if it is
+-- required, and -1 if not.
 abbrev pub value_of : DimFlags → ℕ → List PartCount → ℤ
 value_of f of_path all = if not f.multi_valued then pos (sum_by (λ c. c.1) all) else (if f.require_dim_count then pos of_path else negsuc 0)
 
--- the result with these children, and none where there is no child
+-- the result with these children; none without a child
 abbrev pub listed : Config → List Doc → List (List ℕ) → ℕ → List PartCount → Option Listed
 listed config docs path n [] = None
 listed config docs path n (c ∷ cs) = Some (record { path = path; value = value_of (flags config (dim_of path)) (count docs path) (c ∷ cs); children = take n (c ∷ cs); child_count = length (c ∷ cs) })
@@ -33,11 +34,11 @@ listed config docs path n (c ∷ cs) = Some (record { path = path; value = value
 abbrev pub IsTop : Config → List Doc → List (List ℕ) → ℕ → Option Listed → Type 0
 IsTop config docs path n r = (all : List PartCount) × AreChildren docs path all × (r ≡ listed config docs path n all)
 
--- -1 where no document of the snapshot has the path, and else the number of the filtered ones that have it
+-- -1 if no document of the snapshot has the path, and otherwise the number of the filtered ones that have it
 abbrev pub specific : List Doc → List Doc → List (List ℕ) → ℤ
 specific snapshot docs path = if count snapshot path == 0 then negsuc 0 else pos (count docs path)
 
--- by value falling, ties by the dimension's bytes rising
+-- by falling values, ties by the rising bytes of the dimensions
 abbrev pub dims_cmp : Listed → Listed → Ordering
 dims_cmp = then_cmp (flip_args (on (λ r. r.value) int_cmp)) (on (λ r. r.path) path_cmp)
 
@@ -53,7 +54,7 @@ pub data Answer : Type 0 where
   value_answer : List (List ℕ) → ℤ → Answer
   dims_answer : List Listed → Answer
 
--- The answer to an ask, where each dimension is counted over its own documents of the snapshot.
+-- The answer to an ask, if each dimension is counted over its own documents of the snapshot.
 abbrev pub IsAnswer : Config → List Doc → (List ℕ → List Doc) → Asked → Answer → Type 0
 IsAnswer config snapshot docs_of (top path n) a = (r : Option Listed) × IsTop config (docs_of (dim_of path)) path n r × (a ≡ top_answer r)
 IsAnswer config snapshot docs_of (one_value path) a = a ≡ value_answer path (specific snapshot (docs_of (dim_of path)) path)

@@ -1,4 +1,4 @@
--- What stored records and terms say about documents.
+-- What stored records and terms mean for documents.
 use Rattle.std.specs.Prelude.{◌≡◌, ℕ, zero, suc, ◌+◌, ◌==◌, ◌++◌, Bool, List, [], ◌∷◌, map, Some, slice_get, IsTrue, if◌then◌else◌}
 use Rattle.std.specs.List.{AllZip, list_any}
 use Rattle.facet_model.specs.Flags.{Config}
@@ -29,7 +29,7 @@ abbrev pub live_before : List ℕ → ℕ → ℕ
 live_before dead zero = 0
 live_before dead (suc n) = if is_dead dead n then live_before dead n else live_before dead n + 1
 
--- those that are not at one of these places, of what stands from a place on
+-- those that are not at one of these places, counting from a place on
 abbrev pub alive_from : {A : Type 0} → List ℕ → ℕ → List A → List A
 alive_from dead place [] = []
 alive_from dead place (x ∷ xs) = if is_dead dead place then alive_from dead (place + 1) xs else x ∷ alive_from dead (place + 1) xs
@@ -38,11 +38,12 @@ alive_from dead place (x ∷ xs) = if is_dead dead place then alive_from dead (p
 abbrev pub alive : {A : Type 0} → List ℕ → List A → List A
 alive dead xs = alive_from dead 0 xs
 
--- the labels at these ordinals are there, and are these
+-- the labels at these ordinals are in the list, and are these
 abbrev pub AreLabelsAt : List (List (List ℕ)) → List ℕ → List (List (List ℕ)) → Type 0
 AreLabelsAt known leaves labels = map (slice_get known) leaves ≡ map Some labels
 
--- The record is the document's. Each prefix of its labels is known, so each path that is counted for it is, an ancestor too.
+-- The record is the document's. Each prefix of its labels is known, so each path that is counted for it is, also an
+-- ancestor.
 pub record IsRecordOf (known : List (List (List ℕ))) (config : Config) (stored : Stored) (doc : Doc) : Type 0 where
   pub id : stored.id ≡ doc.id
   pub text : stored.text ≡ doc.text
@@ -51,7 +52,7 @@ pub record IsRecordOf (known : List (List (List ℕ))) (config : Config) (stored
   pub accepted : Accepts config doc
   pub counted : stored.counted ≡ counted_ordinals known config doc.labels
 
--- a segment has the documents' records, in their order, and exactly their terms
+-- a segment has the documents' records, in order, and exactly their terms
 pub record IsSegmentOf (known : List (List (List ℕ))) (config : Config) (segment : Records) (docs : List Doc) : Type 0 where
   pub records : AllZip (IsRecordOf known config) segment.records docs
   pub terms : segment.terms ≡ terms_of docs

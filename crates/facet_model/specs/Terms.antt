@@ -19,7 +19,7 @@ path_term path = codes "f" ++ term_text path
 abbrev pub doc_terms : Doc → List (List ℕ)
 doc_terms doc = map (λ w. codes "w" ++ w) (words doc.text) ++ map (λ p. codes "f" ++ term_text p) (flat_map prefixes doc.labels)
 
--- a term among terms that rise, where it stands once
+-- a term among rising terms, once
 abbrev pub put_term : List (List ℕ) → List ℕ → List (List ℕ)
 put_term [] t = t ∷ []
 put_term (u ∷ us) t = match_ordering (slice_cmp nat_cmp t u) (t ∷ u ∷ us) (u ∷ us) (u ∷ put_term us t)

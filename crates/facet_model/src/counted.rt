@@ -21,7 +21,7 @@ impl Model for Counted {
 }
 
 impl Counted {
-    /// Takes the ordinals as they are.
+    /// Makes it of ordinals that rise strictly. It allocates nothing.
     pub fn new(ords: Vec<u32>) -> Counted
         requires { IsStrictlyIncreasing ords.items }
         ensures { result ≡ ords.items }
@@ -29,7 +29,7 @@ impl Counted {
         Counted { ords }
     }
 
-    /// The ordinals.
+    /// Returns the ordinals.
     pub fn ords(&self) -> &[u32]
         ensures ords { result.now ≡ self.now }
         ensures rising { IsStrictlyIncreasing self.now }
@@ -53,14 +53,14 @@ impl Model for Resolved {
 }
 
 impl Resolved {
-    /// Takes the ordinals as they are.
+    /// Makes it of these ordinals. It allocates nothing.
     pub fn new(prefixes: Vec<u32>) -> Resolved
         ensures { result ≡ prefixes.items }
     {
         Resolved { prefixes }
     }
 
-    /// The ordinals.
+    /// Returns the ordinals.
     pub fn prefixes(&self) -> &[u32]
         ensures { result.now ≡ self.now }
     {

@@ -6,8 +6,8 @@ use facet_names::{NoMemory, Path};
 use std::alloc::Global;
 use std::marker::Model;
 
-/// The paths that a search is drilled down to, as Lucene's `DrillDownQuery`: at most 256. Paths of one dimension are alternatives, and each
-/// dimension is required. The drill-down term of each path is kept beside it.
+/// The paths that a search is drilled down to, as Lucene's `DrillDownQuery`: at most 256. Paths of one dimension are
+/// alternatives, and each dimension is required. The drill-down term of each path is stored with it.
 #[derive(Debug, Drop)]
 pub struct Drill {
     paths: Vec<Path>,
@@ -25,7 +25,7 @@ impl Model for Drill {
     ghost invariant = { λ d. IsDrill d.paths.items d.terms.items };
 }
 
-/// The drill-down term of a path: an `f` and the path's term text.
+/// Returns the drill-down term of a path: an `f` and the path's term text. Errors: out of memory.
 pub fn path_term(alloc: Global, path: &Path) -> Result<String, NoMemory>
     ensures term { IfOk result (λ t. string_bytes t ≡ path_term path.now) }
     ensures some { 0 < length path.now }
@@ -36,7 +36,7 @@ pub fn path_term(alloc: Global, path: &Path) -> Result<String, NoMemory>
     Ok(term)
 }
 
-// The terms of paths.
+// Returns the terms of paths.
 fn terms_of(alloc: Global, paths: &[Path]) -> Result<Vec<String>, NoMemory>
     ensures { IfOk result (λ v. map string_bytes v.items ≡ map path_term paths.now) }
 {
@@ -48,7 +48,8 @@ fn terms_of(alloc: Global, paths: &[Path]) -> Result<Vec<String>, NoMemory>
 }
 
 impl Drill {
-    /// Takes the paths in their order. It takes memory for the terms.
+    /// Makes a drill of paths, in their order. It takes the paths, and allocates memory for their terms. Errors: out of
+    /// memory.
     pub fn new(alloc: Global, paths: Vec<Path>) -> Result<Drill, NoMemory>
         requires { length paths.items ≤ 256 }
         ensures { IfOk result (λ d. d ≡ paths.items) }
@@ -57,7 +58,7 @@ impl Drill {
         Ok(Drill { paths, terms })
     }
 
-    /// The paths in the order given.
+    /// Returns the paths in the order given.
     pub fn paths(&self) -> &[Path]
         ensures paths { result.now ≡ self.now }
         ensures few { length result.now ≤ 256 }
@@ -65,7 +66,7 @@ impl Drill {
         &self.paths
     }
 
-    /// The drill-down term of the path at a place.
+    /// Returns the drill-down term of the path at a place, from 0.
     pub fn term(&self, at: usize) -> &str
         requires { at < length self.now }
         ensures { (path : List (List ℕ)) → slice_get self.now at ≡ Some path → result.now ≡ path_term path }
@@ -73,7 +74,7 @@ impl Drill {
         self.terms[at].as_str()
     }
 
-    /// An equal drill with memory of its own.
+    /// Copies the drill. Errors: out of memory.
     pub fn dup(&self, alloc: Global) -> Result<Drill, NoMemory>
         ensures { IfOk result (λ d. d ≡ self.now) }
     {

@@ -1,16 +1,16 @@
 ghost use Rattle.facet_model.specs.Laws.{EqualTexts, OneListing, OneTop};
 
-/// Two listings of one count of components are the same list: the order of a listing leaves no tie.
+/// States that two listings of the same counts are equal: the order of a listing leaves no tie.
 pub fn one_listing()
     ensures { OneListing }
 {}
 
-/// Two results of one path over the same documents are the same.
+/// States that two results of one path over the same documents are equal.
 pub fn one_top()
     ensures { OneTop }
 {}
 
-/// Two configs of equal texts are equal, so whoever keeps the texts of a config keeps the config.
+/// States that two configs with equal texts are equal, so the texts of a config determine it.
 pub fn one_config()
     ensures { EqualTexts }
 {}

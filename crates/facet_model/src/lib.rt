@@ -1,4 +1,5 @@
-//! Documents and what is counted of them: the types that the crates share, and the definitions that their contracts cite.
+//! Documents and what is counted of them: the types that the crates share, and the definitions that their contracts
+//! use.
 #![tactic(auto)]
 
 mod ask;

@@ -6,14 +6,14 @@ use facet_names::NoMemory;
 use std::alloc::Global;
 
 /// What a document has to match, as Lucene's `MatchAllDocsQuery`, `TermQuery` and `BooleanQuery`.
-///
-/// A boolean query matches a document where each query of `must` does, none of `must_not` does and, if `must` is empty, one of `should`
-/// does. So one with `must_not` alone, or with nothing, matches none.
 #[derive(Debug, Drop)]
 pub enum Query {
+    /// Matches every document.
     All,
-    /// The word is one of the words of the document's text. It is compared as it stands.
+    /// Matches if the word is one of the words of the document's text, compared byte by byte.
     Term(Word),
+    /// Matches if each query of `must` does, none of `must_not` does and, if `must` is empty, one of `should` does. So
+    /// a query with only `must_not`, or without any, matches no document.
     Bool {
         must: Vec<Query>,
         should: Vec<Query>,
@@ -22,7 +22,7 @@ pub enum Query {
 }
 
 impl Query {
-    /// An equal query with memory of its own.
+    /// Copies the query. Errors: out of memory.
     #[cycle(query_copies)]
     pub fn dup(&self, alloc: Global) -> Result<Query, NoMemory>
         ensures { IfOk result (λ q. query_view q ≡ query_view self.now) }
@@ -43,7 +43,7 @@ impl Query {
     }
 }
 
-// Equal queries with memory of their own.
+// Copies queries.
 #[cycle(query_copies)]
 fn copies(alloc: Global, queries: &[Query]) -> Result<Vec<Query>, NoMemory>
     ensures { IfOk result (λ v. map query_view v.items ≡ map query_view queries.now) }

@@ -8,11 +8,13 @@ use crate::word::Word;
 use facet_names::Path;
 use std::cmp::Ordering;
 
-/// A component and the number of documents under it. Children are ordered by count falling, ties by the component's bytes rising; Lucene
-/// leaves ties to the ordinals.
+/// A component and the number of documents under it. Children are ordered by falling counts, ties by the rising bytes
+/// of the components. Lucene breaks ties by the ordinals.
 #[derive(Debug, PartialEq, Eq, Drop)]
 pub struct Child {
+    /// The component.
     pub part: Word,
+    /// The number of documents.
     pub count: u32,
 }
 
@@ -46,9 +48,10 @@ impl PartialOrd for Child {
 /// The counts below a path, as Lucene's `FacetResult`.
 #[derive(Debug, Drop)]
 pub struct FacetResult {
+    /// The path.
     pub path: Path,
-    /// In a dimension that is not multi-valued the sum of all children's counts, those that are not shown among them. Else the number of
-    /// documents that have the path where its count is required, and -1 where not.
+    /// If the dimension is not multi-valued, the sum of the counts of all children, also those that are not listed. If
+    /// it is, the number of documents that have the path if that is counted, and -1 otherwise.
     pub value: i64,
     /// The children with the greatest counts, at most as many as were asked for.
     pub children: Vec<Child>,
@@ -59,10 +62,10 @@ pub struct FacetResult {
 /// The answer to one ask.
 #[derive(Debug, Drop)]
 pub enum FacetAnswer {
-    /// None where no child has a document.
+    /// The result of the path. `None` if no child has a document.
     Top(Option<FacetResult>),
-    /// The number of documents that have the path, and -1 where no document of the whole snapshot has it.
+    /// The number of documents that have the path, or -1 if no document of the whole snapshot has it.
     Specific { path: Path, value: i64 },
-    /// The results of the dimensions that have one, by value falling, ties by the dimension's bytes rising.
+    /// The results of the dimensions that have one, by falling values, ties by the rising bytes of the dimensions.
     AllDims(Vec<FacetResult>),
 }

@@ -25,7 +25,8 @@ impl Model for Word {
 impl Word {
     ghost use Rattle.facet_model.specs.Words.{word_of};
 
-    /// The word of a text, which is copied. None exactly where the text is empty or has more than 65,536 bytes.
+    /// Makes the word of a text, which it copies. It returns `None` if the text is empty or has more than 65,536 bytes.
+    /// Errors: out of memory.
     pub fn new(alloc: Global, text: &str) -> Result<Option<Word>, NoMemory>
         ensures ok { IfOk result (λ o. o ≡ word_of text.now) }
         ensures none { word_of text.now ≡ None → IsOk result }
@@ -37,14 +38,14 @@ impl Word {
         Ok(Some(Word { text }))
     }
 
-    /// The text itself.
+    /// Returns the text.
     pub fn text(&self) -> &str
         ensures { result.now ≡ self.now }
     {
         self.text.as_str()
     }
 
-    /// An equal word with memory of its own.
+    /// Copies the word. Errors: out of memory.
     pub fn dup(&self, alloc: Global) -> Result<Word, NoMemory>
         ensures { IfOk result (λ w. w ≡ self.now) }
     {

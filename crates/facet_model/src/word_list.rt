@@ -7,7 +7,7 @@ use facet_names::NoMemory;
 use std::alloc::{AllocError, Global};
 use std::marker::Model;
 
-/// The words of a text, in their order, repeats included.
+/// The words of a text, in order, with repeats.
 #[derive(Debug, Drop)]
 pub struct WordList {
     words: Vec<String>,
@@ -22,14 +22,14 @@ impl Model for WordList {
 }
 
 impl WordList {
-    /// How many there are.
+    /// Returns how many words there are.
     pub fn len(&self) -> usize
         ensures { result ≡ length self.now }
     {
         self.words.len()
     }
 
-    /// The word at a place, from 0.
+    /// Returns the word at a place, from 0.
     pub fn at(&self, place: usize) -> &str
         requires { place < length self.now }
         ensures { slice_get self.now place ≡ Some result.now }
@@ -38,21 +38,21 @@ impl WordList {
     }
 }
 
-/// A space, a tab, a carriage return or a line feed.
+/// Returns whether a byte is a space, a tab, a carriage return or a line feed.
 pub fn is_blank(byte: u8) -> bool
     ensures { result ≡ is_blank byte }
 {
     matches!(byte, b' ' | b'\t' | b'\r' | b'\n')
 }
 
-// The pieces between blanks.
+// Returns the pieces between blanks.
 fn pieces(alloc: Global, text: &str) -> Result<Vec<&[u8]>, AllocError>
     ensures { IfOk result (λ v. map (λ x. x.now) v.items ≡ slice_split is_blank text.now) }
 {
     text.as_bytes().split(|byte| is_blank(*byte)).collect(alloc)
 }
 
-// The text that the bytes are, with memory of its own.
+// Copies bytes that are a text.
 fn copied(alloc: Global, piece: &[u8]) -> Result<String, NoMemory>
     requires { IsUtf8 piece.now }
     ensures { IfOk result (λ s. string_bytes s ≡ piece.now) }
@@ -61,10 +61,10 @@ fn copied(alloc: Global, piece: &[u8]) -> Result<String, NoMemory>
     Ok(String::from_str(alloc, piece)?)
 }
 
-/// The words of a text: the pieces between spaces, tabs, carriage returns and line feeds, as Lucene's `WhitespaceAnalyzer` cuts, with `A` to `Z` made
-/// `a` to `z`. Every other byte stays as it is, and repeats stay.
+/// Splits a text into words: the pieces between spaces, tabs, carriage returns and line feeds, as Lucene's
+/// `WhitespaceAnalyzer` does, with `A` to `Z` lowered. All other bytes stay, and so do repeats.
 ///
-/// It takes memory for a lowered copy of the text, which it gives back, and for each word.
+/// It allocates a lowered copy of the text, which it drops, and each word. Errors: out of memory.
 pub fn words(alloc: Global, text: &str) -> Result<WordList, NoMemory>
     ensures { IfOk result (λ w. w ≡ words text.now) }
 {

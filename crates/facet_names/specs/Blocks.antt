@@ -1,8 +1,8 @@
--- A path in one block of bytes: each component behind its length.
+-- A path in one block of bytes: each component after its length.
 use Rattle.std.specs.Prelude.{◌≡◌, ◌+◌, ◌*◌, ◌/◌, ◌%◌, ℕ, zero, suc, List, [], ◌∷◌, ◌++◌, None, length, take, drop}
 use Rattle.facet_names.specs.Faults.{IsPath, part_fault}
 
--- a component behind its length, whose two digits to the base of 32 are characters of one byte
+-- a component after its length, whose two digits to the base of 32 are characters of one byte
 abbrev pub headed : List ℕ → List ℕ
 headed part = length part / 32 ∷ length part % 32 ∷ part
 
@@ -10,7 +10,7 @@ unfoldable pub block : List (List ℕ) → List ℕ
 block [] = []
 block (part ∷ parts) = headed part ++ block parts
 
--- the components of a block, and of a longer one the first n
+-- the components of a block; of a longer one the first n
 unfoldable pub parts_in : ℕ → List ℕ → List (List ℕ)
 parts_in zero bytes = []
 parts_in (suc n) [] = []

@@ -1,4 +1,5 @@
--- The text of a path as a drill-down term: U+001F between components, and U+001E before each U+001E or U+001F inside one.
+-- The text of a path as a drill-down term: U+001F between components, and U+001E before each U+001E or U+001F inside
+-- one.
 use Rattle.std.specs.Prelude.{◌≡◌, ◌≤◌, ◌==◌, ◌||◌, ℕ, Bool, if◌then◌else◌, List, [], ◌∷◌, ◌++◌, flat_map, length, map, take}
 use Rattle.std.specs.List.{join_with_byte}
 use Rattle.facet_names.specs.Faults.{IsPath}
@@ -19,7 +20,7 @@ escaped part = flat_map escaped_byte part
 abbrev pub behind : ℕ → List ℕ → List ℕ
 behind at part = if at == 0 then escaped part else 31 ∷ escaped part
 
--- the new text is the old one with the first of these bytes behind it
+-- the new text is the old one with a prefix of these bytes after it
 abbrev pub HasSome : List ℕ → List ℕ → List ℕ → Type 0
 HasSome bytes old new = (n : ℕ) × (new ≡ old ++ take n bytes)
 

@@ -1,4 +1,4 @@
--- Texts that are lent, by their bytes.
+-- Borrowed texts, by their bytes.
 use Rattle.std.specs.Prelude.{ℕ, List, Option, map, option_map}
 use Rattle.std.specs.Borrow.{Bor}
 
@@ -6,6 +6,6 @@ use Rattle.std.specs.Borrow.{Bor}
 abbrev pub texts_in : List (Bor (List ℕ)) → List (List ℕ)
 texts_in texts = map (λ text. text.now) texts
 
--- of a text that may be given
+-- of an optional text
 abbrev pub text_in : Option (Bor (List ℕ)) → Option (List ℕ)
 text_in text = option_map (λ t. t.now) text

@@ -1,4 +1,4 @@
-//! The components of a path in one text, each behind its length.
+//! The components of a path in one text, each after its length.
 ghost use Rattle.std.specs.Prelude.{◌≡◌, ◌<◌, ◌≤◌, ◌++◌, ◌∷◌, length, drop, string_bytes, IfOk, OnOk};
 ghost use Rattle.std.specs.Cmp.Lexicographic.{slice_cmp};
 ghost use Rattle.std.specs.Ordering.{nat_cmp};
@@ -10,7 +10,7 @@ use crate::fault::NoMemory;
 use std::alloc::Global;
 use std::cmp::Ordering;
 
-/// The first component of a block, and the block of those behind it.
+/// Splits a block after its first component: the component, and the block of the others. It allocates nothing.
 pub fn cut(text: &str) -> (&str, &str)
     requires is { IsBlock text.now }
     requires some { 0 < length text.now }
@@ -37,7 +37,7 @@ fn push(text: &mut String, part: &str) -> Result<(), NoMemory>
     Ok(())
 }
 
-/// The block of the components, in a text of just its length.
+/// Returns the block of the components, in one allocation of exactly its length. Errors: out of memory.
 pub fn block_of(alloc: Global, parts: &[String]) -> Result<String, NoMemory>
     requires { IsPath (texts parts.now) }
     ensures { IfOk result (λ text. string_bytes text ≡ block (texts parts.now)) }
@@ -53,7 +53,7 @@ pub fn block_of(alloc: Global, parts: &[String]) -> Result<String, NoMemory>
     Ok(text)
 }
 
-/// A block with one more component at its end.
+/// Returns a block with one more component at its end. Errors: out of memory.
 pub fn block_with(alloc: Global, first: &str, part: &str) -> Result<String, NoMemory>
     requires is { IsBlock first.now }
     requires short { length part.now ≤ 1024 }
@@ -65,7 +65,7 @@ pub fn block_with(alloc: Global, first: &str, part: &str) -> Result<String, NoMe
     Ok(text)
 }
 
-/// How many components a block has.
+/// Counts the components of a block, at most 32. It allocates nothing.
 pub fn size(block: &str) -> usize
     requires { IsBlock block.now }
     ensures { result ≡ length (parts_of block.now) }
@@ -79,7 +79,7 @@ pub fn size(block: &str) -> usize
     size
 }
 
-/// The block behind the first components.
+/// Returns the block without its first `n` components. It allocates nothing.
 pub fn skip(block: &str, n: usize) -> &str
     requires is { IsBlock block.now }
     requires within { n ≤ length (parts_of block.now) }
@@ -93,7 +93,7 @@ pub fn skip(block: &str, n: usize) -> &str
     rest
 }
 
-/// Whether the first block's components are the first ones of the second block.
+/// Returns whether the components of the first block are the first ones of the second.
 pub fn is_front(front: &str, block: &str) -> bool
     requires front { IsBlock front.now }
     requires block { IsBlock block.now }
@@ -116,7 +116,7 @@ pub fn is_front(front: &str, block: &str) -> bool
     true
 }
 
-/// How two blocks compare, component by component.
+/// Compares two blocks component by component, by bytes.
 pub fn compared(one: &str, other: &str) -> Ordering
     requires one { IsBlock one.now }
     requires other { IsBlock other.now }

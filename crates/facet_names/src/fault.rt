@@ -2,22 +2,22 @@ ghost use Rattle.std.specs.Prelude.{◌≡◌};
 
 use std::alloc::{AllocError, AllocFailed};
 
-/// An allocation was refused.
+/// Out of memory: an allocation failed.
 #[derive(Clone, Copy, Debug, PartialEq, Eq)]
 pub struct NoMemory;
 
-/// Why a list of components is no path. Places count from 0, and lengths are in bytes.
+/// Why a list of components is not a path. Places count from 0, and lengths are in bytes.
 #[derive(Clone, Copy, Debug, PartialEq, Eq)]
 pub enum PathFault {
     /// There is no component.
     NoPart,
     /// The component at this place is empty.
     EmptyPart { at: u64 },
-    /// The component at this place has more than 1,024 bytes.
+    /// The component at this place has `len` bytes, more than 1,024.
     PartTooLong { at: u64, len: u64 },
-    /// There are more than 32 components.
+    /// There are `len` components, more than 32.
     TooManyParts { len: u64 },
-    /// An allocation was refused.
+    /// Out of memory.
     NoMemory,
 }
 

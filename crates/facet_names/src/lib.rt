@@ -1,4 +1,5 @@
-//! Category paths, as Lucene's `FacetLabel`: their shape, order and hash, and the definitions of a label list and of its arrays.
+//! Category paths, as Lucene's `FacetLabel`: their shape, order and hash, and the definitions of a label list and of
+//! its arrays.
 #![tactic(auto)]
 
 mod block;

@@ -13,11 +13,12 @@ use std::cmp::Ordering;
 use std::hash::{Hash, Hasher};
 use std::marker::Model;
 
-/// A category: 1 to 32 components, each of 1 to 1,024 bytes. The first is the dimension. As Lucene's `FacetLabel`; the root, which has no
-/// component, is no `Path`.
+/// A category: 1 to 32 components, each of 1 to 1,024 bytes. The first is the dimension. It corresponds to Lucene's
+/// `FacetLabel`. The root, which has no component, is not a `Path`.
 ///
-/// Paths are equal where their components are, and are ordered component by component, by bytes. One takes a single block of memory, of its components'
-/// bytes and two more for each.
+/// Paths are equal if their components are. They are ordered component by component, by bytes.
+///
+/// Memory: one allocation, of the bytes of the components and two for each.
 #[derive(Debug, Drop)]
 pub struct Path {
     text: String,
@@ -80,7 +81,9 @@ fn check(parts: &[String]) -> Result<(), PathFault>
 
 impl Path {
     #[tactic(auto, using(crate::proofs::Blocks::path_block))]
-    /// The path of these components. The number of components is looked at first, and then each of them in order.
+    /// Makes the path of these components. It checks the number of components first, and then each of them in order.
+    ///
+    /// Errors: the first fault; out of memory.
     pub fn new(alloc: Global, parts: &[String]) -> Result<Path, PathFault>
         ensures ok { IfOk result (λ p. p ≡ texts parts.now) }
         ensures fits { IsOk result → path_fault (texts parts.now) ≡ None }
@@ -92,8 +95,10 @@ impl Path {
         Ok(Path { text })
     }
 
-    /// The path of these components, as [`new`](Path::new), for texts that are lent: as Lucene's `FacetLabel(String...)`. They are copied first, so where memory
-    /// is short that is the answer, whatever they are.
+    /// Makes the path of borrowed components, as Lucene's `FacetLabel(String...)`. It copies them before it checks
+    /// them.
+    ///
+    /// Errors: out of memory, whatever the components are; otherwise those of [`new`](Path::new).
     pub fn of(alloc: Global, parts: &[&str]) -> Result<Path, PathFault>
         ensures ok { IfOk result (λ p. p ≡ texts_in parts.now) }
         ensures fits { IsOk result → path_fault (texts_in parts.now) ≡ None }
@@ -106,7 +111,7 @@ impl Path {
         Path::new(alloc, &texts)
     }
 
-    /// The path of these components, as [`of`](Path::of), where it is known that they make one. Memory that is short is all that it can lack.
+    /// Makes the path of components that are known to be valid, as [`of`](Path::of) does. Errors: out of memory.
     pub fn of_valid(alloc: Global, parts: &[&str]) -> Result<Path, NoMemory>
         requires { IsPath (texts_in parts.now) }
         ensures { IfOk result (λ p. p ≡ texts_in parts.now) }
@@ -119,7 +124,8 @@ impl Path {
     }
 
     #[tactic(auto, using(crate::proofs::Blocks::path_block))]
-    /// The path of one component, a dimension alone. It is refused as `new` refuses it, before anything is copied.
+    /// Makes the path of one component, a dimension. It checks the component before it copies it. Errors: those of
+    /// [`new`](Path::new).
     pub fn of_dim(alloc: Global, dim: &str) -> Result<Path, PathFault>
         ensures ok { IfOk result (λ p. p ≡ dim.now ∷ []) }
         ensures fits { IsOk result → path_fault (dim.now ∷ []) ≡ None }
@@ -131,7 +137,7 @@ impl Path {
         Ok(Path { text })
     }
 
-    /// The number of components, from 1 to 32.
+    /// Returns the number of components, 1 to 32. It visits each of them.
     pub fn len(&self) -> usize
         ensures len { result ≡ length self.now }
         ensures fits { IsPath self.now }
@@ -139,14 +145,15 @@ impl Path {
         size(&self.text)
     }
 
-    /// A law: a path has 1 to 32 components, so it is never the root of a label list. The call does nothing.
+    /// States that a path has 1 to 32 components, so it is never the root of a label list. The call does nothing.
     pub fn has_components(&self)
         ensures { IsPath self.now }
     {
         let _ = &self.text;
     }
 
-    /// The component at a place, from 0. It has 1 to 1,024 bytes.
+    /// Returns the component at a place, from 0. It has 1 to 1,024 bytes. It visits the components before it, and
+    /// allocates nothing.
     pub fn part(&self, at: usize) -> &str
         requires { at < length self.now }
         ensures part { slice_get self.now at ≡ Some result.now }
@@ -156,14 +163,14 @@ impl Path {
         cut(skip(&self.text, at)).0
     }
 
-    /// The first component, the dimension.
+    /// Returns the first component, the dimension, in constant time.
     pub fn dim(&self) -> &str
         ensures { slice_get self.now 0 ≡ Some result.now }
     {
         cut(&self.text).0
     }
 
-    /// The path of the first `len` components.
+    /// Returns the path of the first `len` components, at least 1. Errors: out of memory.
     pub fn front(&self, alloc: Global, len: usize) -> Result<Path, NoMemory>
         requires some { 0 < len }
         requires within { len ≤ length self.now }
@@ -175,7 +182,8 @@ impl Path {
         Ok(Path { text })
     }
 
-    /// The path without its last component; None where it has one component alone, since the root is no `Path`.
+    /// Returns the path without its last component, or `None` if it has only one: the root is not a `Path`. Errors: out
+    /// of memory.
     pub fn parent(&self, alloc: Global) -> Result<Option<Path>, NoMemory>
         ensures { IfOk result (λ o. o ≡ parent_of self.now) }
     {
@@ -188,7 +196,7 @@ impl Path {
     }
 
     #[tactic(auto, using(crate::proofs::Parts::child_fault))]
-    // Whether the path with one more component is one.
+    // Checks that the path with one more component is a path.
     fn check_child(&self, part: &str) -> Result<(), PathFault>
         ensures ok { IsOk result → path_fault (self.now ++ part.now ∷ []) ≡ None }
         ensures err { IfErr result (λ e. path_fault (self.now ++ part.now ∷ []) ≡ Some e) }
@@ -201,7 +209,8 @@ impl Path {
         check_part(at, part)
     }
 
-    /// The path with one more component. It is refused as `new` refuses the longer list, before anything is copied.
+    /// Returns the path with one more component. It checks the component before it copies anything. Errors: those of
+    /// [`new`](Path::new) for the longer list.
     pub fn child(&self, alloc: Global, part: &str) -> Result<Path, PathFault>
         ensures ok { IfOk result (λ p. p ≡ self.now ++ part.now ∷ []) }
         ensures fits { IsOk result → path_fault (self.now ++ part.now ∷ []) ≡ None }
@@ -213,15 +222,17 @@ impl Path {
         Ok(Path { text })
     }
 
-    /// Whether the other path is a prefix of this one. Every path is under itself. It takes no memory.
+    /// Returns whether the other path is a prefix of this one. Each path is a prefix of itself. It allocates nothing.
     pub fn is_under(&self, other: &Path) -> bool
         ensures { result ≡ is_under self.now other.now }
     {
         is_front(&other.text, &self.text)
     }
 
-    /// The path's drill-down term: the components with U+001F between them, and a U+001E before each U+001E or U+001F inside one. As Lucene's
-    /// `FacetsConfig.pathToString`. It has at most 65,567 bytes.
+    /// Returns the drill-down term of the path, as Lucene's `FacetsConfig.pathToString`: the components with U+001F
+    /// between them, and U+001E before each U+001E and U+001F inside one. It has at most 65,567 bytes.
+    ///
+    /// Errors: out of memory.
     pub fn term_text(&self, alloc: Global) -> Result<String, NoMemory>
         ensures text { IfOk result (λ text. string_bytes text ≡ term_text self.now) }
         ensures some { 0 < length self.now }
@@ -229,7 +240,10 @@ impl Path {
         joined(alloc, &self.text)
     }
 
-    /// The path whose term text this is; None where it is that of no path. It takes memory for the components, and time by the text's length.
+    /// Returns the path whose term text this is, or `None` if it is that of no path. It takes time proportional to the
+    /// length of the text, and allocates memory for the components.
+    ///
+    /// Errors: out of memory.
     pub fn from_term_text(alloc: Global, text: &str) -> Result<Option<Path>, NoMemory>
         ensures { IfOk result
             (λ o. MatchOption o ((path : List (List ℕ)) → ¬ IsTermText text.now path) (λ path. IsTermText text.now path)) }
@@ -246,7 +260,7 @@ impl Path {
         }
     }
 
-    /// An equal path with memory of its own.
+    /// Copies the path. Errors: out of memory.
     pub fn dup(&self, alloc: Global) -> Result<Path, NoMemory>
         ensures { IfOk result (λ p. p ≡ self.now) }
     {

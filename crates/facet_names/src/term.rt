@@ -51,9 +51,10 @@ fn push_escaped(text: &mut String, part: &str) -> Result<(), NoMemory>
     Ok(())
 }
 
-/// Appends the component at a place of a path, escaped, behind a separator where it isn't the first: so a term text is made component by
-/// component. Few components have a character to escape, so most are copied as they are. Where memory is short, the first bytes of what was to be
-/// appended may stand there.
+/// Appends the component at a place of a path, escaped, and after a separator unless it is the first. So a term text
+/// can be made component by component. A component without a character to escape is copied whole.
+///
+/// Errors: out of memory; then a prefix of what was to be appended may have been appended.
 pub fn push_part(text: &mut String, at: usize, part: &str) -> Result<(), NoMemory>
     ensures ok { OnOk result (string_bytes text.new ≡ string_bytes text.old ++ behind at part.now) }
     ensures err { OnErr result (HasSome (behind at part.now) (string_bytes text.old) (string_bytes text.new)) }
@@ -64,7 +65,7 @@ pub fn push_part(text: &mut String, at: usize, part: &str) -> Result<(), NoMemor
     push_escaped(text, part)
 }
 
-/// The term text of a block's components.
+/// Returns the term text of a block's components. Errors: out of memory.
 pub fn joined(alloc: Global, block: &str) -> Result<String, NoMemory>
     requires { IsBlock block.now }
     ensures { IfOk result (λ text. string_bytes text ≡ term_text (parts_of block.now)) }
@@ -81,7 +82,8 @@ pub fn joined(alloc: Global, block: &str) -> Result<String, NoMemory>
     Ok(text)
 }
 
-/// The components that a text joins; None where an escape stands before neither of the two characters, or at the end.
+/// Returns the components that a text joins, or `None` if an escape precedes neither of the two characters. Errors: out
+/// of memory.
 pub fn split(alloc: Global, text: &str) -> Result<Option<Vec<String>>, NoMemory>
     ensures { IfOk result
         (λ o. MatchOption o

@@ -1,5 +1,6 @@
-//! `facets`: reads a script of a faceted search index from standard input, or with `--generate` makes one, carries it out on the store of a directory, its
-//! sessions at once, and writes the replies, or a line that sums them up, to standard output.
+//! `facets`: carries out a script of a faceted search index on the store of a directory, its sessions concurrently, and
+//! writes the replies to standard output. It reads the script from standard input. With `--generate` it makes one, and
+//! writes a line that sums up the replies.
 #![tactic(auto)]
 
 use facet_disk::StdDisk;
@@ -11,10 +12,10 @@ use std::hash::RandomState;
 use std::io::ErrorKind;
 use std::process::ExitCode;
 
-// The exit status if the operating system has no random numbers. No run ends with it.
+// The exit status if the operating system has no random numbers. Nothing else ends with it.
 const NO_RANDOM: u8 = 14;
 
-// The words behind the program's name. None stands for all where one is not UTF-8.
+// Returns the command-line arguments after the program's name. If one is not UTF-8, it returns none of them.
 fn words(rt: &HostRuntime) -> Result<Vec<String>, NoMemory> {
     let alloc = rt.alloc();
     let mut words = Vec::new(alloc);
@@ -33,7 +34,7 @@ fn words(rt: &HostRuntime) -> Result<Vec<String>, NoMemory> {
     }
 }
 
-// The disk in the directory that the words name, or in the current one.
+// Returns the disk in the directory that the arguments name, or in the current one.
 fn disk_of<'a>(
     rt: &'a HostRuntime,
     words: &[String],

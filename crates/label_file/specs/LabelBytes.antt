@@ -1,4 +1,4 @@
--- The labels of a taxonomy segment, format 1: the one spelling of them.
+-- The labels of a taxonomy segment, format 1: their only spelling.
 use Rattle.std.specs.Prelude.{ℕ, ◌-◌, List, ◌++◌, length, drop}
 use Rattle.std.specs.Option.{option_map_or}
 use Rattle.std.specs.List.{flat_map}
@@ -8,12 +8,12 @@ use Rattle.facet_names.specs.Labels.{above, place}
 use Rattle.facet_codec.specs.Spelling.{be32, text}
 use Rattle.facet_codec.specs.Laws.{IsText}
 
--- what is stored of a label: it is a path, and its last component is a text
+-- a label can be stored: it is a path, and its last component is a text
 pub record IsStorable (path : List (List ℕ)) : Type 0 where
   pub fits : IsPath path
   pub last : IsText 1024 (last_part path)
 
--- the ordinal of a path's parent among these labels, where it is there; the root's is 0
+-- the ordinal of a path's parent among these labels, if it is there; the root's is 0
 abbrev pub parent_ordinal : List (List (List ℕ)) → List (List ℕ) → ℕ
 parent_ordinal labels path = option_map_or (λ ord. ord) (place labels (above path)) 0
 

@@ -5,7 +5,7 @@ use Rattle.facet_codec.specs.Places.{IsBytes}
 use Rattle.label_file.specs.LabelBytes.{labels_bytes}
 use Rattle.label_file.specs.LabelReading.{stored_labels}
 
--- a label list goes on to a label list
+-- a label list stays a label list
 abbrev pub GoesOnToList : Type 0
 GoesOnToList = (known labels : List (List (List ℕ))) (first count : ℕ) (bytes : List ℕ) → IsLabelList known → stored_labels known first count bytes ≡ Ok labels → IsLabelList labels × GoesOn known labels
 
@@ -17,6 +17,6 @@ HasSoManyMore = (known labels : List (List (List ℕ))) (first count : ℕ) (byt
 abbrev pub HasSome : Type 0
 HasSome = (known labels : List (List (List ℕ))) (first count : ℕ) (bytes : List ℕ) → stored_labels known first count bytes ≡ Ok labels → 0 < count
 
--- the bytes are the one spelling of its labels behind the known ones
+-- the bytes are the only spelling of its labels after the known ones
 abbrev pub HasOneSpelling : Type 0
 HasOneSpelling = (known labels : List (List (List ℕ))) (count : ℕ) (bytes : List ℕ) → IsBytes bytes → IsLabelList known → stored_labels known (length known) count bytes ≡ Ok labels → bytes ≡ labels_bytes labels (length known)

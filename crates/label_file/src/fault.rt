@@ -6,10 +6,10 @@ use facet_names::NoMemory;
 /// Why labels were not read.
 #[derive(Clone, Copy, Debug, PartialEq, Eq)]
 pub enum LabelsFault {
-    /// The bytes are no taxonomy segment of the wanted labels. `at` is the place of the first fault that reading them from left to right meets, in
-    /// bytes from the first one of all.
+    /// The bytes are not a taxonomy segment of the expected labels. `at` is the place of the first fault in reading
+    /// from left to right, in bytes from 0.
     Malformed { at: u64 },
-    /// An allocation was refused.
+    /// Out of memory.
     NoMemory,
 }
 

@@ -1,8 +1,8 @@
-//! Laws of taxonomy segments, for proofs of the crates above. The call does nothing: its contract is the laws.
+//! Laws of taxonomy segments, for proofs of other crates. The call does nothing: its contract is the laws.
 
 ghost use Rattle.label_file.specs.LabelLaws.{GoesOnToList, HasSoManyMore, HasSome, HasOneSpelling};
 
-/// Labels that were read behind a label list.
+/// States the laws of labels that were read after a label list.
 pub fn of_labels()
     ensures list { GoesOnToList }
     ensures length { HasSoManyMore }

@@ -10,7 +10,7 @@ use facet_names::{NoMemory, Path, PathFault};
 use std::alloc::Global;
 use taxo_list::{Labelled, TaxoFault, Taxonomy};
 
-/// Passes four bytes, which have to be this number.
+/// Reads four bytes, which have to be this number.
 #[tactic(auto, unfolding(crate::specs::LabelReading::behind))]
 fn number(cursor: &mut Cursor<'_>, wanted: u32) -> Result<(), LabelsFault>
     ensures ok { OnOk result (behind wanted cursor.old ≡ Ok cursor.new) }
@@ -23,7 +23,7 @@ fn number(cursor: &mut Cursor<'_>, wanted: u32) -> Result<(), LabelsFault>
     Ok(())
 }
 
-/// Passes the bytes before the labels.
+/// Reads the bytes before the labels.
 #[tactic(auto, unfolding(crate::specs::LabelReading::head_at))]
 fn head(cursor: &mut Cursor<'_>, first: u32, count: u32) -> Result<(), LabelsFault>
     ensures ok { OnOk result (head_at first count cursor.old ≡ Ok cursor.new) }
@@ -40,7 +40,7 @@ fn head(cursor: &mut Cursor<'_>, first: u32, count: u32) -> Result<(), LabelsFau
     Ok(())
 }
 
-/// The path of a component below the label at an ordinal, or why it is no path.
+/// Returns the path of a component below the label at an ordinal, or why it is not a path.
 fn joined(labels: &Taxonomy, alloc: Global, parent: u32, part: &str) -> Result<Path, PathFault>
     requires list { IsLabelList labels.now }
     requires within { parent < length labels.now }
@@ -55,7 +55,8 @@ fn joined(labels: &Taxonomy, alloc: Global, parent: u32, part: &str) -> Result<P
     labels.path_of(parent).child(alloc, part)
 }
 
-/// The path of a component below the label at an ordinal; None where it is no path or stands already.
+/// Returns the path of a component below the label at an ordinal. It returns `None` if it is not a path, or if the list
+/// has it.
 #[tactic(auto, unfolding(crate::specs::LabelReading::path_below))]
 fn path_below(
     labels: &Taxonomy,
@@ -79,7 +80,7 @@ fn path_below(
     Ok(Some(path))
 }
 
-/// The ordinal of a parent, which has to be one of so many labels.
+/// Reads the ordinal of a parent, which has to be below `known`.
 #[tactic(auto, unfolding(crate::specs::LabelReading::parent_at))]
 fn parent_at(cursor: &mut Cursor<'_>, known: u32) -> Result<u32, LabelsFault>
     ensures ok { IfOk result (λ parent. parent_at known cursor.old ≡ Ok (parent, cursor.new)) }
@@ -94,7 +95,7 @@ fn parent_at(cursor: &mut Cursor<'_>, known: u32) -> Result<u32, LabelsFault>
     Ok(parent)
 }
 
-/// Adds the label that is read.
+/// Reads a label and adds it.
 #[tactic(auto, unfolding(crate::specs::LabelReading::label_at))]
 fn label(labels: &mut Taxonomy, alloc: Global, cursor: &mut Cursor<'_>) -> Result<(), LabelsFault>
     requires { length labels.old < 1000000 }
@@ -117,7 +118,7 @@ fn label(labels: &mut Taxonomy, alloc: Global, cursor: &mut Cursor<'_>) -> Resul
     }
 }
 
-/// Adds so many labels.
+/// Reads `count` labels and adds them.
 fn labels_after(
     labels: &mut Taxonomy,
     alloc: Global,
@@ -136,12 +137,14 @@ fn labels_after(
     Ok(())
 }
 
-/// Puts the labels of a taxonomy segment behind these. The segment, which is all of the bytes, has to be one of `count` labels, the first of which has
-/// the ordinal `first`; `count` is at least 1. Each label's parent stands before it, which is seen before its text is read, and no label stands twice, also
-/// among the labels before.
+/// Reads a taxonomy segment and adds its labels after the others. The bytes have to be exactly one segment of `count`
+/// labels, at least 1, whose first label has the ordinal `first`. A label's parent precedes it, and no label may occur
+/// twice, also among the labels before.
 ///
-/// After a fault the first of the segment's labels may stand behind the others, and no others do. It reads the bytes once from left to right, and takes
-/// memory for each label when that was read, whatever the count says.
+/// Costs: it reads the bytes once from left to right, and looks each label up once. It allocates memory for each label
+/// after reading it, whatever `count` is. A parent's ordinal is checked before the text is read.
+///
+/// Errors: the first fault; out of memory. Then the first labels of the segment may have been added, and no others.
 #[tactic(auto, unfolding(crate::specs::LabelReading::stored_labels))]
 pub fn read_labels(
     labels: &mut Taxonomy,

@@ -36,8 +36,10 @@ fn put_labels(out: &mut Vec<u8>, view: &TaxoView, first: u32) -> Result<(), NoMe
     Ok(())
 }
 
-/// The taxonomy segment of the labels from the ordinal `first` on. It takes memory for the bytes: five or six for each label beside those of its last
-/// component, and 16 before the labels.
+/// Returns the taxonomy segment of the labels from the ordinal `first` on. It allocates the bytes: 16, and for each
+/// label five or six and those of its last component.
+///
+/// Errors: out of memory.
 #[tactic(auto, unfolding(crate::specs::LabelBytes::labels_bytes))]
 pub fn write_labels(alloc: Global, view: &TaxoView, first: u32) -> Result<Vec<u8>, NoMemory>
     requires some { 0 < first }

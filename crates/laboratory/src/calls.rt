@@ -1,4 +1,4 @@
-//! Steps that are calls of the disk, and the lines of their answers.
+//! Steps that are disk calls, and the lines of their results.
 use crate::parsing::{dir_of, name_of};
 use anyhow::anyhow;
 use facet_disk::{Dir, Disk, DiskFault, FileName, MemoryDisk};
@@ -19,7 +19,7 @@ fn done(alloc: Global, answer: Result<(), DiskFault>) -> anyhow::Result<String> 
     }
 }
 
-// The names in their order, separated by spaces.
+// Returns the names in order, separated by spaces.
 fn joined(alloc: Global, names: &[FileName]) -> anyhow::Result<String> {
     let mut text = String::new(alloc);
     for (at, name) in names.iter().enumerate() {
@@ -40,7 +40,7 @@ fn list(alloc: Global, disk: &mut MemoryDisk, dir: Dir) -> anyhow::Result<String
     }
 }
 
-// The bytes of a file, those that are not printable ASCII as `\x00`.
+// Returns the bytes of a file. Those that are not printable ASCII are written as `\x00`.
 fn read(alloc: Global, disk: &mut MemoryDisk, name: FileName) -> anyhow::Result<String> {
     match disk.read(alloc, name) {
         Ok(bytes) => Ok(format!(in alloc; "{}", bytes.as_slice().escape_ascii())?),
@@ -48,13 +48,13 @@ fn read(alloc: Global, disk: &mut MemoryDisk, name: FileName) -> anyhow::Result<
     }
 }
 
-// How many calls there were, and how many of them were refused or failed.
+// Returns how many calls there were, and how many of them failed.
 fn counted(alloc: Global, disk: &MemoryDisk) -> anyhow::Result<String> {
     let (calls, faults) = (disk.call_count(), disk.fault_count());
     Ok(format!(in alloc; "{calls} calls, {faults} faults")?)
 }
 
-/// Takes such a step, and answers its line.
+/// Makes the disk call of a step, and returns the line of its result.
 pub fn call(
     alloc: Global,
     disk: &mut MemoryDisk,

@@ -2,7 +2,7 @@ use facet_shell::Gate;
 use std::sync::atomic::{AtomicBool, Ordering};
 use std::thread;
 
-/// Holds one session until another was answered, or for so many turns that it gives up; session 0 is none.
+/// Holds one session until another session was answered. It gives up after a number of yields. Session 0 means none.
 #[derive(Drop)]
 pub struct HoldsOne {
     held: u32,
@@ -11,6 +11,7 @@ pub struct HoldsOne {
 }
 
 impl HoldsOne {
+    /// Holds this session, or none for 0.
     pub fn new(held: u32) -> HoldsOne {
         HoldsOne {
             held,
@@ -19,6 +20,7 @@ impl HoldsOne {
         }
     }
 
+    /// Returns whether it gave up.
     pub fn gave_up(&self) -> bool {
         self.gave_up.load(Ordering::SeqCst)
     }

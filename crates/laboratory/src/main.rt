@@ -1,7 +1,8 @@
-//! `laboratory`: runs of the program over a source, a sink and a disk in memory, whose single reads, writes and calls fail, and which stops after any call.
+//! `laboratory`: runs the program over a source, a sink and a disk in memory, whose reads, writes and calls fail on
+//! request, and stops it after any call.
 //!
-//! It reads a list of steps from standard input, one per line, takes them in order, and writes what comes of them to standard output. `steps` lists them. A
-//! line that is no step ends it with a status other than 0.
+//! It reads a list of steps from standard input, one per line, carries them out in order, and writes their results to
+//! standard output. `steps` lists them. A line that is not a step ends it with a status other than 0.
 #![tactic(auto)]
 
 mod calls;
@@ -18,7 +19,7 @@ use setup::Setup;
 use std::hash::RandomState;
 use steps::step;
 
-// The most bytes that a list of steps may have.
+// the greatest number of bytes of a list of steps
 const MOST: usize = 67_108_864;
 
 fn read_steps(rt: &HostRuntime) -> anyhow::Result<String> {

@@ -1,14 +1,14 @@
-//! The parts of a step: numbers, names of files and stops.
+//! The parts of a step: numbers, file names and crashes.
 use anyhow::Context;
 use facet_disk::{Dir, FileName, Pick, Unsynced};
 use std::alloc::Global;
 
-/// A decimal number.
+/// Parses a decimal number.
 pub fn number(text: &str) -> anyhow::Result<u64> {
     text.parse().ok().context("a number")
 }
 
-/// Decimal numbers, separated by spaces.
+/// Parses decimal numbers, separated by spaces.
 pub fn numbers(alloc: Global, text: &str) -> anyhow::Result<Vec<u64>> {
     let mut numbers = Vec::new(alloc);
     for word in text.split(' ') {
@@ -19,7 +19,7 @@ pub fn numbers(alloc: Global, text: &str) -> anyhow::Result<Vec<u64>> {
     Ok(numbers)
 }
 
-/// Words, separated by single spaces.
+/// Splits a text into words, separated by single spaces.
 pub fn words(alloc: Global, text: &str) -> anyhow::Result<Vec<String>> {
     let mut words = Vec::new(alloc);
     for word in text.split(' ') {
@@ -41,12 +41,12 @@ fn find_name(text: &str) -> Option<FileName> {
     FileName::from_entry(find_dir(dir)?, entry)
 }
 
-/// A directory: `taxonomy` or `index`.
+/// Parses the name of a directory: `taxonomy` or `index`.
 pub fn dir_of(text: &str) -> anyhow::Result<Dir> {
     find_dir(text).context("a directory")
 }
 
-/// A file, as `index/segment-3`.
+/// Parses the name of a file, such as `index/segment-3`.
 pub fn name_of(text: &str) -> anyhow::Result<FileName> {
     find_name(text).context("a file")
 }
@@ -68,7 +68,7 @@ fn are_names_done(text: &str) -> Option<bool> {
     }
 }
 
-/// After how many calls a disk stops, and what that leaves, as `14 gone undone`.
+/// Parses after how many calls a disk crashes, and what that leaves, such as `14 gone undone`.
 pub fn stop_of(text: &str) -> Option<(u64, Pick)> {
     let (calls, pick) = text.split_once(' ')?;
     let (files, names) = pick.split_once(' ')?;

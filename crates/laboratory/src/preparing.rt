@@ -1,4 +1,4 @@
-//! Steps that change what the next run starts with.
+//! Steps that change what the next invocation starts with.
 use crate::parsing::{number, numbers, stop_of, words};
 use crate::setup::{Setup, empty_disk};
 use anyhow::Context;
@@ -6,7 +6,7 @@ use facet_disk::MemoryDisk;
 use std::alloc::Global;
 use std::mem;
 
-// Steps of numbers.
+// Carries out steps of numbers.
 fn set_numbers(alloc: Global, setup: &mut Setup, verb: &str, rest: &str) -> anyhow::Result<bool> {
     match verb {
         "reads" => setup.reads = numbers(alloc, rest)?,
@@ -19,7 +19,7 @@ fn set_numbers(alloc: Global, setup: &mut Setup, verb: &str, rest: &str) -> anyh
     Ok(true)
 }
 
-// The disk becomes what a stop of the kept one may leave.
+// Replaces the disk with what a crash of the kept one may leave.
 fn stop(alloc: Global, setup: &mut Setup, rest: &str) -> anyhow::Result<()> {
     let (calls, pick) = stop_of(rest).context("a stop")?;
     let left = setup.kept.stopped(alloc, calls, pick);
@@ -27,7 +27,7 @@ fn stop(alloc: Global, setup: &mut Setup, rest: &str) -> anyhow::Result<()> {
     Ok(())
 }
 
-/// Takes such a step, or answers false where it is another.
+/// Carries out such a step, or returns false if it is another.
 pub fn prepare(alloc: Global, setup: &mut Setup, verb: &str, rest: &str) -> anyhow::Result<bool> {
     match verb {
         "words" => setup.words = words(alloc, rest)?,

@@ -8,16 +8,18 @@ use std::mem;
 use std::sync::Wait;
 use std::thread::Threads;
 
-/// How a run ended.
+/// How an invocation ended.
 #[derive(Drop)]
 pub struct Ran {
+    /// The exit status.
     pub status: Status,
+    /// What was written.
     pub sink: MemorySink,
-    /// Whether the held session went on though no other was answered.
+    /// Whether the held session went on although no other was answered.
     pub gave_up: bool,
 }
 
-// The script and its failing reads, which the next run starts without.
+// Takes the script and its failing reads, which the next invocation starts without.
 fn take_source(alloc: Global, setup: &mut Setup) -> MemorySource {
     let script = mem::replace(&mut setup.script, Vec::new(alloc));
     let reads = mem::replace(&mut setup.reads, Vec::new(alloc));
@@ -29,7 +31,7 @@ fn take_sink(alloc: Global, setup: &mut Setup) -> MemorySink {
     MemorySink::new(alloc, writes)
 }
 
-/// Runs the script over the disk, and leaves there what the run left.
+/// Runs the script over the disk, which afterwards is as the program left it.
 pub fn run_script<R: AllocGlobal + Threads + Wait + Sync>(rt: &R, setup: &mut Setup) -> Ran {
     let alloc = rt.alloc();
     let mut source = take_source(alloc, setup);

@@ -2,16 +2,16 @@ use facet_disk::MemoryDisk;
 use std::alloc::Global;
 use std::hash::RandomState;
 
-/// What the next run starts with, and the disk that was kept.
+/// What the next invocation starts with, and the disk that was kept.
 #[derive(Drop)]
 pub struct Setup {
-    /// The keys that hash labels and terms.
+    /// The hash keys of labels and terms.
     pub keys: RandomState,
     /// The script so far.
     pub script: Vec<u8>,
     /// The command-line arguments.
     pub words: Vec<String>,
-    /// The most bytes that a read gives.
+    /// How many bytes a read returns at most.
     pub piece: usize,
     /// The reads of the script that fail, counted from 1.
     pub reads: Vec<u64>,
@@ -19,12 +19,14 @@ pub struct Setup {
     pub writes: Vec<u64>,
     /// The session that is held until another was answered, or 0.
     pub held: u32,
+    /// The disk of the next invocation.
     pub disk: MemoryDisk,
+    /// The disk that was kept.
     pub kept: MemoryDisk,
 }
 
 impl Setup {
-    /// No script and no argument, over an empty disk, and nothing fails.
+    /// Returns a setup without a script and arguments, over an empty disk, in which nothing fails.
     pub fn new(alloc: Global, keys: RandomState) -> Setup {
         Setup {
             keys,
@@ -47,7 +49,7 @@ impl Setup {
     }
 }
 
-/// A disk with no file, none of whose calls fail.
+/// Returns a disk without a file, none of whose calls fail.
 pub fn empty_disk(alloc: Global) -> MemoryDisk {
     MemoryDisk::new(alloc, Vec::new(alloc))
 }

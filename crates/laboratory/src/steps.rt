@@ -1,20 +1,20 @@
-//! The steps.
+//! The steps:
 //!
-//! | Step | What it does |
-//! |---|---|
-//! | `{..}` | adds the line to the script of the next run |
-//! | `words A ..` | sets the command-line arguments of the runs |
-//! | `piece N` | sets the most bytes that a read of the script gives |
-//! | `reads N ..`, `writes N ..` | lets these reads of the script and writes of replies fail in the next run |
-//! | `hold S` | holds session S in the runs until another session was answered; 0 holds none |
-//! | `calls N ..` | takes an empty disk, on which these calls fail |
-//! | `run` | runs, and writes the replies and the status |
-//! | `keep` | keeps the disk, and takes an empty one |
-//! | `stop N FILES NAMES` | takes the disk that a stop of the kept one after N calls may leave, where files that were not synced are `gone`, `whole` or `zeroed`, and renames and removals that were not synced are `done` or `undone` |
-//! | `list DIR`, `read FILE`, `put FILE TEXT`, `sync FILE`, `rename FILE FILE`, `names DIR`, `remove FILE` | calls the disk, and writes the answer |
-//! | `count` | writes how many calls the disk had, and how many of them were refused or failed |
-//! | `say TEXT` | writes the text |
-//! | | an empty line does nothing |
+//! - `{..}` adds the line to the script of the next invocation.
+//! - `words A ..` sets the command-line arguments of all later invocations.
+//! - `piece N` sets how many bytes a read of the script returns at most.
+//! - `reads N ..` and `writes N ..` let these reads of the script and writes of replies fail in the next invocation.
+//! - `hold S` holds session S in all later invocations until another session was answered; 0 holds none.
+//! - `calls N ..` takes an empty disk, on which these calls fail.
+//! - `run` runs the program, and writes the replies and the status.
+//! - `keep` keeps the disk, and takes an empty one.
+//! - `stop N FILES NAMES` takes the disk that a crash of the kept one after N calls may leave. Files that were not
+//!   synced are `gone`, `whole` or `zeroed`. Renames and removals that were not synced are `done` or `undone`.
+//! - `list DIR`, `read FILE`, `put FILE TEXT`, `sync FILE`, `rename FILE FILE`, `names DIR` and `remove FILE` call the
+//!   disk, and write the result.
+//! - `count` writes how many calls the disk had, and how many of them failed.
+//! - `say TEXT` writes the text.
+//! - An empty line does nothing.
 use crate::calls::call;
 use crate::preparing::prepare;
 use crate::runs::run_script;
@@ -34,7 +34,7 @@ fn run<R: AllocGlobal + Threads + Wait + Sync + Print>(
     Ok(())
 }
 
-/// Takes a step.
+/// Carries out a step.
 pub fn step<R: AllocGlobal + Threads + Wait + Sync + Print>(
     rt: &R,
     setup: &mut Setup,

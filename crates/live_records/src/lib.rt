@@ -1,4 +1,5 @@
-//! Which of a segment's records are live, as Lucene's `liveDocs`: a record that is deleted keeps its place in the segment, and its place is noted here.
+//! Which of a segment's records are live, as Lucene's `liveDocs`. A deleted record keeps its place in the segment, and
+//! its place is listed here.
 #![tactic(auto)]
 
 pub mod laws;

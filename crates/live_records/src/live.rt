@@ -11,7 +11,7 @@ use seg_postings::Places;
 use std::alloc::Global;
 use std::marker::Model;
 
-/// Which of the records of a segment are live: all but those at some places, 4 bytes each.
+/// Which of the records of a segment are live. It stores the places of the dead ones, rising, 4 bytes each.
 #[derive(Drop)]
 pub struct LiveRecords {
     docs: u32,
@@ -33,7 +33,7 @@ impl Model for LiveRecords {
 }
 
 impl LiveRecords {
-    /// All of so many records. It takes no memory.
+    /// Returns that all of `docs` records are live. It allocates nothing.
     pub fn all(alloc: Global, docs: u32) -> LiveRecords
         ensures { result ≡ record { docs = docs; dead = [] } }
     {
@@ -43,14 +43,14 @@ impl LiveRecords {
         }
     }
 
-    /// How many records are live.
+    /// Returns how many records are live, in constant time.
     pub fn number(&self) -> u32
         ensures { result ≡ live_before self.now.dead self.now.docs }
     {
         self.docs - self.dead.len() as u32
     }
 
-    /// Whether the record at the place is live. It bisects.
+    /// Returns whether the record at the place is live, by binary search.
     pub fn is_live(&self, place: u32) -> bool
         ensures { result ≡ not (is_dead self.now.dead place) }
     {
@@ -58,14 +58,14 @@ impl LiveRecords {
         at == self.dead.len() || self.dead[at] != place
     }
 
-    /// How many live records stand before the place. It bisects.
+    /// Returns how many live records are before the place, by binary search.
     pub fn rank(&self, place: u32) -> u32
         ensures { result ≡ live_before self.now.dead place }
     {
         place - first_from(&self.dead, place) as u32
     }
 
-    /// The place of the live record before which so many live ones stand. It bisects.
+    /// Returns the place of the live record with `rank` live ones before it, by binary search.
     pub fn place_of(&self, rank: u32) -> u32
         requires { rank < live_before self.now.dead self.now.docs }
         ensures within { result < self.now.docs }
@@ -75,7 +75,7 @@ impl LiveRecords {
         rank + past_rank(&self.dead, rank) as u32
     }
 
-    /// The places of the records that are not live.
+    /// Returns the places of the records that are not live, rising.
     pub fn dead(&self) -> &[u32]
         ensures dead { result.now ≡ self.now.dead }
         ensures rise { IsRising self.now.dead }
@@ -84,7 +84,8 @@ impl LiveRecords {
         &self.dead
     }
 
-    /// The records that are live but for those at these places. In between it takes an eighth of a byte a record.
+    /// Returns the live records without those at these places. While it works it takes one bit per record. Errors: out
+    /// of memory.
     pub fn without(&self, alloc: Global, places: &[u32]) -> Result<LiveRecords, NoMemory>
         requires { AllByRecursion (IsBelow self.now.docs) places.now }
         ensures docs { IfOk result (λ r. r.docs ≡ self.now.docs) }
@@ -112,7 +113,7 @@ fn add_each(set: &mut Bits, places: &[u32])
     }
 }
 
-// The places of the set.
+// Returns the places of the set.
 fn listed(alloc: Global, set: Bits) -> Result<Vec<u32>, NoMemory>
     ensures all { IfOk result (λ v. v.items ≡ set.places) }
     ensures rise { IsRising set.places }

@@ -1,10 +1,10 @@
-//! Searches among rising places, by halving.
+//! Binary searches among rising places.
 ghost use Rattle.std.specs.Prelude.{◌≤◌, length};
 ghost use Rattle.seg_postings.specs.Rising.{IsRising};
 ghost use Rattle.seg_postings.specs.Steps.{IsFirstFrom};
 ghost use Rattle.live_records.specs.Live.{IsPastRank};
 
-/// How many of the places are below `place`.
+/// Returns how many of the places are below `place`.
 pub(crate) fn first_from(places: &[u32], place: u32) -> usize
     requires { IsRising places.now }
     ensures first { IsFirstFrom place places.now result result }
@@ -23,7 +23,7 @@ pub(crate) fn first_from(places: &[u32], place: u32) -> usize
     low
 }
 
-/// How many of the places have at most `rank` others below them that are none of these.
+/// Returns how many of the places have at most `rank` places below them that are not in the list.
 pub(crate) fn past_rank(places: &[u32], rank: u32) -> usize
     requires { IsRising places.now }
     ensures past { IsPastRank rank places.now result result }

@@ -1,4 +1,4 @@
--- What the policy is good for.
+-- What the policy guarantees.
 use Rattle.std.specs.Prelude.{◌≡◌, ◌≤◌, ◌*◌, ◌^◌, ℕ, List, ◌∷◌, length, sum}
 use Rattle.std.specs.List.{AllByRecursion}
 use Rattle.merge_policy.specs.Tiers.{IsSome, IsTiered, first_small, merged_from}

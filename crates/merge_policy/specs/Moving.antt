@@ -1,7 +1,7 @@
--- How often documents are moved where each segment that comes is followed by the merge that the policy names.
+-- How often documents are moved if the policy is applied after each new segment.
 use Rattle.std.specs.Prelude.{ℕ, ◌≤◌, ◌+◌, ◌*◌, ◌^◌, max, nat_le, if◌then◌else◌, List, [], ◌∷◌, ◌++◌, map, fold, sum, sum_by}
 
--- the segments, each with its size and with the most moves of any of its documents; and how many documents were moved in all
+-- the segments, each with its size and the most moves of any of its documents; and how many documents were moved in all
 pub record Tiers : Type 0 where
   pub segments : List (ℕ × ℕ)
   pub work : ℕ
@@ -17,21 +17,21 @@ abbrev pub most_moves : List (ℕ × ℕ) → ℕ
 most_moves [] = 0
 most_moves (s ∷ ss) = max s.1 (most_moves ss)
 
--- from the first segment on that has less than a third of the documents behind it, all become one
+-- all segments become one, from the first on that has less than a third of the documents after it
 abbrev pub merged : List (ℕ × ℕ) → Tiers
 merged [] = record { segments = []; work = 0 }
 merged (s ∷ ss) = if nat_le (sum (sizes_in ss)) (3 * s.0)
     then record { segments = s ∷ (merged ss).segments; work = (merged ss).work }
     else record { segments = (s.0 + sum (sizes_in ss), most_moves (s ∷ ss) + 1) ∷ []; work = s.0 + sum (sizes_in ss) }
 
--- one segment comes
+-- one segment is added
 abbrev pub added : Tiers → ℕ → Tiers
 added tiers size = record {
   segments = (merged (tiers.segments ++ (size, 0) ∷ [])).segments;
   work = tiers.work + (merged (tiers.segments ++ (size, 0) ∷ [])).work;
 }
 
--- segments of these sizes come one after the other
+-- segments of these sizes are added one after the other
 abbrev pub kept : List ℕ → Tiers
 kept adds = fold added (record { segments = []; work = 0 }) adds
 

@@ -1,4 +1,5 @@
-//! When segments are merged, so that there are few of them and each document is seldom moved. As Lucene's `LogMergePolicy`, it merges neighbours alone.
+//! When to merge segments, so that there are few of them and each document is seldom moved. It merges only neighbours,
+//! as Lucene's `LogMergePolicy`.
 #![tactic(auto)]
 
 mod laws;

@@ -1,11 +1,13 @@
 ghost use Rattle.std.specs.Prelude.{◌≡◌, ◌≤◌, ◌<◌, ◌+◌, length, sum};
 ghost use Rattle.merge_policy.specs.Tiers.{IsTiered, first_small, merged_from};
 
-/// Returns the first segment that becomes one with all segments behind it: the first that has less than a third of the documents behind it. The sizes are the
-/// numbers of documents of the segments, in their order. Where no segment is to be merged, it returns how many segments there are.
+/// Returns the first segment to merge with all segments after it: the first that has less than a third of the documents
+/// after it. If no segment is to be merged, it returns the number of segments. `sizes` are the numbers of documents of
+/// the segments, in order.
 ///
-/// It goes over the sizes once. The documents keep their order, since neighbours alone are merged. Where it is asked after each of 100,000 segments of one
-/// document, there are never more than 25 segments, and a document is moved 7.6 times.
+/// It visits the sizes once, and allocates nothing. The documents keep their order, since only neighbours are merged.
+/// If it is applied after each of 100,000 segments of one document, there are never more than 25 segments, and each
+/// document is moved 7.6 times on average.
 pub fn merge_from(sizes: &[u32]) -> usize
     requires few { sum sizes.now ≤ 1000000 }
     ensures first { result ≡ first_small sizes.now }

@@ -6,7 +6,7 @@ use facet_model::{Counted, DocShape, Document};
 use seg_file::Entry;
 use std::alloc::Global;
 
-/// The entry of a document without a facet.
+/// Returns the entry of a document without a facet.
 pub fn bare_entry(alloc: Global, id: &str, text: &str) -> Result<Entry, DocShape>
     ensures doc { IfOk result (λ e. e.doc ≡ record { id = id.now; text = text.now; labels = [] }) }
     ensures bare { IfOk result (λ e. (e.doc.labels ≡ []) × (e.leaves.items ≡ []) × (e.counted ≡ [])) }

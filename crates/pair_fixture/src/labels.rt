@@ -11,11 +11,14 @@ use taxo_list::Taxonomy;
 use taxo_writer::LabelList;
 use test_keys::fixed_keys;
 
-/// The chronicle of no labels but the root, with its first token, and the keys that hash its labels, the same at each run.
+/// A chronicle of only the root, with its first token, and fixed hash keys.
 #[derive(Drop)]
 pub struct Opened {
+    /// The hash keys of labels, the same in each test.
     pub keys: RandomState,
+    /// The chronicle.
     pub labels: Chronicle<LabelList>,
+    /// Its first token.
     pub first: Token<Path>,
     ghost own: { first.identity ≡ labels },
     ghost rests: { MayTake first },
@@ -25,7 +28,7 @@ pub struct Opened {
     ghost framed: { first.frame ≡ empty_frame },
 }
 
-/// Opens a list of no label; `None` without memory.
+/// Opens a chronicle of only the root. Returns `None` if it runs out of memory.
 pub fn open_labels(alloc: Global) -> Option<Opened> {
     let keys = fixed_keys().ok()?;
     let list = Taxonomy::new(alloc, keys).ok()?;

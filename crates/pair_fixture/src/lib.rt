@@ -1,5 +1,5 @@
-//! What tests and measurements of published pairs begin with: the chronicle of no label, a manager over no documents with two passes, and names and
-//! entries for what sessions add.
+//! The beginning of tests and measurements of published pairs: the chronicle of only the root, a manager over no
+//! documents with two passes, and names and entries for what sessions add.
 #![tactic(auto)]
 
 mod entries;

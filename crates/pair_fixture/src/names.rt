@@ -4,7 +4,7 @@ ghost use Rattle.pair_fixture.specs.Names.{LabelsDiffer, label_of, name_of};
 use facet_names::{NoMemory, Path};
 use std::alloc::Global;
 
-/// The id of the document of this number that the session adds, and the name of its label.
+/// Returns the id of the session's document of this number, which is also the name of its label.
 pub fn name_of(alloc: Global, session: u32, number: u32) -> Result<String, NoMemory>
     ensures { IfOk result (λ t. string_bytes t ≡ name_of session number) }
 {
@@ -12,7 +12,7 @@ pub fn name_of(alloc: Global, session: u32, number: u32) -> Result<String, NoMem
 }
 
 #[tactic(auto, using(crate::proofs::Fitting::label_fits))]
-/// The label of that document, of two components.
+/// Returns the label of that document, of two components.
 pub fn label_of(alloc: Global, session: u32, number: u32) -> Result<Path, NoMemory>
     ensures { IfOk result (λ p. p ≡ label_of session number) }
 {
@@ -20,7 +20,7 @@ pub fn label_of(alloc: Global, session: u32, number: u32) -> Result<Path, NoMemo
     Path::of_valid(alloc, &["Name", &name])
 }
 
-/// A law: no two of these labels are equal.
+/// States that no two of these labels are equal.
 pub fn labels_differ()
     ensures { LabelsDiffer }
 {}

@@ -18,7 +18,7 @@ use std::sync::{Arc, Wait};
 use taxo_cache::Name;
 use taxo_writer::TaxoWriter;
 
-// What stands for the commits: nothing is committed.
+// A value for the commits' chronicle: nothing is committed.
 #[derive(Drop)]
 struct Commits {
     operations: Token<Operation>,
@@ -43,14 +43,17 @@ impl Standing for Commits {
 /// A manager over no documents, and two passes.
 #[derive(Drop)]
 pub struct Begun<N: Name> {
+    /// The manager.
     pub manager: Manager<N>,
+    /// The pass of session 0.
     pub first: Pass,
+    /// Another pass, made from the first one.
     pub second: Pass,
     ghost own: { IsOf manager first },
     ghost own_second: { IsOf manager second },
 }
 
-// Two passes of these first tokens. Nobody keeps the chronicle of their commits.
+// Makes two passes of these first tokens. The chronicle of their commits is dropped.
 fn passes_of<N: Name>(
     alloc: Global,
     manager: &Manager<N>,
@@ -96,7 +99,8 @@ fn passes_of<N: Name>(
     Ok((first, second))
 }
 
-/// Publishes the pair of no documents, over these labels: of 16 stripes that have room for 4,096 paths each, and of at most a million labels and documents.
+/// Publishes the pair of no documents, over these labels. The cache has 16 stripes of 4,096 paths each, and the limits
+/// are 1,000,000 labels and documents. Errors: out of memory.
 pub fn begin<N: Name, R: Wait>(rt: &R, alloc: Global, opened: Opened) -> Result<Begun<N>, NoMemory>
     requires { opened.labels ≡ N.labels }
     ensures writer { IfOk result (λ b. b.manager.writer ≡ record { labels = opened.labels; limit = 1000000 }) }

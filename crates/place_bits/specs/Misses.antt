@@ -8,11 +8,11 @@ use Rattle.place_bits.specs.Words.{Marked}
 unfoldable pub fails : List Marked → ℕ → ℕ
 fails dims n = length (filter (λ d. not (is_in n d.places)) dims)
 
--- the sets have room for as many words
+-- the sets have as many words
 abbrev pub HaveWords : ℕ → List Marked → Type 0
 HaveWords words dims = AllByRecursion (λ d. d.words ≡ words) dims
 
--- The new set has the near misses of the old: the places of the base that it lacks and no other of the sets does, which rise.
+-- The new set has the near misses of the old one: the places of the base that it lacks and no other set lacks, rising.
 pub record IsNear (base : List ℕ) (dims : List Marked) (old new : Marked) : Type 0 where
   pub words : new.words ≡ old.words
   pub members : (n : ℕ) → is_in n new.places ≡ (is_in n base && (not (is_in n old.places) && nat_le (fails dims n) 1))

@@ -12,20 +12,20 @@ has words place = bit_at (slice_index words (place / 64)) (place % 64) == 1
 unfoldable pub members : List ℕ → List ℕ
 members words = filter (has words) (range_with_len 0 (64 * length words))
 
--- a set of places, and how many words it has room for
+-- a set of places, and how many words it has
 pub record Marked : Type 0 where
   pub words : ℕ
   pub places : List ℕ
 
--- what words stand for
+-- what words represent
 abbrev pub marked : List ℕ → Marked
 marked words = record { words = length words; places = members words }
 
--- what words stand for from a place on
+-- what words represent from a place on
 abbrev pub marked_from : ℕ → List ℕ → Marked
 marked_from next words = record { words = length words; places = from_place next (members words) }
 
--- the same room, for these places
+-- as many words, with these places
 abbrev pub with_places : List ℕ → Marked → Marked
 with_places places set = record { words = set.words; places = places }
 

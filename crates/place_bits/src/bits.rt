@@ -11,7 +11,7 @@ use seg_postings::Places;
 use std::alloc::{AllocError, Global};
 use std::marker::Model;
 
-/// A set of places below a bound, a bit each. It takes memory when it is made, and no later call does.
+/// A set of places below a bound, one bit each. It allocates when it is made, and no later call does.
 #[derive(Drop)]
 pub struct Bits {
     words: Vec<u64>,
@@ -29,7 +29,7 @@ impl Model for Bits {
 }
 
 impl Bits {
-    /// No places, with room for those below `docs`: an eighth of a byte for each.
+    /// Returns an empty set with a bit for each place below `docs`. Errors: out of memory.
     pub fn none(alloc: Global, docs: u32) -> Result<Bits, AllocError>
         ensures { IfOk result (λ b. b ≡ empty_set ((docs + 63) / 64)) }
     {
@@ -38,7 +38,7 @@ impl Bits {
         Ok(Bits { words })
     }
 
-    /// Has the places below `docs` and no others, a word at a time.
+    /// Sets the places below `docs` and clears all others, a word at a time.
     pub fn fill(&mut self, docs: u32)
         requires { docs ≤ 64 * self.old.words }
         ensures { self.new ≡ with_places (range_with_len 0 docs) self.old }
@@ -46,7 +46,7 @@ impl Bits {
         words::fill(&mut self.words, docs);
     }
 
-    /// Leaves the places that the other has too, a word at a time.
+    /// Keeps the places that the other set has too, a word at a time.
     pub fn keep(&mut self, other: &Bits)
         requires { self.old.words ≡ other.now.words }
         ensures words { self.new.words ≡ self.old.words }
@@ -56,7 +56,7 @@ impl Bits {
         words::keep(&mut self.words, &other.words);
     }
 
-    /// Leaves the places that the other lacks, a word at a time.
+    /// Keeps the places that the other set lacks, a word at a time.
     pub fn leave(&mut self, other: &Bits)
         requires { self.old.words ≡ other.now.words }
         ensures words { self.new.words ≡ self.old.words }
@@ -74,7 +74,7 @@ impl Bits {
         words::mark(&mut self.words, place);
     }
 
-    /// Adds all places that are left.
+    /// Adds all places that are left, one by one.
     pub fn mark<P: Places>(&mut self, places: &mut P)
         requires { AreBelow (64 * self.old.words) (P.left places.old) }
         ensures rising { IsRising (P.left places.old) }
@@ -84,14 +84,14 @@ impl Bits {
         words::mark_all(&mut self.words, places);
     }
 
-    /// How many places there are, by one count of bits a word.
+    /// Returns how many places the set has, with one count of bits per word.
     pub fn len(&self) -> u64
         ensures { result ≡ length self.now.places }
     {
         words::common(&self.words, &self.words)
     }
 
-    /// How many places both have, by one count of bits a word. It takes no memory.
+    /// Returns how many places both sets have, with one count of bits per word. It allocates nothing.
     pub fn common(&self, other: &Bits) -> u64
         requires { self.now.words ≡ other.now.words }
         ensures { result ≡ length (filter (λ n. is_in n other.now.places) self.now.places) }
@@ -99,7 +99,7 @@ impl Bits {
         words::common(&self.words, &other.words)
     }
 
-    /// Whether it has the place, in constant time.
+    /// Returns whether the set has the place, in constant time.
     pub fn has(&self, place: u32) -> bool
         requires { place < 64 * self.now.words }
         ensures has { result ≡ is_in place self.now.places }
@@ -108,7 +108,7 @@ impl Bits {
         words::has_place(&self.words, place)
     }
 
-    // The places whose bit is set in words.
+    // Makes the set of the bits that are set in words.
     pub(crate) fn of_words(words: Vec<u64>) -> Bits
         requires { length words.items ≤ 67108864 }
         ensures { result ≡ marked words.items }
@@ -116,7 +116,7 @@ impl Bits {
         Bits { words }
     }
 
-    /// The places, one after the other.
+    /// Visits the places one after the other. It allocates nothing.
     pub fn into_places(self) -> BitPlaces
         ensures places { result ≡ self }
         ensures rising { IsRising result.places }
@@ -124,7 +124,8 @@ impl Bits {
         BitPlaces::new(self.words)
     }
 
-    // Turns a dimension's places into those of the base that it lacks, and notes those that one lacked and those that two lacked.
+    // Replaces a dimension's places with those of the base that it lacks, and notes which places one dimension lacked
+    // and which two.
     pub(crate) fn note(&self, dim: &mut Bits, ones: &mut Bits, twos: &mut Bits)
         requires dim { dim.old.words ≡ self.now.words }
         requires ones { ones.old.words ≡ self.now.words }

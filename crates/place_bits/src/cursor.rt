@@ -8,7 +8,8 @@ use crate::words;
 use seg_postings::Places;
 use std::marker::Model;
 
-/// The places of a set, one after the other. `next` and `seek` look once at each word between the last place and the next one, and take no memory.
+/// The places of a set, one after the other. `next` and `seek` read once each word between the last place and the next
+/// one, and allocate nothing.
 #[derive(Drop)]
 pub struct BitPlaces {
     words: Vec<u64>,
@@ -28,7 +29,7 @@ impl Model for BitPlaces {
 }
 
 impl BitPlaces {
-    /// All places of the words.
+    /// Returns all places of the words.
     pub(crate) fn new(words: Vec<u64>) -> BitPlaces
         requires { length words.items ≤ 67108864 }
         ensures places { result ≡ marked words.items }
@@ -37,7 +38,8 @@ impl BitPlaces {
         BitPlaces { words, next: 0 }
     }
 
-    /// The places that are left, as a set with the same room. It looks once at each word before them, and takes no memory.
+    /// Returns the places that are left, as a set of the same length. It clears each word before them, and allocates
+    /// nothing.
     pub fn into_rest(self) -> Bits
         ensures rest { result ≡ self }
         ensures rising { IsRising result.places }
@@ -47,7 +49,7 @@ impl BitPlaces {
         Bits::of_words(words)
     }
 
-    // Passes all before `place`.
+    // Passes the places before `place`.
     fn pass(&mut self, place: u32)
         ensures rising { IsRising self.old.places }
         ensures moved { self.new ≡ with_places (from_place place self.old.places) self.old }
@@ -81,7 +83,7 @@ impl Places for BitPlaces {
     }
 }
 
-// The first place from there on.
+// Returns the first place from there on.
 fn first_from(words: &[u64], from: u64) -> Option<u32>
     requires few { length words.now ≤ 67108864 }
     ensures { IsFirstIn words.now from result }
@@ -97,7 +99,7 @@ fn first_from(words: &[u64], from: u64) -> Option<u32>
     first_word(words, start + 1)
 }
 
-// The first place from a word on.
+// Returns the first place from a word on.
 fn first_word(words: &[u64], start: usize) -> Option<u32>
     requires few { length words.now ≤ 67108864 }
     ensures { IsFirstIn words.now (64 * start) result }

@@ -1,5 +1,5 @@
-//! Sets of places as bits, as Lucene's `FixedBitSet`: 64 places a word, so that a set of many of a segment's documents takes an eighth of a byte a
-//! document, and what two sets have in common is found a word at a time. A set of few places is better walked.
+//! Sets of places as bits, as Lucene's `FixedBitSet`: 64 places per word. A set of the documents of a segment takes one
+//! bit per document, and what two sets have in common is found a word at a time. A set of few places is better walked.
 #![tactic(auto)]
 
 mod bits;

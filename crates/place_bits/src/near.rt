@@ -1,4 +1,4 @@
-//! Near misses: the places that one set alone leaves out.
+//! Near misses: the places that only one set excludes.
 ghost use Rattle.std.specs.Prelude.{◌≡◌, ◌==◌, ◌&&◌, ℕ, nat_lt};
 ghost use Rattle.std.specs.List.{AllZip};
 ghost use Rattle.seg_postings.specs.Rising.{IsRising, is_in};
@@ -7,8 +7,10 @@ ghost use Rattle.place_bits.specs.Words.{empty_set};
 
 use crate::bits::Bits;
 
-/// Leaves of the base the hits, the places that no dimension lacks, and of each dimension its near misses, the places of the base that it lacks and no
-/// other does. `ones` and `twos` are room as large as the base's, empty at first. It takes no memory, and looks twice at each word of a dimension.
+/// Reduces the base to the hits, the places that no dimension lacks, and each dimension to its near misses, the places
+/// of the base that only it lacks. `ones` and `twos` are scratch sets of the base's length, empty at first.
+///
+/// It reads each word of a dimension twice, and allocates nothing.
 pub fn near_misses(base: &mut Bits, dims: &mut [Bits], ones: &mut Bits, twos: &mut Bits)
     requires dims { HaveWords base.old.words dims.old }
     requires ones { ones.old ≡ empty_set base.old.words }
@@ -23,7 +25,8 @@ pub fn near_misses(base: &mut Bits, dims: &mut [Bits], ones: &mut Bits, twos: &m
     leave_all(dims, twos);
 }
 
-// Turns each dimension's places into those of the base that it lacks, and notes which places one lacks, and which two.
+// Replaces each dimension's places with those of the base that it lacks, and notes which places one lacks, and which
+// two.
 fn note_all(base: &Bits, dims: &mut [Bits], ones: &mut Bits, twos: &mut Bits)
     requires dims { HaveWords base.now.words dims.old }
     requires ones { ones.old ≡ empty_set base.now.words }
@@ -39,7 +42,7 @@ fn note_all(base: &Bits, dims: &mut [Bits], ones: &mut Bits, twos: &mut Bits)
     }
 }
 
-// Leaves of each set the places that the other lacks.
+// Keeps in each set the places that the other lacks.
 fn leave_all(dims: &mut [Bits], other: &Bits)
     requires { HaveWords other.now.words dims.old }
     ensures { AllZip (IsLeftBy other.now.places) dims.old dims.new }

@@ -7,7 +7,7 @@ ghost use Rattle.place_bits.specs.Words.{has, AreBelow};
 
 use seg_postings::Places;
 
-/// Leaves the places that the other has too.
+/// Keeps the places that the other has too.
 pub(crate) fn keep(words: &mut [u64], other: &[u64])
     requires { length words.old ≡ length other.now }
     ensures len { length words.new ≡ length words.old }
@@ -18,7 +18,7 @@ pub(crate) fn keep(words: &mut [u64], other: &[u64])
     }
 }
 
-/// Leaves the places that the other lacks.
+/// Keeps the places that the other lacks.
 pub(crate) fn leave(words: &mut [u64], other: &[u64])
     requires { length words.old ≡ length other.now }
     ensures len { length words.new ≡ length words.old }
@@ -29,7 +29,7 @@ pub(crate) fn leave(words: &mut [u64], other: &[u64])
     }
 }
 
-/// Leaves the places from one on.
+/// Keeps the places from one on.
 pub(crate) fn leave_from(words: &mut [u64], from: u64)
     ensures len { length words.new ≡ length words.old }
     ensures left { (n : ℕ) → has words.new n ≡ (has words.old n && nat_le from n) }
@@ -65,7 +65,7 @@ pub(crate) fn mark_all<P: Places>(words: &mut [u64], places: &mut P)
     }
 }
 
-/// Whether it has the place.
+/// Returns whether it has the place.
 pub(crate) fn has_place(words: &[u64], place: u32) -> bool
     requires { place < 64 * length words.now }
     ensures { result ≡ has words.now place }
@@ -73,7 +73,7 @@ pub(crate) fn has_place(words: &[u64], place: u32) -> bool
     words[place as usize / 64] >> (place % 64) & 1 == 1
 }
 
-/// How many places both have.
+/// Returns how many places both have.
 pub(crate) fn common(words: &[u64], other: &[u64]) -> u64
     requires same { length words.now ≡ length other.now }
     requires few { length words.now ≤ 67108864 }
@@ -86,8 +86,8 @@ pub(crate) fn common(words: &[u64], other: &[u64]) -> u64
     number
 }
 
-/// Turns a dimension's places into those of the base that it lacks. `ones` has the places of the base that a dimension lacked, and `twos` those that
-/// two or more lacked.
+/// Replaces a dimension's places with those of the base that it lacks. `ones` has the places of the base that at least
+/// one dimension lacked, and `twos` those that at least two lacked.
 pub(crate) fn note(base: &[u64], dim: &mut [u64], ones: &mut [u64], twos: &mut [u64])
     requires dim { length dim.old ≡ length base.now }
     requires ones { length ones.old ≡ length base.now }
@@ -107,7 +107,7 @@ pub(crate) fn note(base: &[u64], dim: &mut [u64], ones: &mut [u64], twos: &mut [
     }
 }
 
-// A word whose lowest bits are set, as many as said.
+// Returns a word whose lowest `number` bits are set.
 fn low_ones(number: u32) -> u64
     requires { number ≤ 64 }
     ensures { (i : ℕ) → i < 64 → (bit_at result i == 1) ≡ nat_lt i number }
@@ -118,7 +118,7 @@ fn low_ones(number: u32) -> u64
     (1u64 << number) - 1
 }
 
-/// Leaves the places below `docs`, whatever was marked.
+/// Sets the places below `docs`, and clears all others.
 pub(crate) fn fill(words: &mut [u64], docs: u32)
     requires { docs ≤ 64 * length words.old }
     ensures len { length words.new ≡ length words.old }

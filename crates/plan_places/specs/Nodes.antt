@@ -16,7 +16,7 @@ use Rattle.plan_places.specs.declared.node.Kind.TheVariants as kinds
 abbrev pub range_left : Range → List ℕ
 range_left r = range_with_len r.next (r.end - r.next)
 
--- the place that was looked at, and those behind it
+-- the place that was read, and those after it
 abbrev pub leaf_left : Leaf → List ℕ
 leaf_left leaf = option_to_list leaf.head ++ leaf.cursor
 
@@ -28,11 +28,11 @@ listed_left l = l.places.now
 abbrev pub conjunction_left : Conjunction → List ℕ
 conjunction_left c = chosen_of c.lead.value c.others.items c.excluded.items
 
--- how many nodes the three parts are made of
+-- how many nodes the three parts have
 abbrev pub conjunction_nodes : Conjunction → ℕ
 conjunction_nodes c = c.lead.value.nodes + (all_nodes c.others.items + all_nodes c.excluded.items)
 
--- the places of a node, and one node more than its children are made of
+-- the places of a node, and one node more than its children have
 abbrev pub planned : Kind → Planned
 planned (kinds.Range r) = record { left = range_left r; nodes = 1 }
 planned (kinds.Term leaf) = record { left = leaf_left leaf; nodes = 1 }
@@ -40,7 +40,7 @@ planned (kinds.Listed l) = record { left = listed_left l; nodes = 1 }
 planned (kinds.Any children) = record { left = any_of children.items; nodes = 1 + all_nodes children.items }
 planned (kinds.All c) = record { left = conjunction_left c; nodes = 1 + conjunction_nodes c }
 
--- The first place of a list is kept, and numbers rise.
+-- The first place of a list is stored, and numbers rise.
 abbrev pub IsPlanned : Kind → Type 0
 IsPlanned (kinds.Range r) = Unit {0}
 IsPlanned (kinds.Term leaf) = IsPeeked leaf.head leaf.cursor

@@ -23,7 +23,7 @@ pub record AreNoneBefore (test : ℕ → Bool) (first next : ℕ) : Type 0 where
   pub none : (n : ℕ) → first ≤ n → n < next → test n ≡ false
   pub found : next ≡ first → test first ≡ true
 
--- The answer is where the search goes on from the first. There is none where none from there on passes the test.
+-- The result is where the search continues from the first. It is none if no place from there on passes the test.
 abbrev pub IsMeeting : (ℕ → Bool) → ℕ → Option ℕ → Type 0
 IsMeeting test first None = (n : ℕ) → first ≤ n → test n ≡ false
 IsMeeting test first (Some next) = AreNoneBefore test first next

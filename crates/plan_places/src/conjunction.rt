@@ -7,7 +7,8 @@ ghost use Rattle.plan_places.specs.Steps.{AreSameFrom, IsMeeting, IsMoved};
 use crate::node::PlanNode;
 use crate::union::any_at_least;
 
-/// The places that the lead and all others have and none that is excluded has. The lead is asked first, and the others about as often.
+/// The places that the lead and all others have and that no excluded node has. The lead is asked first, and the others
+/// about as often.
 #[derive(Drop)]
 #[cycle(node)]
 pub(crate) struct Conjunction<'a> {
@@ -17,7 +18,7 @@ pub(crate) struct Conjunction<'a> {
 }
 
 impl<'a> Conjunction<'a> {
-    /// The first place left that is at least `place`. All before it are passed, and it is not.
+    /// Returns the first place left that is at least `place`, or `None`. The places before it are passed; it is not.
     #[cycle(at_least)]
     pub(crate) fn at_least(&mut self, place: u64) -> Option<u32>
         requires { place ≤ 4294967296 }
@@ -36,7 +37,8 @@ impl<'a> Conjunction<'a> {
     }
 }
 
-// Where the search goes on from `first`: there, if it is a place of all others and of none that is excluded, else behind it.
+// Returns where the search continues from `first`: there, if all others have that place and no excluded node has it;
+// otherwise after it.
 #[cycle(at_least)]
 fn chosen(
     others: &mut Vec<PlanNode<'_>>,
@@ -58,7 +60,7 @@ fn chosen(
     Some(first as u64)
 }
 
-// The first place that one of the others has from `first` on, where it does not have `first`, and `first` where all have it.
+// Returns the first place from `first` on of an other that does not have `first`, or `first` if all have it.
 #[cycle(at_least)]
 fn meeting(others: &mut Vec<PlanNode<'_>>, first: u32) -> Option<u32>
     ensures others { AreSameFrom first others.new.items others.old.items }

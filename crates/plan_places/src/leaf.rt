@@ -7,7 +7,7 @@ ghost use Rattle.plan_places.specs.Nodes.{leaf_left};
 use place_bits::Bits;
 use seg_postings::{Places, PostingsCursor};
 
-/// The places of a list, the first of which was looked at and is kept.
+/// The places of a list. The first one was read and is stored.
 #[derive(Drop)]
 pub(crate) struct Leaf<'a> {
     pub(crate) head: Option<u32>,
@@ -15,7 +15,7 @@ pub(crate) struct Leaf<'a> {
 }
 
 impl<'a> Leaf<'a> {
-    /// The first place left that is at least `place`. All before it are passed, and it is not.
+    /// Returns the first place left that is at least `place`, or `None`. The places before it are passed; it is not.
     pub(crate) fn at_least(&mut self, place: u64) -> Option<u32>
         requires kept { IsPeeked self.old.head self.old.cursor }
         requires fits { place ≤ 4294967296 }
@@ -49,8 +49,8 @@ impl<'a> Leaf<'a> {
     }
 }
 
-// The first place of a cursor that is at least `place`. It and all before it are passed. The next one is tried first: a walk over a list asks for the
-// place behind the last.
+// Returns the first place of a cursor that is at least `place`. It is passed, with all places before it. The next one
+// is tried first: a walk over a list asks for the place after the last one.
 fn sought(cursor: &mut PostingsCursor<'_>, place: u64) -> Option<u32>
     requires some { 0 < place }
     requires fits { place ≤ 4294967296 }
@@ -64,7 +64,7 @@ fn sought(cursor: &mut PostingsCursor<'_>, place: u64) -> Option<u32>
     sought_behind(cursor, place)
 }
 
-// The same, where the next place is not tried.
+// Does the same without trying the next place.
 fn sought_behind(cursor: &mut PostingsCursor<'_>, place: u64) -> Option<u32>
     requires some { 0 < place }
     requires fits { place ≤ 4294967296 }

@@ -1,4 +1,5 @@
-//! Trees of set operations over strictly rising lists of places, walked from left to right without memory, as Lucene's `Scorer`s of boolean queries.
+//! Trees of set operations over strictly rising lists of places, which are walked from left to right without
+//! allocating, as Lucene's `Scorer`s of boolean queries.
 #![tactic(auto)]
 
 mod conjunction;

@@ -2,14 +2,14 @@ ghost use Rattle.std.specs.Prelude.{◌≡◌, ◌≤◌, length};
 ghost use Rattle.seg_postings.specs.Rising.{IsRising, first_of, from_place};
 ghost use Rattle.seg_postings.specs.Steps.{IsFirstFrom};
 
-/// The places that are left of a lent list.
+/// The places that are left of a borrowed list.
 #[derive(Drop)]
 pub(crate) struct Listed<'a> {
     pub(crate) places: &'a [u32],
 }
 
 impl<'a> Listed<'a> {
-    /// The first place left that is at least `place`. All before it are passed, and it is not.
+    /// Returns the first place left that is at least `place`, or `None`. The places before it are passed; it is not.
     pub(crate) fn at_least(&mut self, place: u64) -> Option<u32>
         requires { IsRising self.old.places.now }
         ensures first { result ≡ first_of self.new.places.now }
@@ -27,7 +27,7 @@ impl<'a> Listed<'a> {
     }
 }
 
-// How many of the places are below `place`: none where the first is not, and else by halving.
+// Returns how many of the places are below `place`: 0 if the first is not, and otherwise by binary search.
 fn first_from(places: &[u32], place: u64) -> usize
     requires { IsRising places.now }
     ensures first { IsFirstFrom place places.now result result }

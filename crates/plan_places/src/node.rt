@@ -19,7 +19,8 @@ use std::marker::Model;
 
 /// Places that are asked for from left to right: a range, a list, or a set operation over other nodes.
 ///
-/// A node knows about how many places it has at most. It is told by its parts when it is made, and orders the parts of an intersection.
+/// A node has an upper bound of its number of places, which orders the parts of an intersection. It is computed from
+/// the node's parts when it is made.
 #[derive(Drop)]
 #[cycle(node)]
 pub struct PlanNode<'a> {
@@ -34,7 +35,7 @@ pub(crate) enum Kind<'a> {
     Range(Range),
     /// The places of a list.
     Term(Leaf<'a>),
-    /// The places of a lent list of numbers.
+    /// The places of a borrowed list of numbers.
     Listed(Listed<'a>),
     /// The places of any child.
     Any(Vec<PlanNode<'a>>),
@@ -61,7 +62,7 @@ impl<'a> Model for PlanNode<'a> {
 }
 
 impl<'a> PlanNode<'a> {
-    /// The places below `end`.
+    /// Returns the places below `end`. It allocates nothing.
     pub fn below(end: u32) -> PlanNode<'a>
         ensures { result.left ≡ range_with_len 0 end }
     {
@@ -71,7 +72,7 @@ impl<'a> PlanNode<'a> {
         }
     }
 
-    /// The places of a list. It looks at the first.
+    /// Returns the places of a list. It reads the first one, and allocates nothing.
     pub fn list(postings: &Postings<'a>) -> PlanNode<'a>
         ensures { result.left ≡ postings.now }
     {
@@ -83,7 +84,7 @@ impl<'a> PlanNode<'a> {
         }
     }
 
-    /// The places of a lent list of numbers. It looks at none of them.
+    /// Returns the places of a borrowed list of numbers. It reads none of them, and allocates nothing.
     pub fn listed(places: &'a [u32]) -> PlanNode<'a>
         requires { IsRising places.now }
         ensures { result.left ≡ places.now }
@@ -94,7 +95,7 @@ impl<'a> PlanNode<'a> {
         }
     }
 
-    /// The places that one of the children has, or more of them. A step asks each child once.
+    /// Returns the places that at least one child has. Each step asks each child once. It allocates nothing.
     pub fn any(children: Vec<PlanNode<'a>>) -> PlanNode<'a>
         ensures { result.left ≡ any_of children.entry.items }
     {
@@ -108,10 +109,13 @@ impl<'a> PlanNode<'a> {
         }
     }
 
-    /// The places that each of the children has and none of the excluded.
+    /// Returns the places that each of the children has and no excluded node has. There is at least one child.
     ///
-    /// The child that has the fewest places leads. The others are asked, the next fewest first, from each of its places on, and where one of them
-    /// goes on later the lead follows at once. The excluded are asked for places that all children have, and for no others.
+    /// The child with the fewest places leads. The others are asked from each of its places on, the next fewest first.
+    /// If one of them continues later, the lead skips to that place. The excluded nodes are asked only for places that
+    /// all children have.
+    ///
+    /// Errors: out of memory.
     pub fn all(
         alloc: Global,
         children: Vec<PlanNode<'a>>,
@@ -136,7 +140,8 @@ impl<'a> PlanNode<'a> {
         })
     }
 
-    /// The places of the node that none of the excluded has. These are asked for places of the node, and for no others.
+    /// Returns the places of the node that no excluded node has. These are asked only for places of the node. Errors:
+    /// out of memory.
     pub fn without(
         alloc: Global,
         node: PlanNode<'a>,
@@ -156,18 +161,20 @@ impl<'a> PlanNode<'a> {
         })
     }
 
-    /// About how many places there are at most: what the node's parts told when it was made. A choice of how to go over them, and no clause, may rest
-    /// on it.
+    /// Returns an upper bound of the number of places, computed when the node was made. It is an estimate for choosing
+    /// how to visit them. No contract depends on it.
     pub fn at_most(&self) -> u64 {
         self.at_most
     }
 
-    /// Whether its places are those of lists, which `mark` runs through without asking for one after the other. No clause may rest on it either.
+    /// Returns whether the places are those of lists, which `mark` visits without asking for one after the other. No
+    /// contract depends on it.
     pub fn is_of_lists(&self) -> bool {
         matches!(self.kind, Kind::Term(_) | Kind::Any(_))
     }
 
-    /// Marks all places. A list is run through, and so are the lists of a union; any other node is asked place by place.
+    /// Marks all places in a set. A list is visited in one pass, and so are the lists of a union; any other node is
+    /// asked place by place. It allocates nothing.
     pub fn mark(self, bits: &mut Bits)
         requires { IsMarkable bits.old self.left }
         ensures { AreMarkedToo self.entry.left bits.new bits.old }
@@ -184,7 +191,8 @@ impl<'a> PlanNode<'a> {
         }
     }
 
-    /// The first place left that is at least `place`. All before it are passed, and it is not.
+    /// Returns the first place left that is at least `place`, or `None`. The places before it are passed; it is not. It
+    /// allocates nothing.
     #[cycle(at_least)]
     pub fn at_least(&mut self, place: u64) -> Option<u32>
         requires { place ≤ 4294967296 }
@@ -213,7 +221,7 @@ fn mark_each(children: Vec<PlanNode<'_>>, bits: &mut Bits)
     }
 }
 
-// Marks the places of a node: of a list at once, and of any other node one after the other.
+// Marks the places of a node: those of a list in one pass, and those of any other node one after the other.
 fn mark_one(node: PlanNode<'_>, bits: &mut Bits)
     requires { IsMarkable bits.old node.left }
     ensures { AreMarkedToo node.entry.left bits.new bits.old }

@@ -5,7 +5,7 @@ use crate::node::PlanNode;
 use seg_postings::Places;
 use std::marker::Model;
 
-/// The places of a node, one after the other. No call takes memory.
+/// The places of a node, one after the other. No call allocates.
 #[derive(Drop)]
 pub struct PlanPlaces<'a> {
     node: PlanNode<'a>,
@@ -25,7 +25,7 @@ impl<'a> Model for PlanPlaces<'a> {
 }
 
 impl<'a> PlanPlaces<'a> {
-    /// All places that the node has left. It looks at the first.
+    /// Returns all places that the node has left. It finds the first one.
     pub fn new(node: PlanNode<'a>) -> PlanPlaces<'a>
         ensures left { result ≡ node.entry.left }
         ensures rising { IsRising result }
@@ -35,7 +35,7 @@ impl<'a> PlanPlaces<'a> {
         PlanPlaces { node, next: 0 }
     }
 
-    /// Whether `place` is left. All before it are passed, and it is not.
+    /// Returns whether `place` is left. The places before it are passed; it is not.
     pub fn has(&mut self, place: u32) -> bool
         ensures has { result ≡ is_in place self.old }
         ensures left { self.new ≡ from_place place self.old }
@@ -44,7 +44,7 @@ impl<'a> PlanPlaces<'a> {
         self.node.at_least(self.next) == Some(place)
     }
 
-    // Passes all before `place`.
+    // Passes the places before `place`.
     fn pass(&mut self, place: u32)
         ensures rising { IsRising self.old }
         ensures moved { self.new ≡ from_place place self.old }

@@ -10,7 +10,7 @@ pub(crate) struct Range {
 }
 
 impl Range {
-    /// The first place left that is at least `place`. All before it are passed, and it is not.
+    /// Returns the first place left that is at least `place`, or `None`. The places before it are passed; it is not.
     pub(crate) fn at_least(&mut self, place: u64) -> Option<u32>
         ensures rising { IsRising (range_left self.old) }
         ensures first { result ≡ first_of (range_left self.new) }
@@ -25,7 +25,7 @@ impl Range {
     }
 }
 
-// The later of two places, but no later than the end where that is behind the first.
+// Returns the later of two places, but at most the end.
 fn later(next: u32, end: u32, place: u64) -> u32
     ensures same { place ≤ next → result ≡ next }
     ensures within { next < place → place < end → result ≡ place }

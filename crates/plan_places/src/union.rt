@@ -6,7 +6,7 @@ ghost use Rattle.plan_places.specs.Planned.{moved_to, any_of};
 use crate::node::PlanNode;
 use seg_postings::least;
 
-/// The first place that any child has from `place` on. Each child passes all before it.
+/// Returns the first place that any child has from `place` on. Each child passes the places before it.
 #[cycle(at_least)]
 pub(crate) fn any_at_least(children: &mut Vec<PlanNode<'_>>, place: u64) -> Option<u32>
     requires { place ≤ 4294967296 }

@@ -1,4 +1,4 @@
--- The documents of a segment, as its terms tell them apart.
+-- The documents of a segment, as its terms distinguish them.
 use Rattle.std.specs.Prelude.{◌≡◌, Bool, List, length, map}
 use Rattle.std.specs.List.{list_all}
 use Rattle.facet_model.specs.Documents.{Doc}

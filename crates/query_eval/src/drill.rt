@@ -17,8 +17,11 @@ use seg_file::Segment;
 use seg_postings::Places;
 use std::alloc::Global;
 
-/// The documents of a segment that have one of the drill paths of a dimension, as one dimension of Lucene's `DrillDownQuery`. Of no path of the
-/// dimension there are none. It takes memory for each path of the dimension, and none for documents.
+/// Returns the documents of a segment that have at least one of the drill paths of a dimension, as one dimension of
+/// Lucene's `DrillDownQuery`. Without a path of the dimension there are none.
+///
+/// Costs: one look-up for each path of the dimension. It allocates memory for each of these paths, and none for
+/// documents. Errors: out of memory.
 pub fn paths_node<'a>(
     alloc: Global,
     segment: &'a Segment,
@@ -38,7 +41,8 @@ pub fn paths_node<'a>(
     Ok(any_node(nodes))
 }
 
-/// Whether a document whose record is live has the path of a drill-down term: one look-up of the term, and the first live one of its places.
+/// Returns whether a live document has the path of a drill-down term. It looks the term up once, and visits its places
+/// up to the first live one. Errors: out of memory.
 pub fn has_path(alloc: Global, segment: &Segment, term: &str) -> Result<bool, NoMemory>
     ensures { IfOk result (λ b. (docs : List Doc) (path : List (List ℕ)) → HasTermsOf segment.now docs → 0 < length path → term.now ≡ path_term path
         → b ≡ nat_lt 0 (count (alive segment.now.dead docs) path)) }

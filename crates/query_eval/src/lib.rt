@@ -1,5 +1,6 @@
-//! Which documents of a segment match a query or a drill-down, place by place, as Lucene's `Query` and `DrillDownQuery` over one leaf of an index. The
-//! nodes of queries and of paths have places of all records, and `live_node` leaves those of the live ones.
+//! Which documents of a segment match a query or a drill-down, place by place, as Lucene's `Query` and `DrillDownQuery`
+//! over one leaf of an index. The nodes of queries and paths have places of all records, and `live_node` removes those
+//! of dead records.
 #![tactic(auto)]
 
 mod drill;

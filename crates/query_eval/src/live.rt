@@ -7,7 +7,8 @@ use plan_places::PlanNode;
 use seg_file::Segment;
 use std::alloc::Global;
 
-/// The places of a node at which the segment's records are live. Where all are live that is the node itself, and no memory is taken.
+/// Returns the places of a node whose records are live. If all records are live, it returns the node itself and
+/// allocates nothing. Errors: out of memory.
 pub fn live_node<'a>(
     alloc: Global,
     segment: &'a Segment,

@@ -18,9 +18,10 @@ use seg_postings::Places;
 use std::alloc::Global;
 use std::marker::Model;
 
-/// The documents of one segment that match a query and whose records are live, place by place, as Lucene's `Scorer`.
+/// The live documents of one segment that match a query, place by place, as Lucene's `Scorer`.
 ///
-/// It takes memory when it is made, for each part of the query, and none afterwards. A list of places is walked from left to right once.
+/// It allocates when it is made, for each part of the query, and never after that. Each list of places is visited once,
+/// from left to right.
 #[derive(Drop)]
 pub struct Plan<'a> {
     places: PlanPlaces<'a>,
@@ -35,7 +36,8 @@ impl<'a> Model for Plan<'a> {
 }
 
 impl<'a> Plan<'a> {
-    /// The places of all documents that match and whose records are live.
+    /// Prepares the places of all live documents that match. It looks up each word of the query once. Errors: out of
+    /// memory.
     pub fn new(alloc: Global, segment: &'a Segment, query: &Query) -> Result<Plan<'a>, NoMemory>
         ensures { IfOk result (λ p. (docs : List Doc) → HasTermsOf segment.now docs
             → p ≡ without (places (matches (query_view query.now)) docs) segment.now.dead) }
@@ -47,7 +49,7 @@ impl<'a> Plan<'a> {
         })
     }
 
-    /// The next place left. None comes at the end alone.
+    /// Returns the next place, or `None` at the end. It allocates nothing.
     pub fn next(&mut self) -> Option<u32>
         ensures rising { IsRising self.old }
         ensures next { IsNext result self.old self.new }
@@ -55,8 +57,9 @@ impl<'a> Plan<'a> {
         self.places.next()
     }
 
-    /// Whether the record at a place is live and its document matches, where no place behind it was asked for before and none from it on was answered by
-    /// `next`. All before it are passed, and it is not.
+    /// Returns whether the record at a place is live and its document matches. Places have to be asked in rising order:
+    /// none after this one was asked before, and `next` has returned none from this one on. The places before it are
+    /// passed; this one is not.
     pub fn matches(&mut self, doc: u32) -> bool
         ensures has { result ≡ is_in doc self.old }
         ensures left { self.new ≡ from_place doc self.old }

@@ -14,14 +14,15 @@ use plan_places::PlanNode;
 use seg_file::Segment;
 use std::alloc::Global;
 
-// The documents that have a word.
+// Returns the documents that have a word.
 fn word_node<'a>(segment: &'a Segment, word: &Word) -> PlanNode<'a>
     ensures { (docs : List Doc) → HasTermsOf segment.now docs → result.left ≡ places (matches (term word.now)) docs }
 {
     found_node(segment.word_postings(word.text()))
 }
 
-/// The documents of a segment that match a query. It takes memory for each part of the query, and none for documents.
+/// Returns the documents of a segment that match a query. It looks up each word once, and allocates memory for each
+/// part of the query, none for documents. Errors: out of memory.
 #[cycle(query_nodes)]
 pub fn query_node<'a>(
     alloc: Global,
@@ -50,7 +51,7 @@ pub fn query_node<'a>(
     }
 }
 
-// The documents that match each of some queries.
+// Returns the documents of each query.
 #[cycle(query_nodes)]
 fn each_node<'a>(
     alloc: Global,

@@ -9,7 +9,7 @@ use facet_names::NoMemory;
 use plan_places::PlanNode;
 use std::alloc::Global;
 
-/// The documents that pass one of some tests, or more.
+/// Returns the documents of at least one node. It allocates nothing.
 pub fn any_node(nodes: Vec<PlanNode<'_>>) -> PlanNode<'_>
     ensures { (docs : List Doc) (tests : List (Doc → Bool)) → AreTests docs tests nodes.entry.items
         → result.left ≡ places (λ doc. list_any (λ test. test doc) tests) docs }
@@ -21,7 +21,7 @@ pub fn any_node(nodes: Vec<PlanNode<'_>>) -> PlanNode<'_>
     PlanNode::any(nodes)
 }
 
-/// The documents that pass one of some tests, or more, and none of others.
+/// Returns the documents of at least one of `nodes` and of none of `excluded`. Errors: out of memory.
 pub fn any_without<'a>(
     alloc: Global,
     nodes: Vec<PlanNode<'a>>,
@@ -37,7 +37,7 @@ pub fn any_without<'a>(
     PlanNode::without(alloc, any_node(nodes), excluded)
 }
 
-/// The documents that pass each of some tests, and none of others.
+/// Returns the documents of each of `nodes` and of none of `excluded`. Errors: out of memory.
 pub fn all_without<'a>(
     alloc: Global,
     nodes: Vec<PlanNode<'a>>,

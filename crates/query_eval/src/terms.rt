@@ -9,7 +9,7 @@ use plan_places::PlanNode;
 use seg_file::Segment;
 use seg_postings::Postings;
 
-/// The places that a look-up found, or none. It takes no memory.
+/// Returns the places that a look-up found, or none. It allocates nothing.
 pub fn found_node<'a>(found: Option<Postings<'a>>) -> PlanNode<'a>
     ensures { result.left ≡ unwrap_or found.entry [] }
 {
@@ -19,7 +19,7 @@ pub fn found_node<'a>(found: Option<Postings<'a>>) -> PlanNode<'a>
     }
 }
 
-/// The documents that have a term. It takes no memory.
+/// Returns the documents that have a term. It looks the term up once, and allocates nothing.
 pub fn term_node<'a>(segment: &'a Segment, term: &str) -> PlanNode<'a>
     ensures { (docs : List Doc) → HasTermsOf segment.now docs → result.left ≡ places (has_term term.now) docs }
 {

@@ -1,13 +1,14 @@
 ghost use Rattle.std.specs.Prelude.{◌<◌};
 
-/// Numbers that look random, each made of the one before it, as Knuth's MMIX does.
+/// Pseudo-random numbers: the linear congruential generator of Knuth's MMIX. They are the same in each test.
 #[derive(Drop)]
 pub struct Draws {
+    /// The last number, or the seed.
     pub state: u64,
 }
 
 impl Draws {
-    /// A number from 0 to 9.
+    /// Draws a number from 0 to 9.
     pub fn digit(&mut self) -> u8
         ensures { result < 10 }
     {
@@ -18,6 +19,7 @@ impl Draws {
         ((self.state >> 33) % 10) as u8
     }
 
+    /// Returns true for about half of the draws.
     pub fn one_in_two(&mut self) -> bool {
         self.digit() < 5
     }

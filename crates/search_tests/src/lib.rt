@@ -1,4 +1,5 @@
-//! Tests of searches over stored segments: `DrillSideways` counts, which one pass finds for all dimensions, beside one pass for each dimension.
+//! Tests of searches over stored segments: the counts of drill-sideways, found in one pass for all dimensions, compared
+//! with one pass for each dimension.
 #![tactic(auto)]
 
 #[cfg(test)]

@@ -1,4 +1,4 @@
-//! Labels, documents and segments, as they are stored.
+//! Labels, documents and segments as they are stored.
 ghost use Rattle.std.specs.Prelude.{◌≡◌, List, IfOk, map};
 ghost use Rattle.std.specs.Arc.{arc_value};
 ghost use Rattle.facet_model.specs.Documents.{Doc};
@@ -20,7 +20,7 @@ use test_keys::fixed_keys;
 fn has_parent(alloc: Global, list: &Taxonomy, path: &Path) -> Result<bool, NoMemory>
     ensures { IfOk result (λ b. b ≡ stands list.now (above path.now)) }
 {
-    // Its clause says that the root stands in the list.
+    // By its contract, the list has the root.
     let _ = list.size();
     match path.parent(alloc)? {
         Some(parent) => Ok(list.find(&parent).is_some()),
@@ -28,7 +28,7 @@ fn has_parent(alloc: Global, list: &Taxonomy, path: &Path) -> Result<bool, NoMem
     }
 }
 
-// The ordinal of a path, whose parent stands.
+// Returns the ordinal of a path whose parent is in the list.
 fn put(alloc: Global, list: &mut Taxonomy, path: &Path) -> Result<u32, Fail> {
     if !has_parent(alloc, list, path)? {
         return Err("a parent".into());
@@ -47,6 +47,7 @@ pub struct Labels {
 }
 
 impl Labels {
+    /// Returns no label.
     pub fn new(alloc: Global) -> Labels {
         Labels {
             facets: Vec::new(alloc),
@@ -54,7 +55,7 @@ impl Labels {
         }
     }
 
-    /// Adds a label. It and the labels above it are put into the list.
+    /// Adds a label. The label and those above it are added to the list.
     pub fn add(&mut self, alloc: Global, list: &mut Taxonomy, parts: &[&str]) -> Result<(), Fail> {
         let mut leaf = 0;
         for len in 0..parts.len() {
@@ -67,7 +68,7 @@ impl Labels {
     }
 }
 
-// Each of the ordinals once, rising.
+// Returns each of the ordinals once, rising.
 fn counted(alloc: Global, leaves: &[u32]) -> Result<Counted, Fail> {
     let mut ords = leaves.to_vec(alloc)?;
     ords.sort_unstable();
@@ -75,7 +76,7 @@ fn counted(alloc: Global, leaves: &[u32]) -> Result<Counted, Fail> {
     Ok(Counted::new(ords))
 }
 
-/// A document of which the labels alone are counted, as they are where no dimension has both flags.
+/// Returns a document for which only the labels are counted, as it is if no dimension has both flags.
 pub fn entry(alloc: Global, id: &str, text: &str, labels: Labels) -> Result<Entry, Fail> {
     let Labels { facets, leaves } = labels;
     let doc = Document::new(alloc, id, text, facets)?;
@@ -90,7 +91,7 @@ pub fn entry(alloc: Global, id: &str, text: &str, labels: Labels) -> Result<Entr
     })
 }
 
-// The segment of these documents, as it is read again.
+// Returns the segment of these documents, written and read.
 fn stored(
     alloc: Global,
     config: &FacetsConfig,
@@ -111,7 +112,7 @@ fn stored(
     }
 }
 
-/// The segments of these documents.
+/// Returns the segments of these documents.
 pub fn all_stored(
     alloc: Global,
     config: &FacetsConfig,

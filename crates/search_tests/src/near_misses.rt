@@ -1,5 +1,5 @@
-//! Generated searches over stored segments, a quarter of them over segments in which some records are no longer live: one pass for all dimensions answers as a
-//! pass for each does.
+//! Generated searches over stored segments, a quarter of them over segments with records that are no longer live: one
+//! pass for all dimensions returns what a pass for each does.
 ghost use Rattle.std.specs.Prelude.{◌≡◌, ◌<◌, ◌≤◌, List, length, map};
 ghost use Rattle.std.specs.Arc.{arc_value};
 ghost use Rattle.facet_model.specs.Documents.{Doc};
@@ -23,7 +23,7 @@ use test_keys::fixed_keys;
 
 const VALUES: [&str; 4] = ["0", "1", "2", "3"];
 
-// One of the first so many values.
+// Draws one of the first `many` values.
 fn value(draws: &mut Draws, many: u8) -> &'static str
     requires { 0 < many }
 {
@@ -47,7 +47,7 @@ fn labels(alloc: Global, draws: &mut Draws, list: &mut Taxonomy) -> Result<Label
     Ok(labels)
 }
 
-// A document of a number. It has up to two words.
+// Draws the document of a number. It has up to two words.
 fn document(alloc: Global, draws: &mut Draws, list: &mut Taxonomy, at: u32) -> Result<Entry, Fail> {
     let (word, other) = (draws.digit() % 3, draws.digit() % 3);
     let labels = labels(alloc, draws, list)?;
@@ -70,7 +70,8 @@ fn documents(
     Ok(entries)
 }
 
-// 156 documents in three segments, of 12, 12 and 132: the last is large enough that its usual ordinals are counted by bits.
+// Draws 156 documents in three segments, of 12, 12 and 132: the last is large enough that its frequent ordinals are
+// counted by bits.
 fn batches(alloc: Global, draws: &mut Draws, list: &mut Taxonomy) -> Result<Vec<Vec<Entry>>, Fail> {
     let mut batches = Vec::new(alloc);
     for (from, end) in [(0u32, 12u32), (12, 24), (24, 156)] {
@@ -100,7 +101,8 @@ fn word(alloc: Global, draws: &mut Draws) -> Result<Query, Fail> {
     Ok(Query::Term(word))
 }
 
-// All documents, those with a word, those with one word and not another, or those with one of two words and not a third.
+// Draws all documents, those with a word, those with one word and not another, or those with one of two words and not a
+// third.
 fn query(alloc: Global, draws: &mut Draws) -> Result<Query, Fail> {
     match draws.digit() % 4 {
         0 => Ok(Query::All),
@@ -118,7 +120,7 @@ fn query(alloc: Global, draws: &mut Draws) -> Result<Query, Fail> {
     }
 }
 
-// Up to two paths in each of the dimensions.
+// Draws up to two paths in each of the dimensions.
 fn drill(alloc: Global, draws: &mut Draws) -> Result<Drill, Fail> {
     let mut paths = Vec::new(alloc);
     for dim in ["a", "b", "c"] {
@@ -143,7 +145,8 @@ fn ask(alloc: Global, draws: &mut Draws) -> Result<SearchAsk, Fail> {
     })
 }
 
-// Whether two answers over so many labels have the same hits, and the same count at each label of each dimension.
+// Returns whether two answers over `labels` labels have the same hits, and the same count at each label of each
+// dimension.
 fn are_alike(one: &SidewaysAnswer<'_>, other: &SidewaysAnswer<'_>, labels: u32) -> bool
     requires { (labels ≡ length one.now.labels) × (labels ≡ length other.now.labels) }
 {
@@ -160,7 +163,7 @@ fn are_alike(one: &SidewaysAnswer<'_>, other: &SidewaysAnswer<'_>, labels: u32) 
     true
 }
 
-// Whether a search has the same answer either way.
+// Returns whether a search has the same answer either way.
 fn is_alike(
     alloc: Global,
     view: &TaxoView,
@@ -179,7 +182,7 @@ fn is_alike(
     Ok(are_alike(&plan.run(), &other, view.size()))
 }
 
-// Whether 25 generated searches are answered alike.
+// Returns whether 25 generated searches have the same answers.
 fn are_answered_alike(
     alloc: Global,
     draws: &mut Draws,
@@ -198,7 +201,8 @@ fn are_answered_alike(
     Ok(true)
 }
 
-// Whether searches over the segments are answered alike. With `thin` about half of their records are no longer live.
+// Returns whether searches over the segments have the same answers. With `thin` about half of their records are no
+// longer live.
 fn is_thinned_answered_alike(
     alloc: Global,
     draws: &mut Draws,
@@ -217,7 +221,7 @@ fn is_thinned_answered_alike(
     }
 }
 
-// Whether searches over a generated store are answered alike.
+// Returns whether searches over a generated store have the same answers.
 fn is_store_answered_alike(alloc: Global, draws: &mut Draws, thin: bool) -> Result<bool, Fail> {
     let config = config(alloc)?;
     let mut list = Taxonomy::new(alloc, fixed_keys()?)?;
@@ -226,7 +230,7 @@ fn is_store_answered_alike(alloc: Global, draws: &mut Draws, thin: bool) -> Resu
     is_thinned_answered_alike(alloc, draws, thin, &list, &config, &segments)
 }
 
-/// Whether 200 generated searches over eight stores are answered alike.
+/// Returns whether 200 generated searches over eight stores have the same answers.
 pub fn are_alike_in_stores(alloc: Global) -> Result<bool, Fail> {
     let mut draws = Draws { state: 20 };
     for store in 0..8u32 {

@@ -4,7 +4,7 @@ ghost use Rattle.std.specs.Arc.{arc_value};
 use seg_file::Segment;
 use std::sync::Arc;
 
-/// How many records the segments have.
+/// Returns how many records the segments have.
 pub fn records(segments: &[Arc<Segment>]) -> Option<u32>
     ensures { MatchOption result (Unit {0}) (λ n. n ≡ sum_by (λ s. length s.records) (map arc_value segments.now)) }
 {

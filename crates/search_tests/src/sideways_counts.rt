@@ -18,7 +18,7 @@ use std::test::Fail;
 use taxo_list::{Labelled, TaxoView, Taxonomy};
 use test_keys::fixed_keys;
 
-// A search for all documents, drilled down to one author.
+// Returns a search for all documents, drilled down to one author.
 fn drilled(alloc: Global, sideways: bool) -> Result<SearchAsk, Fail> {
     let paths = vec![in alloc; Path::of(alloc, &["Author", "Bob"])?]?;
     if paths.len() > 256 {
@@ -33,7 +33,7 @@ fn drilled(alloc: Global, sideways: bool) -> Result<SearchAsk, Fail> {
     })
 }
 
-// How many documents each author has, by the counts of the answer.
+// Returns how many documents each author has, by the counts of the answer.
 fn counted(
     alloc: Global,
     view: &TaxoView,
@@ -66,7 +66,7 @@ fn books(alloc: Global, list: &mut Taxonomy) -> Result<Vec<Entry>, Fail> {
     Ok(entries)
 }
 
-// Whether the authors of three documents are counted so, with sideways and without.
+// Returns whether the authors of three documents are counted so, with sideways and without.
 fn are_both_counted(
     alloc: Global,
     labels: &Taxonomy,

@@ -9,7 +9,7 @@ use std::alloc::Global;
 use std::sync::Arc;
 use std::test::Fail;
 
-/// The segments once more, with `thin` about half of their records no longer live.
+/// Returns the segments with, if `thin`, about half of their records no longer live.
 pub fn thinned(
     alloc: Global,
     draws: &mut Draws,

@@ -1,4 +1,4 @@
--- The documents that segments stand for, under a list of labels.
+-- The documents that segments represent, under a list of labels.
 use Rattle.std.specs.Prelude.{ℕ, List, [], ◌∷◌, ◌++◌, map, flat_map, slice_index_or}
 use Rattle.facet_model.specs.Documents.{Doc}
 use Rattle.facet_model.specs.Stored.{Stored, Records, alive}
@@ -13,7 +13,7 @@ doc_in known r = record { id = r.id; text = r.text; labels = map (λ leaf. slice
 abbrev pub records_in : List Records → List Stored
 records_in segments = flat_map (λ s. alive s.dead s.records) segments
 
--- the live record at a place, which is there
+-- the live record at a place, if it is there
 abbrev pub record_at : List Records → ℕ → Stored
 record_at segments at = slice_index_or (records_in segments) at (record { id = []; text = []; leaves = []; counted = [] })
 

@@ -1,4 +1,4 @@
--- Documents with their ordinals, as they are kept before they are stored.
+-- Documents with their ordinals, before they are stored.
 use Rattle.std.specs.Prelude.{ℕ, ◌<◌, ◌≤◌, List, length, map, IsTrue}
 use Rattle.std.specs.List.{AllByRecursion}
 use Rattle.facet_model.specs.Documents.{Doc}
@@ -21,6 +21,6 @@ pub record IsEntry (config : Config) (labels : List (List (List ℕ))) (e : Entr
   pub known : IsTrue (knows labels e.doc)
   pub stored : IsRecordOf labels config (stored_of e) e.doc
 
--- each is
+-- each is one
 abbrev pub AreEntries : Config → List (List (List ℕ)) → List Entry → Type 0
 AreEntries config labels entries = AllByRecursion (IsEntry config labels) entries

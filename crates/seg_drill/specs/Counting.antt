@@ -13,12 +13,12 @@ pub record AreWithin (segment : Records) (places : List ℕ) : Type 0 where
   pub rising : IsRising places
   pub within : (n : ℕ) → is_in n places ≡ true → n < length segment.records
 
--- The set has room for the documents of the segment, and at each of its places there is a record.
+-- The set has a bit for each document of the segment, and at each of its places there is a record.
 pub record IsSetWithin (segment : Records) (set : Marked) : Type 0 where
   pub words : set.words ≡ (length segment.records + 63) / 64
   pub within : AreWithin segment set.places
 
--- the counted ordinals of each record may be counted
+-- the counter can count the counted ordinals of each record
 abbrev pub AreCountable : Config → List (List (List ℕ)) → Records → Type 0
 AreCountable config labels segment = (doc : ℕ) → doc < length segment.records → IsCounted config labels (record_of segment doc).counted
 

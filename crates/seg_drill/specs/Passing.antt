@@ -1,4 +1,4 @@
--- What the documents of a search have to pass.
+-- What the documents of a search have to match.
 use Rattle.std.specs.Prelude.{◌≡◌, ℕ, ◌∷◌, ◌++◌, ◌&&◌, ◌||◌, Bool, false, not, List, [], take, Option, Some, None, slice_get, slice_index_or}
 use Rattle.std.specs.List.{list_any, list_all, AllByRecursion}
 use Rattle.std.specs.Str.{bytes_eq}
@@ -15,11 +15,11 @@ abbrev pub is_lifted : Option (List ℕ) → List ℕ → Bool
 is_lifted None dim = false
 is_lifted (Some other) dim = bytes_eq dim other
 
--- it passes the dimensions of these paths of a drill, but for the one that is lifted
+-- it matches the dimensions of these paths of a drill, except the lifted one
 abbrev pub passes_each : List (List (List ℕ)) → Option (List ℕ) → List (List (List ℕ)) → Doc → Bool
 passes_each drill lift paths doc = list_all (λ path. is_lifted lift (dim_of path) || passes doc drill (dim_of path)) paths
 
--- it matches the query, and passes all dimensions of the drill but for the one that is lifted
+-- it matches the query, and all dimensions of the drill except the lifted one
 abbrev pub passes_all : QueryTree → List (List (List ℕ)) → Option (List ℕ) → Doc → Bool
 passes_all query drill lift doc = matches query doc && passes_each drill lift drill doc
 
@@ -31,12 +31,12 @@ is_again drill at dim = list_any (λ path. bytes_eq (dim_of path) dim) (take at 
 abbrev pub is_first : List (List (List ℕ)) → ℕ → Option (List ℕ) → Bool
 is_first drill at lift = not (is_again drill at (dim_of (slice_index_or drill at []))) && not (is_lifted lift (dim_of (slice_index_or drill at [])))
 
--- Each node has places of documents alone. Where a document stands all have its place exactly where it passes the test.
+-- Each node has only places of documents. All nodes have a document's place exactly if it passes the test.
 pub record AreAllOf (docs : List Doc) (test : Doc → Bool) (nodes : List Planned) : Type 0 where
   pub each : AllByRecursion (λ p. (other : Doc → Bool) × (p.left ≡ places other docs)) nodes
   pub have : (n : ℕ) (doc : Doc) → slice_get docs n ≡ Some doc → all_have n nodes ≡ test doc
 
--- One node more: the documents that pass the dimension.
+-- One node more: the documents that match the dimension.
 pub record HasPaths (segment : Records) (drill : List (List (List ℕ))) (dim : List ℕ) (old new : List Planned) : Type 0 where
   pub node : Planned
   pub items : new ≡ old ++ node ∷ []

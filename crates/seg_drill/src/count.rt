@@ -7,7 +7,7 @@ use place_bits::BitPlaces;
 use seg_file::Segment;
 use seg_postings::Places;
 
-/// Counts the record at a place. It takes no memory.
+/// Counts the record at a place. It takes time proportional to the record's ordinals, and allocates nothing.
 pub fn count_record(segment: &Segment, place: u32, counter: &mut Counter<'_>)
     requires countable { AreCountable counter.old.config counter.old.labels segment.now }
     requires within { place < length segment.now.records }
@@ -17,7 +17,7 @@ pub fn count_record(segment: &Segment, place: u32, counter: &mut Counter<'_>)
     counter.add_doc(segment.counted(place));
 }
 
-/// Counts the records at the places, one after the other, and says how many they are. It takes no memory.
+/// Counts the records at the places one by one, and returns how many they are. It allocates nothing.
 pub fn count_places<P: Places>(segment: &Segment, places: &mut P, counter: &mut Counter<'_>) -> u64
     requires countable { AreCountable counter.old.config counter.old.labels segment.now }
     requires within { AreWithin segment.now (P.left places.old) }
@@ -34,8 +34,8 @@ pub fn count_places<P: Places>(segment: &Segment, places: &mut P, counter: &mut 
     number
 }
 
-/// Counts the records at the places that are left of a set, and says how many they are: by the maps of the segment's column where they are many, and else
-/// one after the other. It takes no memory.
+/// Counts the records at the places that are left of a set, and returns how many they are. Many are counted with the
+/// bit maps of the segment's column, and few one by one. It allocates nothing.
 pub fn count_marked(segment: &Segment, places: BitPlaces, counter: &mut Counter<'_>) -> u64
     requires countable { AreCountable counter.old.config counter.old.labels segment.now }
     requires within { IsSetWithin segment.now places }

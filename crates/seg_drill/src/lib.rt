@@ -1,5 +1,5 @@
-//! Drill-down over one segment: nodes of the documents that a search has to pass, as Lucene's `DrillDownQuery` over one leaf of an index, and the
-//! counting of the records at places that were found.
+//! Drill-down over one segment: the nodes of the documents that a search has to match, as Lucene's `DrillDownQuery`
+//! over one leaf of an index, and the counting of records.
 #![tactic(auto)]
 
 mod count;

@@ -1,4 +1,4 @@
-//! What the documents of a pass have to pass.
+//! What the documents of a pass have to match.
 ghost use Rattle.std.specs.Prelude.{◌≡◌, ◌<◌, ◌&&◌, not, Bool, List, IfOk, OnOk, length};
 ghost use Rattle.std.specs.List.{list_any};
 ghost use Rattle.std.specs.Str.{bytes_eq};
@@ -17,7 +17,7 @@ use query_eval::{paths_node, query_node};
 use seg_file::Segment;
 use std::alloc::Global;
 
-// Whether a path is of the dimension.
+// Returns whether a path is of the dimension.
 fn has_dimension(paths: &[Path], dim: &str) -> bool
     ensures { result ≡ list_any (λ path. bytes_eq (dim_of path) dim.now) paths.now }
 {
@@ -33,7 +33,8 @@ fn is_lifted(lifted: Option<&str>, dim: &str) -> bool
     }
 }
 
-/// Whether the path at a place is the first of its dimension, and that is not lifted.
+/// Returns whether the path at a place is the first one of its dimension, and the dimension is not lifted. It compares
+/// the dimensions of the paths before it.
 pub fn is_first(drill: &[Path], at: usize, lifted: Option<&str>) -> bool
     requires { at < length drill.now }
     ensures { result ≡ is_first drill.now at (text_in lifted.entry) }
@@ -42,7 +43,7 @@ pub fn is_first(drill: &[Path], at: usize, lifted: Option<&str>) -> bool
     !has_dimension(&drill[..at], dim) && !is_lifted(lifted, dim)
 }
 
-/// The documents that match the query; no node where all do.
+/// Returns one node, the documents that match the query; or no node if the query matches all. Errors: out of memory.
 pub fn base_nodes<'a>(
     alloc: Global,
     segment: &'a Segment,
@@ -59,7 +60,7 @@ pub fn base_nodes<'a>(
     Ok(nodes)
 }
 
-/// Adds a node: the documents that pass a dimension of the drill.
+/// Adds a node: the documents that match a dimension of the drill. Errors: out of memory.
 pub fn push_paths<'a>(
     alloc: Global,
     segment: &'a Segment,
@@ -74,8 +75,8 @@ pub fn push_paths<'a>(
     Ok(())
 }
 
-/// The documents that match the query, and those that pass each dimension of the drill but for the one that is lifted: one node for the query and one
-/// for each dimension, and none where every document passes.
+/// Returns one node for the query and one for each dimension of the drill except the lifted one. A search matches the
+/// documents that all nodes have. Without a node it matches all documents. Errors: out of memory.
 pub fn nodes_of<'a>(
     alloc: Global,
     segment: &'a Segment,
@@ -96,7 +97,7 @@ pub fn nodes_of<'a>(
     Ok(nodes)
 }
 
-/// The documents that have all nodes, of which there are some.
+/// Returns the documents that all nodes have. There is at least one node. Errors: out of memory.
 pub fn joined<'a>(alloc: Global, nodes: Vec<PlanNode<'a>>) -> Result<PlanNode<'a>, NoMemory>
     requires { 0 < length nodes.items }
     ensures { IfOk result (λ r. (docs : List Doc) (test : Doc → Bool) → AreAllOf docs test nodes.entry.items → r.left ≡ places test docs) }
@@ -108,7 +109,7 @@ pub fn joined<'a>(alloc: Global, nodes: Vec<PlanNode<'a>>) -> Result<PlanNode<'a
     PlanNode::all(alloc, nodes, Vec::new(alloc))
 }
 
-/// The documents that have all nodes but not this one.
+/// Returns the documents that all nodes have and `own` has not. Errors: out of memory.
 pub fn without_one<'a>(
     alloc: Global,
     docs: u32,

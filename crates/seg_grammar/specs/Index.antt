@@ -1,4 +1,4 @@
--- Where the parts of a segment begin, in bytes from the first one of all.
+-- Where the parts of a segment begin, in bytes from 0.
 use Rattle.std.specs.Prelude.{◌≡◌, ℕ, ◌+◌, List, [], ◌∷◌, length, Result, Ok, Err}
 use Rattle.std.specs.Global.{Vec}
 use Rattle.std.specs.List.{flat_map}
@@ -21,13 +21,13 @@ pub record IsIndexOf (r : Records) (index : Index) : Type 0 where
   pub counted : index.counted.items ≡ counted_offsets 12 r.records
   pub terms : index.terms.items ≡ offsets term_bytes (16 + length (flat_map record_bytes r.records)) r.terms
 
--- A call passed records, and told where they and their counted ordinals begin.
+-- A call passed records, and returned where they and their counted ordinals begin.
 abbrev pub MarksRecords : Result (Vec ℕ × Vec ℕ) SegFault → Place → Place → Result (List Stored × Place) SegFault → Type 0
 MarksRecords (Ok marks) old new read = (rs : List Stored) × (read ≡ Ok (rs, new)) × (marks.0.items ≡ offsets record_bytes old.at rs)
     × (marks.1.items ≡ counted_offsets old.at rs)
 MarksRecords (Err e) old new read = Fails e read
 
--- A call passed terms, and told where they begin.
+-- A call passed terms, and returned where they begin.
 abbrev pub MarksTerms : Result (Vec ℕ) SegFault → Place → Place → Result (List (List ℕ × List ℕ) × Place) SegFault → Type 0
 MarksTerms (Ok marks) old new read = (ts : List (List ℕ × List ℕ)) × (read ≡ Ok (ts, new)) × (marks.items ≡ offsets term_bytes old.at ts)
 MarksTerms (Err e) old new read = Fails e read

@@ -1,4 +1,4 @@
--- Reading a segment from left to right, with the first fault that is met.
+-- Reading a segment from left to right, with the first fault.
 use Rattle.std.specs.Prelude.{◌≡◌, ℕ, zero, suc, ◌+◌, ◌^◌, ◌||◌, List, [], ◌∷◌, length, Option, Some, None, Result, Ok, Err, nat_lt, nat_le, ◌==◌, if◌then◌else◌}
 use Rattle.facet_codec.specs.declared.fault.CodecFault.{CodecFault}
 use Rattle.facet_codec.specs.Places.{Place}
@@ -10,9 +10,9 @@ use Rattle.seg_grammar.specs.declared.fault.SegFault.{SegFault}
 use Rattle.seg_grammar.specs.declared.fault.SegFault.TheVariants.{BadMagic, BadVersion, Codec, Disorder, NoMemory}
 use Rattle.seg_grammar.specs.Spelling.{front_bytes, comes_after}
 
--- ---- what a call answers
+-- ---- what a call returns
 
--- Unless memory ran out, the fault is the one that reading meets.
+-- Unless memory ran out, the fault is that of reading.
 abbrev pub Fails : {Y : Type 0} → SegFault → Result Y SegFault → Type 0
 Fails BadMagic read = read ≡ Err BadMagic
 Fails (BadVersion v) read = read ≡ Err (BadVersion v)
@@ -20,22 +20,22 @@ Fails (Codec at) read = read ≡ Err (Codec at)
 Fails (Disorder at) read = read ≡ Err (Disorder at)
 Fails NoMemory read = Unit {0}
 
--- A call read a value, and its cursor stands behind it.
+-- A call read a value, and its cursor is after it.
 abbrev pub Reads : {X Y : Type 0} → (X → Y) → Result X SegFault → Place → Result (Y × Place) SegFault → Type 0
 Reads view (Ok x) new read = read ≡ Ok (view x, new)
 Reads view (Err e) new read = Fails e read
 
--- A call passed a value, which it does not hand out.
+-- A call passed a value, which it does not return.
 abbrev pub Passes : {X Y : Type 0} → Result X SegFault → Place → Result (Y × Place) SegFault → Type 0
 Passes {X} {Y} (Ok x) new read = (y : Y) × (read ≡ Ok (y, new))
 Passes (Err e) new read = Fails e read
 
--- A call passed a record, and told where its counted ordinals begin.
+-- A call passed a record, and returned where its counted ordinals begin.
 abbrev pub PassesRecord : Result ℕ SegFault → Place → Place → Result (Stored × Place) SegFault → Type 0
 PassesRecord (Ok at) old new read = (r : Stored) × (read ≡ Ok (r, new)) × (at ≡ old.at + length (front_bytes r))
 PassesRecord (Err e) old new read = Fails e read
 
--- A call passed a term, and handed out its text.
+-- A call passed a term, and returned its text.
 abbrev pub PassesTerm : {X : Type 0} → (X → List ℕ) → Result X SegFault → Place → Result ((List ℕ × List ℕ) × Place) SegFault → Type 0
 PassesTerm view (Ok x) new read = (t : List ℕ × List ℕ) × (read ≡ Ok (t, new)) × (t.0 ≡ view x)
 PassesTerm view (Err e) new read = Fails e read
@@ -47,7 +47,7 @@ PassesHead (Err e) new read = Fails e read
 
 -- ---- numbers and texts
 
--- a value of the codec, whose fault is told by its place
+-- a value of the codec; its fault is reported by its place
 abbrev pub codec : {A : Type 0} → Result A CodecFault → Result A SegFault
 codec read = told_as (λ e. Codec (fault_at e)) read
 
@@ -106,7 +106,7 @@ record_at p = do
 
 -- ---- terms
 
--- a text that comes after the one before it
+-- a text that is greater than the one before it
 unfoldable pub key_at : Option (List ℕ) → Place → Result (List ℕ × Place) SegFault
 key_at previous p = do
   key ← codec (text_at 65568 p)
@@ -125,7 +125,7 @@ term_at previous docs p = do
   places ← places_at docs key.1
   Ok ((key.0, places.0), places.1)
 
--- so many terms, each after the one before it
+-- so many terms, each greater than the one before it
 unfoldable pub terms_at : ℕ → Option (List ℕ) → ℕ → Place → Result (List (List ℕ × List ℕ) × Place) SegFault
 terms_at zero previous docs p = Ok ([], p)
 terms_at (suc n) previous docs p = do
@@ -153,7 +153,7 @@ docs_at p = do
   n ← number_at p
   if n.0 == 0 then Err (Disorder p.at) else (if nat_lt 1000000 n.0 then Err (Codec p.at) else Ok n)
 
--- the records and terms that all of the bytes are, or the first fault
+-- the records and terms in the bytes, or the first fault
 unfoldable pub segment_at : List ℕ → Result Records SegFault
 segment_at bytes = do
   start ← head_at (record { at = 0; rest = bytes })

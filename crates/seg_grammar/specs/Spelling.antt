@@ -1,4 +1,4 @@
--- A segment, format 1: records and terms, the one spelling of them, and the limits of the format.
+-- A segment, format 1: records and terms, their only spelling, and the limits of the format.
 use Rattle.std.specs.Prelude.{◌≡◌, ℕ, ◌<◌, ◌≤◌, ◌^◌, Bool, true, List, [], ◌∷◌, ◌++◌, length, Option, Some, None}
 use Rattle.std.specs.List.{flat_map, AllByRecursion}
 use Rattle.std.specs.Ordering.{is_lt, nat_cmp}
@@ -14,7 +14,7 @@ use Rattle.facet_model.specs.Stored.{Stored, Records}
 abbrev pub list_bytes : List ℕ → List ℕ
 list_bytes ns = vint (length ns) ++ flat_map be32 ns
 
--- what stands before a record's counted ordinals: its id, its text and its leaves
+-- what precedes a record's counted ordinals: its id, its text and its leaves
 unfoldable pub front_bytes : Stored → List ℕ
 front_bytes r = text r.id ++ (text r.text ++ list_bytes r.leaves)
 
@@ -71,17 +71,18 @@ pub record IsTerm (docs : ℕ) (t : List ℕ × List ℕ) : Type 0 where
   pub text : IsText 65568 t.0
   pub places : ArePlacesBelow docs t.1
 
--- a text comes after the one before it, if there is one, by its bytes
+-- a text is greater than the one before it, if there is one, by its bytes
 abbrev pub comes_after : Option (List ℕ) → List ℕ → Bool
 comes_after None t = true
 comes_after (Some u) t = is_lt (slice_cmp nat_cmp u t)
 
--- each term comes after the one before it
+-- each term is greater than the one before it
 abbrev pub TermsRise : Option (List ℕ) → List (List ℕ × List ℕ) → Type 0
 TermsRise previous [] = Unit {0}
 TermsRise previous (t ∷ ts) = (comes_after previous t.0 ≡ true) × TermsRise (Some t.0) ts
 
--- The bytes are the segment of these records and terms, which are within every limit of the format. All records are live.
+-- The bytes are the segment of these records and terms, which are within every limit of the format. All records are
+-- live.
 pub record IsSegment (bytes : List ℕ) (r : Records) : Type 0 where
   pub spelled : bytes ≡ seg_bytes r
   pub some : 1 ≤ length r.records

@@ -3,18 +3,19 @@ ghost use Rattle.std.specs.Prelude.{◌≡◌};
 use facet_codec::CodecFault;
 use std::alloc::{AllocError, AllocFailed};
 
-/// Why bytes are no segment: the first fault that reading them from left to right meets. `at` is its place, in bytes from the first one of all.
+/// Why bytes are not a segment: the first fault in reading them from left to right. `at` is its place, in bytes from 0.
 #[derive(Clone, Copy, Debug, PartialEq, Eq)]
 pub enum SegFault {
     /// The bytes do not begin with `FSEG`.
     BadMagic,
-    /// The version is not 1.
+    /// The version is `v`, not 1.
     BadVersion { v: u64 },
     /// A number or a text cannot be read, or a count is above its limit.
     Codec { at: u64 },
-    /// A count is 0 that must not be, an id is empty, a number or a term does not rise, a place is no document's, or bytes are left over.
+    /// A count is 0 that may not be, an id is empty, a number or a term does not rise, a place is not that of a
+    /// document, or bytes follow the segment.
     Disorder { at: u64 },
-    /// An allocation was refused.
+    /// Out of memory.
     NoMemory,
 }
 

@@ -10,16 +10,18 @@ use crate::reading::{docs, head, record, term};
 use facet_codec::Cursor;
 use std::alloc::Global;
 
-/// Where the parts of a segment begin, in bytes from the first one of all: each record, the counted ordinals of each record, and each term. It takes
-/// 16 bytes a record and 8 a term.
+/// Where the parts of a segment begin, in bytes from 0. It takes 16 bytes per record and 8 per term.
 #[derive(Drop)]
 pub struct Index {
+    /// Where each record begins.
     pub records: Vec<usize>,
+    /// Where the counted ordinals of each record begin.
     pub counted: Vec<usize>,
+    /// Where each term begins.
     pub terms: Vec<usize>,
 }
 
-/// Passes so many records. It tells where each begins, and where its counted ordinals begin.
+/// Passes `n` records. Returns where each begins, and where its counted ordinals begin.
 fn records(
     alloc: Global,
     cursor: &mut Cursor<'_>,
@@ -39,7 +41,7 @@ fn records(
     Ok((records, counted))
 }
 
-/// Passes so many terms, and tells where each begins.
+/// Passes `n` terms. Returns where each begins.
 fn terms(alloc: Global, cursor: &mut Cursor<'_>, n: u32, docs: u32) -> Result<Vec<usize>, SegFault>
     ensures { MarksTerms result cursor.old cursor.new (terms_at n None docs cursor.old) }
 {
@@ -54,7 +56,10 @@ fn terms(alloc: Global, cursor: &mut Cursor<'_>, n: u32, docs: u32) -> Result<Ve
     Ok(terms)
 }
 
-/// Reads a segment, which is all of the bytes, in one pass from left to right. It keeps nothing but where the parts begin.
+/// Reads a segment in one pass from left to right, and checks that the bytes are exactly one. It stores only where the
+/// parts begin.
+///
+/// Errors: the first fault; out of memory.
 #[tactic(auto, unfolding(crate::specs::Reading::segment_at))]
 pub fn read_index(alloc: Global, bytes: &[u8]) -> Result<Index, SegFault>
     ensures found { IfOk result (λ i. (r : Records) × (segment_at bytes.now ≡ Ok r) × IsSegment bytes.now r × IsIndexOf r i) }

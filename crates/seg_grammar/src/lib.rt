@@ -1,6 +1,7 @@
 //! The grammar of a stored segment, format 1: which bytes are the segment of which records and terms, and reading them.
 //!
-//! A segment has exactly one spelling, so that two segments are equal where their bytes are. Reading keeps nothing but where the parts begin.
+//! A segment has exactly one spelling, so two segments are equal if their bytes are. Reading stores only where the
+//! parts begin.
 #![tactic(auto)]
 
 mod fault;

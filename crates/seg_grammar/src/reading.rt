@@ -6,7 +6,7 @@ ghost use Rattle.seg_grammar.specs.Reading.{Reads, Passes, PassesRecord, PassesT
 use crate::fault::SegFault;
 use facet_codec::Cursor;
 
-/// A vInt of at most `max`.
+/// Reads a vInt of at most `max`.
 #[tactic(auto, unfolding(crate::specs::Reading::count_at))]
 fn count(cursor: &mut Cursor<'_>, max: u32) -> Result<u32, SegFault>
     ensures { Reads (λ x. x) result cursor.new (count_at max cursor.old) }
@@ -19,7 +19,7 @@ fn count(cursor: &mut Cursor<'_>, max: u32) -> Result<u32, SegFault>
     Ok(n)
 }
 
-/// A number that is not 0.
+/// Reads a number that is not 0.
 #[tactic(auto, unfolding(crate::specs::Reading::some_at))]
 fn some(cursor: &mut Cursor<'_>) -> Result<u32, SegFault>
     ensures { Reads (λ x. x) result cursor.new (some_at cursor.old) }
@@ -32,7 +32,7 @@ fn some(cursor: &mut Cursor<'_>) -> Result<u32, SegFault>
     Ok(n)
 }
 
-/// Passes so many numbers.
+/// Passes `n` numbers.
 fn numbers(cursor: &mut Cursor<'_>, n: u32) -> Result<(), SegFault>
     ensures { Passes result cursor.new (list_at number_at n cursor.old) }
 {
@@ -42,7 +42,7 @@ fn numbers(cursor: &mut Cursor<'_>, n: u32) -> Result<(), SegFault>
     Ok(())
 }
 
-/// Passes so many numbers, each above the one before, and all below `high`.
+/// Passes `n` numbers, each above the one before, and all below `high`.
 fn rising(cursor: &mut Cursor<'_>, n: u32, high: u64) -> Result<(), SegFault>
     ensures { Passes result cursor.new (rising_at n 0 high cursor.old) }
 {
@@ -58,7 +58,7 @@ fn rising(cursor: &mut Cursor<'_>, n: u32, high: u64) -> Result<(), SegFault>
     Ok(())
 }
 
-/// A text that is not empty, of at most 256 bytes.
+/// Reads a text of 1 to 256 bytes.
 #[tactic(auto, unfolding(crate::specs::Reading::id_at))]
 fn id<'a>(cursor: &mut Cursor<'a>) -> Result<&'a str, SegFault>
     ensures { Reads (λ x. x.now) result cursor.new (id_at cursor.old) }
@@ -89,7 +89,7 @@ fn counted(cursor: &mut Cursor<'_>) -> Result<(), SegFault>
     rising(cursor, n, 0x1_0000_0000)
 }
 
-/// Passes a record, and tells where its counted ordinals begin.
+/// Passes a record, and returns where its counted ordinals begin.
 #[tactic(auto, unfolding(crate::specs::Reading::record_at))]
 pub(crate) fn record(cursor: &mut Cursor<'_>) -> Result<usize, SegFault>
     ensures { PassesRecord result cursor.old cursor.new (record_at cursor.old) }
@@ -103,7 +103,7 @@ pub(crate) fn record(cursor: &mut Cursor<'_>) -> Result<usize, SegFault>
     Ok(at)
 }
 
-/// A text that comes after the one before it.
+/// Reads a text that is greater than the one before it.
 #[tactic(auto, unfolding(crate::specs::Reading::key_at))]
 fn key<'a>(cursor: &mut Cursor<'a>, previous: Option<&str>) -> Result<&'a str, SegFault>
     ensures { Reads (λ x. x.now) result cursor.new (key_at (option_map (λ u. u.now) previous.entry) cursor.old) }
@@ -127,7 +127,7 @@ fn places(cursor: &mut Cursor<'_>, docs: u32) -> Result<(), SegFault>
     rising(cursor, n, docs as u64)
 }
 
-/// Passes a term, and hands out its text.
+/// Passes a term, and returns its text.
 #[tactic(auto, unfolding(crate::specs::Reading::term_at))]
 pub(crate) fn term<'a>(
     cursor: &mut Cursor<'a>,
@@ -161,7 +161,7 @@ pub(crate) fn head(cursor: &mut Cursor<'_>) -> Result<(), SegFault>
     Ok(())
 }
 
-/// The number of documents.
+/// Reads the number of documents.
 #[tactic(auto, unfolding(crate::specs::Reading::docs_at))]
 pub(crate) fn docs(cursor: &mut Cursor<'_>) -> Result<u32, SegFault>
     ensures { Reads (λ x. x) result cursor.new (docs_at cursor.old) }

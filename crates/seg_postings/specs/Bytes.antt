@@ -1,4 +1,4 @@
--- Places as bytes, four each, the highest first.
+-- Places as bytes, four bytes each, big-endian.
 use Rattle.std.specs.Prelude.{◌≡◌, ℕ, ◌^◌, List, map}
 use Rattle.std.specs.List.{flat_map, AllByRecursion}
 use Rattle.std.specs.Int.{w32, from_be_bytes}
@@ -10,11 +10,11 @@ use Rattle.seg_postings.specs.Rising.{IsRising}
 abbrev pub bytes_of : List ℕ → List ℕ
 bytes_of places = flat_map be32 places
 
--- the place that four bytes are
+-- the place in four bytes
 abbrev pub place_of : List ℕ → ℕ
 place_of chunk = from_be_bytes w32 chunk
 
--- the places that chunks of four bytes are
+-- the places in chunks of four bytes
 abbrev pub places_of : List (List ℕ) → List ℕ
 places_of chunks = map place_of chunks
 

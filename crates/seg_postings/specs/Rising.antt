@@ -26,7 +26,7 @@ abbrev pub first_of : List ℕ → Option ℕ
 first_of [] = None
 first_of (x ∷ xs) = Some x
 
--- The answer is the first number of the list, and the others are left. None is the answer at the end alone.
+-- The result is the first number of the list, and the others are left. It is none only at the end.
 abbrev pub IsNext : Option ℕ → List ℕ → List ℕ → Type 0
 IsNext None old new = (old ≡ []) × (new ≡ [])
 IsNext (Some x) old new = old ≡ x ∷ new

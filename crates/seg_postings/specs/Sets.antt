@@ -3,7 +3,7 @@ use Rattle.std.specs.Prelude.{ℕ, Bool, not, List, [], ◌∷◌, nat_lt, ◌==
 use Rattle.std.specs.List.{filter}
 use Rattle.seg_postings.specs.Rising.{is_in}
 
--- the numbers of xs whose being in ys passes the test
+-- the numbers of xs that pass the test of whether they are in ys
 unfoldable pub picked : (Bool → Bool) → List ℕ → List ℕ → List ℕ
 picked test xs ys = filter (λ x. test (is_in x ys)) xs
 

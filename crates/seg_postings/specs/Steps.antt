@@ -13,7 +13,7 @@ least_of None b = b
 least_of (Some x) None = Some x
 least_of (Some x) (Some y) = if nat_lt y x then Some y else Some x
 
--- What is left behind the first place rises from it. Without a first place nothing is left.
+-- What is left after the first place rises from it. Without a first place nothing is left.
 abbrev pub IsPeeked : Option ℕ → List ℕ → Type 0
 IsPeeked None xs = xs ≡ []
 IsPeeked (Some x) xs = IsRising (x ∷ xs)

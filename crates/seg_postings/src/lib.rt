@@ -1,5 +1,5 @@
-//! Strictly rising lists of places over lent bytes, place by place and without memory, as Lucene's `DocIdSetIterator`s over postings, and what unions
-//! and differences of such lists are.
+//! Strictly rising lists of places over borrowed bytes, place by place and without allocating, as Lucene's
+//! `DocIdSetIterator`s over postings, and the unions and differences of such lists.
 #![tactic(auto)]
 
 pub mod laws;

@@ -4,7 +4,8 @@ ghost use Rattle.seg_postings.specs.Rising.{IsNext};
 
 use std::marker::Model;
 
-/// Numbers over lent bytes, four each, the highest byte first, in the order in which they stand. It keeps no copy, and no call takes memory.
+/// Numbers over borrowed bytes, four bytes each and big-endian, in the order in which they are stored. No call
+/// allocates.
 #[derive(Drop)]
 pub struct Ords<'a> {
     ords: &'a [[u8; 4]],
@@ -20,7 +21,7 @@ impl<'a> Model for Ords<'a> {
 }
 
 impl<'a> Ords<'a> {
-    /// The numbers that the bytes are. It looks at none of them.
+    /// Reads bytes as numbers. It reads none of them yet, and takes constant time.
     pub fn new(bytes: &'a [u8]) -> Ords<'a>
         requires { IsOfNumbers bytes.now }
         ensures { (numbers : List ℕ) → AreNumbers bytes.now numbers → result ≡ numbers }
@@ -29,14 +30,14 @@ impl<'a> Ords<'a> {
         Ords { ords }
     }
 
-    /// How many are left, in constant time.
+    /// Returns how many numbers are left, in constant time.
     pub fn len(&self) -> usize
         ensures { result ≡ length self.now }
     {
         self.ords.len()
     }
 
-    /// The number that stands at an index, in constant time.
+    /// Returns the number at an index, from 0, in constant time.
     pub fn at(&self, index: usize) -> u32
         requires { index < length self.now }
         ensures { result ≡ slice_index_or self.now index 0 }
@@ -45,7 +46,7 @@ impl<'a> Ords<'a> {
         u32::from_be_bytes(ords[index])
     }
 
-    /// The next number left, in constant time.
+    /// Returns the next number, or `None` at the end, in constant time.
     pub fn next(&mut self) -> Option<u32>
         ensures { IsNext result self.old self.new }
     {

@@ -2,23 +2,23 @@ ghost use Rattle.seg_postings.specs.Rising.{IsRising, IsNext, from_place};
 ghost use Rattle.std.specs.Prelude.{◌≡◌, List, ℕ};
 ghost use Rattle.seg_postings.specs.Steps.{least_of};
 
-/// A strictly rising list of places, given from left to right. `None` comes at the end alone, and no call takes memory.
+/// A strictly rising list of places, from left to right. No call allocates.
 pub trait Places {
     /// The places left.
     ghost left: { Self → List ℕ };
 
-    /// The next place left.
+    /// Returns the next place, or `None` at the end.
     fn next(&mut self) -> Option<u32>
         ensures rising { IsRising (left self.old) }
         ensures next { IsNext result (left self.old) (left self.new) };
 
-    /// The first place left that is at least `place`. It and all before it are passed.
+    /// Returns the first place left that is at least `place`, or `None`. It is passed, with all places before it.
     fn seek(&mut self, place: u32) -> Option<u32>
         ensures rising { IsRising (left self.old) }
         ensures next { IsNext result (from_place place (left self.old)) (left self.new) };
 }
 
-/// The lesser of two places, where there are two, and else the one that there is.
+/// Returns the lesser of two places if both are given, and otherwise the given one.
 pub fn least(a: Option<u32>, b: Option<u32>) -> Option<u32>
     ensures { result ≡ least_of a b }
 {

@@ -5,7 +5,7 @@ use crate::places::Places;
 use crate::search::first_from;
 use std::marker::Model;
 
-/// A strictly rising list of places over lent bytes, four each, the highest byte first. It keeps no copy, and takes no memory.
+/// A strictly rising list of places over borrowed bytes, four bytes each and big-endian. No call allocates.
 #[derive(Drop)]
 pub struct Postings<'a> {
     places: &'a [[u8; 4]],
@@ -24,7 +24,7 @@ impl<'a> Model for Postings<'a> {
 }
 
 impl<'a> Postings<'a> {
-    /// The places that the bytes are. It looks at none of them.
+    /// Reads bytes as places. It reads none of them yet, and takes constant time.
     pub fn new(bytes: &'a [u8]) -> Postings<'a>
         requires { AreRisingPlaces bytes.now }
         ensures { (places : List ℕ) → ArePlaces bytes.now places → result ≡ places }
@@ -33,14 +33,14 @@ impl<'a> Postings<'a> {
         Postings { places }
     }
 
-    /// How many places there are, in constant time.
+    /// Returns how many places there are, in constant time.
     pub fn len(&self) -> usize
         ensures { result ≡ length self.now }
     {
         self.places.len()
     }
 
-    /// The place that stands at an index, in constant time.
+    /// Returns the place at an index, from 0, in constant time.
     pub fn at(&self, index: usize) -> u32
         requires { index < length self.now }
         ensures { result ≡ slice_index_or self.now index 0 }
@@ -49,7 +49,7 @@ impl<'a> Postings<'a> {
         u32::from_be_bytes(places[index])
     }
 
-    /// A cursor at the first place.
+    /// Returns a cursor at the first place.
     pub fn cursor(&self) -> PostingsCursor<'a>
         ensures { result ≡ self.now }
     {
@@ -59,11 +59,11 @@ impl<'a> Postings<'a> {
     }
 }
 
-/// Gives the places of a list from left to right.
+/// Visits the places of a list from left to right. No call allocates.
 ///
-/// `next` takes constant time. `seek` gallops: from where the cursor stands it looks at places by steps that double until it has passed the one
-/// asked, and then bisects between the last two. So it looks at a number of places in the logarithm of how many it passes, and a near place
-/// costs as little as `next`.
+/// `next` takes constant time. `seek` gallops (exponential search): from the cursor on it reads places at doubling
+/// distances until it has passed the one asked for, and then bisects between the last two. It reads a number of places
+/// logarithmic in how many it passes, and a near place costs as little as `next`.
 #[derive(Drop)]
 pub struct PostingsCursor<'a> {
     places: &'a [[u8; 4]],

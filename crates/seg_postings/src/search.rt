@@ -3,7 +3,8 @@ ghost use Rattle.seg_postings.specs.Rising.{IsRising};
 ghost use Rattle.seg_postings.specs.Bytes.{places_of};
 ghost use Rattle.seg_postings.specs.Steps.{IsFirstFrom};
 
-/// How many of the places are below `place`. It looks at about twice the logarithm of that number of places.
+/// Returns how many of the places are below `place`. It reads about twice as many places as the logarithm of that
+/// number.
 pub(crate) fn first_from(places: &[[u8; 4]], place: u32) -> usize
     requires { IsRising (places_of places.now) }
     ensures first { IsFirstFrom place (places_of places.now) result result }
@@ -13,7 +14,7 @@ pub(crate) fn first_from(places: &[[u8; 4]], place: u32) -> usize
     bisect(places, place, low, high)
 }
 
-// Bounds of that number, by steps that double up to a place that is not below `place`.
+// Returns bounds of that number, by doubling steps up to a place that is not below `place`.
 fn reach(places: &[[u8; 4]], place: u32) -> (usize, usize)
     requires { IsRising (places_of places.now) }
     ensures between { IsFirstFrom place (places_of places.now) result.0 result.1 }
@@ -35,7 +36,7 @@ fn reach(places: &[[u8; 4]], place: u32) -> (usize, usize)
     (low, places.len())
 }
 
-// That number, by halving between two bounds.
+// Returns that number, by bisection between two bounds.
 fn bisect(places: &[[u8; 4]], place: u32, low: usize, high: usize) -> usize
     requires rising { IsRising (places_of places.now) }
     requires between { IsFirstFrom place (places_of places.now) low high }

@@ -24,7 +24,7 @@ found table term = lookup (bytes_eq term) table
 abbrev pub ends_with : List ℕ → ℕ → Bool
 ends_with places place = option_map_or (nat_eq place) (slice_get places (length places - 1)) false
 
--- these places, and behind them the place where it is not the last one
+-- these places, and after them the place unless it is the last one
 abbrev pub put_place : List ℕ → ℕ → List ℕ
 put_place places place = if ends_with places place then places else places ++ place ∷ []
 
@@ -37,12 +37,12 @@ with_place (Some places) place = Some (put_place places place)
 abbrev pub AreNoted : ℕ → List (List ℕ) → Table → Table → Type 0
 AreNoted place terms old new = (t : List ℕ) → found new t ≡ (if list_any (bytes_eq t) terms then with_place (found old t) place else found old t)
 
--- these places behind those of a term, if there are any
+-- these places after those of a term, if there are any
 abbrev pub behind : Option (List ℕ) → List ℕ → Option (List ℕ)
 behind places [] = places
 behind places (p ∷ ps) = Some (unwrap_or places [] ++ p ∷ ps)
 
--- the new table is the old one with these places behind those of the term
+-- the new table is the old one with these places after those of the term
 abbrev pub AreNotedBehind : List ℕ → List ℕ → Table → Table → Type 0
 AreNotedBehind term places old new = (t : List ℕ) → found new t ≡ (if bytes_eq t term then behind (found old t) places else found old t)
 

@@ -17,23 +17,23 @@ use facet_names::{NoMemory, Path, push_part};
 use std::alloc::Global;
 use std::hash::RandomState;
 
-/// Collects the terms of documents. The text of each term is made in one buffer, so a term that is known takes no memory.
+/// Collects the terms of documents. It makes the text of each term in one buffer, so a known term allocates nothing.
 #[derive(Drop)]
 pub struct TermCollector {
     table: TermTable,
     term: String,
 }
 
-/// Where the first blank of a text stands: the end of its first word, which has no byte where the text begins with a blank.
-///
-/// Blanks are the space, the tab, the carriage return and the line feed.
+/// Returns where the first word of a text ends: the place of the first blank, or `None` if there is none. The word is
+/// empty if the text begins with a blank. Blanks are space, tab, carriage return and line feed.
 pub fn word_end(text: &[u8]) -> Option<usize>
     ensures { result ≡ position is_blank text.now }
 {
     text.iter().position(|byte| is_blank(*byte))
 }
 
-/// Makes `term` the term of a word, which is a text: a `w` and the word. Where memory is short it may hold the first bytes of the term.
+/// Makes `term` the term of a word, which is UTF-8: a `w` and the word. Errors: out of memory; then `term` may have a
+/// prefix of it.
 pub fn write_word_term(term: &mut String, word: &[u8]) -> Result<(), NoMemory>
     requires { IsUtf8 word.now }
     ensures { OnOk result (string_bytes term.new ≡ codes "w" ++ word.now) }
@@ -46,7 +46,7 @@ pub fn write_word_term(term: &mut String, word: &[u8]) -> Result<(), NoMemory>
 }
 
 impl TermCollector {
-    /// No term. Look-ups hash terms with `keys`.
+    /// Returns a collector without a term. `keys` are the hash keys of terms. Errors: out of memory.
     pub fn new(alloc: Global, keys: RandomState) -> Result<TermCollector, NoMemory>
         ensures { IfOk result (λ c. c.table ≡ []) }
     {
@@ -57,7 +57,7 @@ impl TermCollector {
         })
     }
 
-    // A piece that has no byte is no word.
+    // An empty piece is not a word.
     fn note_word(&mut self, word: &[u8], place: u32) -> Result<(), NoMemory>
         requires { IsUtf8 word.now }
         ensures { OnOk result (AreNoted place (piece_terms (word.now ∷ [])) self.old.table self.new.table) }
@@ -69,7 +69,7 @@ impl TermCollector {
         self.table.note(self.term.as_str(), place)
     }
 
-    // The text has small letters alone.
+    // The text is lowered.
     fn note_words(&mut self, text: &str, place: u32) -> Result<(), NoMemory>
         ensures { OnOk result (AreNoted place (piece_terms (slice_split is_blank text.now)) self.old.table self.new.table) }
     {
@@ -82,7 +82,7 @@ impl TermCollector {
         self.note_word(rest, place)
     }
 
-    // Each prefix goes on from the one before it.
+    // Each prefix continues the one before it.
     fn note_label(&mut self, label: &Path, place: u32) -> Result<(), NoMemory>
         ensures noted { OnOk result (AreNoted place (path_terms (prefixes label.now)) self.old.table self.new.table) }
         ensures fits { OnOk result (IsPath label.now) }
@@ -106,7 +106,8 @@ impl TermCollector {
         Ok(())
     }
 
-    /// Notes the place under each term of a document. It takes memory for a copy of the text in small letters, which it gives back.
+    /// Notes the place under each term of a document. It allocates a lowered copy of the text, which it drops. Errors:
+    /// out of memory.
     pub fn note_document(
         &mut self,
         alloc: Global,
@@ -121,7 +122,7 @@ impl TermCollector {
         self.note_labels(doc.facets(), place)
     }
 
-    /// The terms with their places, sorted by the terms' bytes.
+    /// Returns the terms with their places, sorted by the bytes of the terms. Errors: out of memory.
     pub fn into_sorted(self, alloc: Global) -> Result<Vec<TermPlaces>, NoMemory>
         ensures rising { IfOk result (λ v. IsStrictlySortedBy word_cmp (keys_of (map term_view v.items))) }
         ensures same { IfOk result (λ v. (t : List ℕ) → found (map term_view v.items) t ≡ found self.table t) }

@@ -2,7 +2,7 @@ ghost use Rattle.std.specs.Prelude.{◌≡◌, ◌≤◌, length};
 
 use facet_model::{Counted, Document};
 
-/// A document as a segment stores it: the ordinals of its labels, in the order of its facets, and the ordinals that are counted for it.
+/// A document with the ordinals that a segment stores for it.
 #[derive(Debug, Drop)]
 pub struct Entry {
     /// The document.

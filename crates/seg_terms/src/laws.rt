@@ -1,11 +1,12 @@
 ghost use Rattle.seg_terms.specs.Laws.{TermsRise, TermsAreFound};
 
-/// The terms of documents rise by their bytes.
+/// States that the terms of documents rise by their bytes.
 pub fn terms_rise()
     ensures { TermsRise }
 {}
 
-/// A term is among the terms of documents, with the places of those that have it, exactly where one has it.
+/// States that the terms of documents are exactly those that a document has, each with the places of all documents that
+/// have it.
 pub fn terms_are_found()
     ensures { TermsAreFound }
 {}

@@ -6,14 +6,15 @@ use std::hash::{FoldHasher, Hasher};
 
 const SLOTS: usize = 1024;
 
-/// Numbers of terms that were noted before, each in the slot of its term. A number is a guess, and whoever asks for it compares the term: two terms may
-/// have one slot, and whoever chooses terms can make many that do. Then each costs one comparison more.
+/// Numbers of recent terms, each in the slot of its term. A number is a guess: two terms may share a slot, so the
+/// caller compares the term. Somebody who chooses the terms can make many that share one slot; then each costs one
+/// comparison more.
 #[derive(Drop)]
 pub struct RecentTerms {
     numbers: Vec<usize>,
 }
 
-/// The slot of a term, by a hash that takes less time than one with keys.
+/// Returns the slot of a term, by a hash without keys, which is faster than one with keys.
 pub fn slot_of(term: &str) -> usize
     ensures { result < 1024 }
 {
@@ -23,13 +24,13 @@ pub fn slot_of(term: &str) -> usize
 }
 
 impl RecentTerms {
-    /// Each slot has the number 0.
+    /// Returns slots that all have the number 0. Errors: out of memory.
     pub fn new(alloc: Global) -> Result<RecentTerms, NoMemory> {
         let numbers = vec![in alloc; 0usize; SLOTS]?;
         Ok(RecentTerms { numbers })
     }
 
-    /// The number in a slot.
+    /// Returns the number in a slot, or 0.
     pub fn at(&self, slot: usize) -> usize {
         match self.numbers.get(slot) {
             Some(number) => *number,
@@ -37,7 +38,7 @@ impl RecentTerms {
         }
     }
 
-    /// Puts a number into a slot.
+    /// Stores a number in a slot.
     pub fn put(&mut self, slot: usize, number: usize) {
         if let Some(old) = self.numbers.get_mut(slot) {
             *old = number;

@@ -13,7 +13,8 @@ use std::alloc::Global;
 use std::hash::RandomState;
 use std::marker::Model;
 
-/// Terms with the places of the documents that have them, found by hash. The number of a term is its place in the order in which they came.
+/// Terms with the places of the documents that have them, found by hash. The number of a term is its place in the order
+/// of their arrival.
 #[derive(Drop)]
 pub struct TermTable {
     terms: IndexMap<String, Vec<u32>, RandomState>,
@@ -28,7 +29,7 @@ impl Model for TermTable {
     ghost view = { λ t. table_of t.terms.entries };
 }
 
-// Puts a place behind the others, where it isn't the last one.
+// Adds a place after the others, unless it is the last one.
 fn put_place(places: &mut Vec<u32>, place: u32) -> Result<(), NoMemory>
     ensures { OnOk result (places.new.items ≡ put_place places.old.items place) }
 {
@@ -41,7 +42,7 @@ fn put_place(places: &mut Vec<u32>, place: u32) -> Result<(), NoMemory>
     Ok(())
 }
 
-// Puts places behind the others.
+// Adds places after the others.
 fn put_all(noted: &mut Vec<u32>, places: &[u32]) -> Result<(), NoMemory>
     ensures { OnOk result (noted.new.items ≡ noted.old.items ++ places.now) }
 {
@@ -50,7 +51,8 @@ fn put_all(noted: &mut Vec<u32>, places: &[u32]) -> Result<(), NoMemory>
 }
 
 impl TermTable {
-    /// No term. Look-ups hash terms with `keys`, on which no answer depends.
+    /// Returns a table without a term. `keys` are the hash keys of terms; no result depends on them. Errors: out of
+    /// memory.
     pub fn new(alloc: Global, keys: RandomState) -> Result<TermTable, NoMemory>
         ensures { IfOk result (λ t. t ≡ []) }
     {
@@ -61,8 +63,10 @@ impl TermTable {
         })
     }
 
-    /// Notes a place under a term. It takes memory for the term's text where the term is new, and for the places where they grow. A term that was noted a
-    /// short while ago is found by a comparison, and others by hash.
+    /// Notes a place under a term. It allocates the text of a new term, and the places when they grow. A recent term is
+    /// found by one comparison, and others by hash.
+    ///
+    /// Errors: out of memory.
     pub fn note(&mut self, term: &str, place: u32) -> Result<(), NoMemory>
         ensures { OnOk result (AreNoted place (term.now ∷ []) self.old self.new) }
     {
@@ -101,7 +105,7 @@ impl TermTable {
         put_place(places, place)
     }
 
-    // Adds a term that is not there.
+    // Adds a new term.
     fn add(&mut self, term: &str, place: u32) -> Result<(), NoMemory>
         requires { found self.old term.now ≡ None }
         ensures { OnOk result (AreNoted place (term.now ∷ []) self.old self.new) }
@@ -113,8 +117,8 @@ impl TermTable {
         Ok(())
     }
 
-    /// Notes places of a term behind those that it has, in the order given. A term that has no place is not noted. It takes memory for the term's text where the
-    /// term is new, and for the places.
+    /// Notes places of a term after those that it has, in the order given. A term without a place is not noted. It
+    /// allocates the text of a new term, and the places. Errors: out of memory.
     pub fn note_all(&mut self, term: &str, places: &[u32]) -> Result<(), NoMemory>
         ensures { OnOk result (AreNotedBehind term.now places.now self.old self.new) }
     {
@@ -131,7 +135,7 @@ impl TermTable {
         Ok(())
     }
 
-    /// The terms with their places, sorted by the terms' bytes.
+    /// Returns the terms with their places, sorted by the bytes of the terms. Errors: out of memory.
     pub fn into_sorted(mut self, alloc: Global) -> Result<Vec<TermPlaces>, NoMemory>
         ensures rising { IfOk result (λ v. IsStrictlySortedBy word_cmp (keys_of (map term_view v.items))) }
         ensures same { IfOk result (λ v. (t : List ℕ) → found (map term_view v.items) t ≡ found self t) }

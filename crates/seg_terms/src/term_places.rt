@@ -9,7 +9,7 @@ use facet_names::NoMemory;
 use std::alloc::Global;
 use std::hash::RandomState;
 
-/// A term, and the places of the documents that have it, rising.
+/// A term, and the places of the documents that have it.
 #[derive(Debug, Drop)]
 pub struct TermPlaces {
     /// The term: `w` and a word, or `f` and the text of a drill-down term.
@@ -18,11 +18,13 @@ pub struct TermPlaces {
     pub places: Vec<u32>,
 }
 
-/// The terms of documents, rising by their bytes, each once and with the places of the documents that have it, as the terms that Lucene's
-/// `FacetsConfig.build` and an analysed text field index.
+/// Returns the terms of documents, rising by their bytes, each once and with the places of the documents that have it.
+/// They are the terms that Lucene's `FacetsConfig.build` and an analysed text field index.
 ///
-/// It goes over the documents once, looks each term up by hash, and takes memory for each different term alone and for its places. In the end
-/// the terms are sorted.
+/// Costs: it visits the documents once and looks each term up by hash. It allocates each different term and its places.
+/// At the end it sorts the terms.
+///
+/// Errors: out of memory.
 pub fn terms_of(
     alloc: Global,
     keys: RandomState,

@@ -7,13 +7,13 @@ use Rattle.facet_model.specs.Stored.{Stored}
 use Rattle.seg_grammar.specs.Spelling.{front_bytes, record_bytes, term_bytes, IsRecord}
 use Rattle.seg_grammar.specs.Index.{counted_offsets}
 
--- A record stands behind the old bytes, its counted ordinals begin at `at`, and it is within the limits.
+-- A record follows the old bytes, its counted ordinals begin at `at`, and it is within the limits.
 pub record IsRecordPut (old new : List ℕ) (at : ℕ) (r : Stored) : Type 0 where
   pub bytes : new ≡ old ++ record_bytes r
   pub counted : at ≡ length old + length (front_bytes r)
   pub fits : IsRecord r
 
--- The records stand behind the old bytes, with where they and their counted ordinals begin, and are within the limits.
+-- The records follow the old bytes, with where they and their counted ordinals begin, and are within the limits.
 pub record AreRecordsPut (old new starts counted_starts : List ℕ) (rs : List Stored) : Type 0 where
   pub bytes : new ≡ old ++ flat_map record_bytes rs
   pub marks : starts ≡ offsets record_bytes (length old) rs
@@ -24,11 +24,11 @@ pub record AreRecordsPut (old new starts counted_starts : List ℕ) (rs : List S
 abbrev pub IsTermText : List ℕ × List ℕ → Type 0
 IsTermText t = IsText 65568 t.0
 
--- so few places that they are counted in four bytes
+-- so few places that four bytes can count them
 abbrev pub HasFewPlaces : List ℕ × List ℕ → Type 0
 HasFewPlaces t = length t.1 < 2 ^ 32
 
--- The terms stand behind the old bytes, with where they begin, and their texts are within the limits.
+-- The terms follow the old bytes, with where they begin, and their texts are within the limits.
 pub record AreTermsPut (old new starts : List ℕ) (ts : List (List ℕ × List ℕ)) : Type 0 where
   pub bytes : new ≡ old ++ flat_map term_bytes ts
   pub marks : starts ≡ offsets term_bytes (length old) ts

@@ -9,7 +9,7 @@ use facet_codec::{NoMemory, put_text, put_u32, put_vint};
 use seg_terms::Entry;
 use std::alloc::Global;
 
-/// Appends numbers of four bytes each.
+/// Appends numbers of four bytes each, big-endian. Errors: out of memory.
 pub fn put_numbers(out: &mut Vec<u8>, numbers: &[u32]) -> Result<(), NoMemory>
     ensures bytes { OnOk result (out.new.items ≡ out.old.items ++ flat_map be32 numbers.now) }
     ensures fit { AllByRecursion (IsBelow (2 ^ 32)) numbers.now }
@@ -20,7 +20,7 @@ pub fn put_numbers(out: &mut Vec<u8>, numbers: &[u32]) -> Result<(), NoMemory>
     Ok(())
 }
 
-// Appends a record, and tells where its counted ordinals begin. There are as many leaves as facets.
+// Appends a record, and returns where its counted ordinals begin. There are as many leaves as facets.
 fn put_record(out: &mut Vec<u8>, entry: &Entry) -> Result<usize, NoMemory>
     ensures { IfOk result (λ at. IsRecordPut out.old.items out.new.items at (stored_of entry.now)) }
 {
@@ -36,7 +36,7 @@ fn put_record(out: &mut Vec<u8>, entry: &Entry) -> Result<usize, NoMemory>
     Ok(counted_at)
 }
 
-/// Appends records, and tells where each begins, and where its counted ordinals begin.
+/// Appends records, and returns where each begins, and where its counted ordinals begin. Errors: out of memory.
 pub fn put_records(
     alloc: Global,
     out: &mut Vec<u8>,

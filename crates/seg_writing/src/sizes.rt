@@ -1,8 +1,8 @@
-//! How many bytes a segment takes, so that memory for it is taken once.
+//! How many bytes a segment takes, so that its memory is allocated once.
 
 use seg_terms::{Entry, TermPlaces};
 
-// The bytes of a text and of its length, a vInt.
+// Returns the bytes of a text and of its length, a vInt.
 fn text_size(len: usize) -> usize {
     let front = if len < 0x80 {
         1
@@ -18,7 +18,7 @@ fn text_size(len: usize) -> usize {
     len.saturating_add(front)
 }
 
-// Those of numbers of four bytes behind their count, which has at most two bytes.
+// Returns the bytes of numbers of four bytes after their count, which has at most two bytes.
 fn list_size(len: usize) -> usize {
     len.saturating_mul(4).saturating_add(2)
 }
@@ -39,7 +39,7 @@ fn term_size(term: &TermPlaces) -> usize {
     text.saturating_add(places).saturating_add(2)
 }
 
-/// At least as many bytes as the segment of these documents and terms takes, and at most two more a document.
+/// Returns an upper bound of the bytes of a segment, at most two bytes per document above the exact number.
 pub(crate) fn segment_size(entries: &[Entry], terms: &[TermPlaces]) -> usize {
     let mut size: usize = 16;
     for entry in entries {

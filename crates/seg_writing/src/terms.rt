@@ -22,7 +22,7 @@ fn put_term(out: &mut Vec<u8>, term: &TermPlaces) -> Result<(), NoMemory>
     Ok(())
 }
 
-/// Appends terms with their places, and tells where each begins.
+/// Appends terms with their places, and returns where each begins. Errors: out of memory.
 pub fn put_terms(
     alloc: Global,
     out: &mut Vec<u8>,

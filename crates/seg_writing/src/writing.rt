@@ -27,7 +27,7 @@ pub struct Written {
 
 const MAGIC: u32 = 0x46534547;
 
-/// Appends `FSEG`, the version and how many documents there are.
+/// Appends `FSEG`, the version and how many documents there are. Errors: out of memory.
 pub fn put_head(out: &mut Vec<u8>, docs: u32) -> Result<(), facet_codec::NoMemory>
     ensures { OnOk result (out.new.items ≡ out.old.items ++ (be32 0x46534547 ++ (be32 1 ++ be32 docs))) }
 {
@@ -66,9 +66,10 @@ fn write(
     })
 }
 
-/// The segment of documents and their terms. It goes over both once, and once before for the memory that it takes.
+/// Writes the segment of documents and their terms. It visits both twice: first to compute how much memory to allocate,
+/// and then to write.
 ///
-/// Beside a refused allocation, there is no memory for 2^32 terms or more.
+/// Errors: out of memory, also for 2^32 terms or more.
 pub fn write_segment(
     alloc: Global,
     entries: &[Entry],

@@ -2,7 +2,8 @@ use place_bits::Bits;
 use seg_postings::Places;
 use std::alloc::{AllocError, Global};
 
-// Whether a walk over bits gives the places below 130 that are also among four, at the ends of words and behind the bound.
+// Returns whether a walk over bits finds the places below 130 that are also among four, at the ends of words and after
+// the bound.
 pub(crate) fn are_in_common(alloc: Global) -> Result<bool, AllocError> {
     let mut below = Bits::none(alloc, 200)?;
     below.fill(130);

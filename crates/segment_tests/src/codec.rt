@@ -2,7 +2,7 @@ use facet_codec::{CodecFault, Cursor, NoMemory, put_text, put_u8, put_u32, put_u
 use std::alloc::Global;
 use std::test::Fail;
 
-// What reading answers behind the first byte, and where the cursor then stands.
+// Returns what is read after the first byte, and where the cursor is then.
 fn vint_behind(bytes: &[u8]) -> (Result<u32, CodecFault>, usize) {
     let mut cursor = Cursor::new(bytes);
     let _ = cursor.u8();
@@ -32,7 +32,7 @@ fn spelled(alloc: Global, value: u32) -> Result<Vec<u8>, Fail> {
     Ok(spelled)
 }
 
-// Whether each value is spelled so behind a byte, and read from it.
+// Returns whether each value is spelled so after a byte, and read from it.
 fn are_spelled(alloc: Global) -> Result<bool, Fail> {
     for (value, bytes) in SPELLED {
         let read = vint_behind(*bytes) == (Ok(*value), bytes.len());
@@ -87,7 +87,7 @@ fn written(alloc: Global) -> Result<Vec<u8>, NoMemory> {
 
 const WRITTEN: [u8; 16] = [0xfe, 1, 2, 3, 4, 5, 6, 7, 8, 9, 10, 11, 12, 2, 0xc3, 0xa9];
 
-// Whether these bytes are read as what was written, and the end is told.
+// Returns whether these bytes are read as what was written, and the end is reported.
 fn are_read(bytes: &[u8]) -> bool {
     let mut cursor = Cursor::new(bytes);
     let numbers = cursor.u8() == Ok(0xfe)
@@ -98,14 +98,14 @@ fn are_read(bytes: &[u8]) -> bool {
     numbers && short && text && cursor.u8().map_err(|fault| fault.at()) == Err(16)
 }
 
-// Whether a number of more bytes than there are is not read, and takes none of them.
+// Returns whether reading more bytes than there are fails and takes none of them.
 fn are_short(bytes: &[u8]) -> bool {
     let mut cursor = Cursor::new(bytes);
     let short = CodecFault::Short { at: 0 };
     cursor.u32() == Err(short) && cursor.u64() == Err(short) && cursor.rest() == bytes.len()
 }
 
-// The bytes, the greatest length, the answer, and how many bytes are left.
+// The bytes, the greatest length, the result, and how many bytes are left.
 type TextRow = (&'static [u8], u32, Result<&'static str, CodecFault>, usize);
 
 const TEXTS: &[TextRow] = &[

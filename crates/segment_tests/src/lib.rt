@@ -1,4 +1,5 @@
-//! Tests of stored segments, the places of their terms, and the searches over them: what no run of the program shows.
+//! Tests of stored segments, the places of their terms, and searches over them, for what no invocation of the program
+//! shows.
 #![tactic(auto)]
 
 #[cfg(test)]

@@ -1,4 +1,4 @@
-//! Documents as segments are built of them, for the tests.
+//! Documents of segments for the tests.
 ghost use Rattle.std.specs.Prelude.{◌≤◌, IfOk, length};
 ghost use Rattle.seg_postings.specs.Bytes.{AreRisingPlaces};
 
@@ -11,7 +11,7 @@ use std::alloc::{AllocFailed, Global};
 use std::test::Fail;
 use test_keys::fixed_keys;
 
-/// A document's id, text, labels and leaves, for which the first leaf is counted.
+/// A document's id, text, labels and leaves. The first leaf is counted.
 pub type Row = (
     &'static str,
     &'static str,
@@ -51,7 +51,7 @@ fn entry(alloc: Global, row: &Row) -> Result<Entry, Fail> {
     })
 }
 
-/// The documents of these rows.
+/// Returns the documents of these rows.
 pub fn entries(alloc: Global, rows: &[Row]) -> Result<Vec<Entry>, Fail> {
     let mut entries = Vec::new(alloc);
     for row in rows {
@@ -60,7 +60,7 @@ pub fn entries(alloc: Global, rows: &[Row]) -> Result<Vec<Entry>, Fail> {
     Ok(entries)
 }
 
-/// The segment of the documents of these rows.
+/// Returns the segment of the documents of these rows.
 pub fn segment(alloc: Global, rows: &[Row]) -> Result<Segment, Fail> {
     let entries = entries(alloc, rows)?;
     if entries.is_empty() || entries.len() > 1000000 {
@@ -69,7 +69,7 @@ pub fn segment(alloc: Global, rows: &[Row]) -> Result<Segment, Fail> {
     Ok(Segment::build(alloc, fixed_keys()?, &entries)?)
 }
 
-/// The bytes of those places that are above all before them.
+/// Returns the bytes of those places that are above all before them.
 pub fn spelled(alloc: Global, places: &[u32]) -> Result<Vec<u8>, facet_codec::NoMemory>
     ensures { IfOk result (λ bytes. AreRisingPlaces bytes.items) }
 {
@@ -85,7 +85,7 @@ pub fn spelled(alloc: Global, places: &[u32]) -> Result<Vec<u8>, facet_codec::No
     Ok(out)
 }
 
-/// The places left.
+/// Returns the places left.
 pub fn all<P: Places + Drop>(alloc: Global, mut places: P) -> Result<Vec<u32>, AllocFailed<u32>> {
     let mut all = Vec::new(alloc);
     while let Some(place) = places.next() {
@@ -94,7 +94,7 @@ pub fn all<P: Places + Drop>(alloc: Global, mut places: P) -> Result<Vec<u32>, A
     Ok(all)
 }
 
-/// What a seek answers, and the place after it.
+/// Returns what a seek returns, and the place after it.
 pub fn sought<P: Places + Drop>(mut places: P, place: u32) -> (Option<u32>, Option<u32>) {
     let first = places.seek(place);
     (first, places.next())

@@ -18,7 +18,7 @@ const ROWS: &[Row] = &[
     ("b4", "", &[], &[]),
 ];
 
-// A segment of the documents of these rows.
+// Returns a segment of the documents of these rows.
 fn built(alloc: Global, rows: &[Row]) -> Result<Segment, Fail>
     ensures { IfOk result (λ s. (docs : List Doc) × HasTerms s docs) }
 {
@@ -29,7 +29,7 @@ fn built(alloc: Global, rows: &[Row]) -> Result<Segment, Fail>
     Ok(Segment::build(alloc, fixed_keys()?, &entries)?)
 }
 
-// The same segment, of which the first record is no longer live.
+// Returns the same segment, whose first record is no longer live.
 fn without_first(alloc: Global, segment: &Segment) -> Result<Segment, Fail>
     requires { (docs : List Doc) × HasTerms segment.now docs }
     ensures { IfOk result (λ s. (docs : List Doc) × HasTerms s docs) }
@@ -51,7 +51,8 @@ fn merge_both(alloc: Global, one: Arc<Segment>, other: Arc<Segment>) -> Result<S
     Ok(merge(alloc, fixed_keys()?, &[one, other])?)
 }
 
-// Whether two segments, of which one has a record that is not live, are merged to the segment of the other documents.
+// Returns whether two segments, one of which has a record that is not live, are merged to the segment of the other
+// documents.
 fn is_built_of_live(alloc: Global) -> Result<bool, Fail> {
     let one = without_first(alloc, &built(alloc, &ROWS[..2])?)?;
     let other = built(alloc, &ROWS[2..])?;

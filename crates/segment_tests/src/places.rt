@@ -3,7 +3,7 @@ use seg_postings::{Places, Postings};
 use std::alloc::Global;
 use std::test::Fail;
 
-// Each place that is sought among 0, 3, 6 up to 2,997, and the answer.
+// Each place to seek among 0, 3, 6 up to 2,997, and the result.
 const FAR: &[(u32, Option<u32>)] = &[
     (0, Some(0)),
     (0, Some(3)),
@@ -32,7 +32,7 @@ fn far(alloc: Global) -> Result<Vec<u32>, Fail> {
     Ok(places)
 }
 
-// Whether a cursor over a thousand places finds the next ones that are asked for, near and far.
+/// Returns whether a cursor over a thousand places finds the next ones that are asked for, near and far.
 pub fn far_ahead_are_sought(alloc: Global) -> Result<bool, Fail> {
     let bytes = spelled(alloc, &far(alloc)?)?;
     let postings = Postings::new(&bytes);

@@ -8,13 +8,13 @@ use seg_postings::{Places, Postings};
 use std::alloc::{AllocFailed, Global};
 use std::test::Fail;
 
-// Whether these are all places of the node.
+// Returns whether these are all places of the node.
 fn has_all(alloc: Global, node: PlanNode<'_>, want: &[u32]) -> Result<bool, Fail> {
     let walked = all(alloc, PlanPlaces::new(node))?;
     Ok(walked.as_slice() == want)
 }
 
-// Two nodes.
+// Returns two nodes.
 fn pair<'a>(
     alloc: Global,
     left: PlanNode<'a>,
@@ -46,7 +46,7 @@ fn both<'a>(
     Ok(PlanNode::all(alloc, nodes, Vec::new(alloc))?)
 }
 
-// The left without the right and without 0.
+// Returns the left without the right and without 0.
 fn lacking<'a>(
     alloc: Global,
     left: &Postings<'a>,
@@ -122,7 +122,7 @@ fn set_operations(rt: HostRuntime) -> Result<(), Fail> {
     Ok(())
 }
 
-// The left without the right.
+// Returns the left without the right.
 fn left_alone<'a>(
     alloc: Global,
     left: &Postings<'a>,
@@ -172,7 +172,7 @@ fn sets_are_sought(alloc: Global) -> Result<bool, Fail> {
     are_found(alloc, &Postings::new(&left), &Postings::new(&right))
 }
 
-// The places of the one node within so many levels of intersections.
+// Returns the places of the node within this many levels of intersections.
 fn nested<'a>(alloc: Global, node: PlanNode<'a>, levels: u32) -> Result<PlanNode<'a>, Fail> {
     let mut node = node;
     for _ in 0..levels {
@@ -194,7 +194,7 @@ fn are_asked_for(places: &mut PlanPlaces<'_>) -> bool {
     true
 }
 
-// Whether the places of a node within 32 levels of intersections are found as they are asked for.
+// Returns whether the places of a node within 32 levels of intersections are found as they are asked for.
 fn nested_are_sought(alloc: Global) -> Result<bool, Fail> {
     let bytes = spelled(alloc, &[1, 3, 4, 7, 9])?;
     let node = nested(alloc, PlanNode::list(&Postings::new(&bytes)), 32)?;

@@ -6,7 +6,8 @@ use seg_postings::{Places, Postings};
 use std::alloc::{AllocError, AllocFailed, Global};
 use std::test::Fail;
 
-// One document with the id `b1`, the text `Rust` and the label Author/Bob, whose ordinal is 2. Its terms begin at bytes 34, 50 and 70.
+// One document with the id `b1`, the text `Rust` and the label Author/Bob, whose ordinal is 2. Its terms begin at bytes
+// 34, 50 and 70.
 const ONE: [u8; 84] = [
     0x46, 0x53, 0x45, 0x47, 0, 0, 0, 1, 0, 0, 0, 1, 2, 0x62, 0x31, 4, 0x52, 0x75, 0x73, 0x74, 1, 0,
     0, 0, 2, 1, 0, 0, 0, 2, 0, 0, 0, 3, 7, 0x66, 0x41, 0x75, 0x74, 0x68, 0x6f, 0x72, 0, 0, 0, 1, 0,
@@ -14,7 +15,7 @@ const ONE: [u8; 84] = [
     0, 0, 0, 5, 0x77, 0x72, 0x75, 0x73, 0x74, 0, 0, 0, 1, 0, 0, 0, 0,
 ];
 
-// The bytes of ONE with those from one place up to another exchanged for others.
+// Returns the bytes of ONE with those from one place up to another replaced.
 fn spliced(alloc: Global, from: usize, middle: &[u8], to: usize) -> Result<Vec<u8>, AllocError> {
     let front = ONE.iter().take(from);
     let back = ONE.iter().skip(to);
@@ -54,7 +55,7 @@ const ROWS: &[Row] = &[
     ("b2", "", &[&["Tag", "b"], &["Tag", "a"]], &[5, 4]),
 ];
 
-// Whether the segment has a second document, and the places of its terms.
+// Returns whether the segment has a second document, and the places of its terms.
 fn has_second(alloc: Global, segment: &Segment) -> Result<bool, Fail> {
     if segment.docs() != 2 {
         return Ok(false);
@@ -77,7 +78,7 @@ fn both_are_built(alloc: Global) -> Result<bool, Fail> {
     Ok(has_second(alloc, &two)? && again)
 }
 
-// Whether the segment has the one document.
+// Returns whether the segment has the one document.
 fn has_one(alloc: Global, segment: &Segment) -> Result<bool, Fail> {
     if segment.docs() != 1 || segment.bytes() != ONE.as_slice() {
         return Ok(false);
@@ -88,7 +89,7 @@ fn has_one(alloc: Global, segment: &Segment) -> Result<bool, Fail> {
     Ok(ords && segment.id(0) == "b1" && segment.text(0) == "Rust")
 }
 
-// Whether the second of two records is the one that is live.
+// Returns whether the second of two records is the live one.
 fn second_is_live(one: &Segment) -> bool {
     if one.docs() < 2 || one.live() != 1 {
         return false;
@@ -113,7 +114,7 @@ fn is_without(alloc: Global, both: &Segment) -> Result<bool, Fail> {
     Ok(same && second_is_live(&one) && none_is_left(alloc, &one)?)
 }
 
-// Whether a record that is left out is no longer live, and the one behind it is the first.
+// Returns whether a record that is left out is no longer live, and the one after it is the first.
 fn is_thinned(alloc: Global) -> Result<bool, Fail> {
     let both = segment(alloc, ROWS)?;
     is_without(alloc, &both)
@@ -163,7 +164,7 @@ const FIRST_TWO: [u8; 36] = [
     7, 0x66, 0x41, 0x75, 0x74, 0x68, 0x6f, 0x72, 0, 0, 0, 1, 0, 0, 0, 0,
 ];
 
-// What stands between two places in the place of what did, and the fault.
+// What replaces the bytes between two places, and the fault.
 type Spliced = (usize, &'static [u8], usize, SegFault);
 
 const FAULTS: &[Spliced] = &[
@@ -210,7 +211,7 @@ fn first_faults(rt: HostRuntime) -> Result<(), Fail> {
     Ok(())
 }
 
-// Whether the bytes are no segment, or are opened as a segment that has just these bytes, and each time they are opened.
+// Returns whether the bytes are not a segment, or are opened as a segment that has exactly these bytes, each time.
 fn is_consistent(alloc: Global, bytes: Vec<u8>) -> Result<bool, Fail> {
     let copy = bytes.as_slice().to_vec(alloc)?;
     let Ok(segment) = Segment::open(alloc, bytes) else {
@@ -224,7 +225,7 @@ fn is_cut(alloc: Global, at: usize) -> Result<bool, Fail> {
     Ok(fault_of(alloc, cut).is_some())
 }
 
-// Whether the bytes with any other at this place are consistent.
+// Returns whether the bytes with any other byte at this place are consistent.
 fn is_changed(alloc: Global, at: usize) -> Result<bool, Fail>
     requires { at < 84 }
 {

@@ -74,7 +74,7 @@ fn written(alloc: Global, entries: &[Entry]) -> Result<Written, Fail> {
 
 const BOOK_ROW: &[Row] = &[("b1", "Rust", &[&["Author", "Bob"]], &[2])];
 
-// Whether the record, the counted ordinals and the terms of the book are written there.
+// Returns whether the record, the counted ordinals and the terms of the book are written there.
 fn is_book(written: &Written) -> bool {
     let index = &written.index;
     let records = index.records.as_slice() == [12].as_slice();

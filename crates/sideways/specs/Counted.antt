@@ -22,24 +22,24 @@ use Rattle.seg_postings.specs.Sets.{without}
 abbrev pub is_drilled : List (List (List ℕ)) → List ℕ → Bool
 is_drilled drill dim = list_any (λ path. bytes_eq (dim_of path) dim) drill
 
--- it matches the query, and of the dimensions of the drill it fails this one alone
+-- it matches the query, and the only dimension of the drill that it fails is this one
 abbrev pub is_near : QueryTree → List (List (List ℕ)) → List ℕ → Doc → Bool
 is_near query drill dim doc = passes_all query drill (Some dim) doc && not (passes doc drill dim)
 
--- Each node has the places of the documents that pass the test beside it.
+-- Each node has the places of the documents that pass the test at its place.
 abbrev pub AreNodesFor : List Doc → List (Doc → Bool) → List Planned → Type 0
 AreNodesFor docs tests nodes = AllZip (λ test p. p.left ≡ places test docs) tests nodes
 
--- the node has places below a bound alone
+-- the node has only places below a bound
 abbrev pub IsAmong : ℕ → Planned → Type 0
 IsAmong docs p = (n : ℕ) → is_in n p.left ≡ true → n < docs
 
--- The set has the places of the node, and room for those below the bound.
+-- The set has the places of the node, and a bit for each place below the bound.
 pub record IsMarkedBy (docs : ℕ) (p : Planned) (set : Marked) : Type 0 where
   pub words : set.words ≡ (docs + 63) / 64
   pub members : (n : ℕ) → is_in n set.places ≡ is_in n p.left
 
--- of the tests it fails this one, and no other
+-- the only one of the tests that it fails is this one
 abbrev pub fails_alone : List (Doc → Bool) → (Doc → Bool) → Doc → Bool
 fails_alone tests test doc = not (test doc) && nat_le (length (filter (λ t. not (t doc)) tests)) 1
 
@@ -49,7 +49,7 @@ pub record PartLeft : Type 0 where
   pub segment : Records
   pub left : List ℕ
 
--- the part is of this segment, and has the live records of the documents that pass
+-- the part is one of this segment, and has the live records of the documents that pass
 pub record IsPartOf (test : Doc → Bool) (segment : Records) (part : PartLeft) : Type 0 where
   pub same : part.segment ≡ segment
   pub left : (docs : List Doc) → HasTermsOf segment docs → part.left ≡ without (places test docs) segment.dead
@@ -64,7 +64,7 @@ lists_of parts = flat_map (λ p. lists_at p.segment p.left) parts
 abbrev pub live_in : Records → ℕ
 live_in segment = live_before segment.dead (length segment.records)
 
--- where the records at the places stand among the live ones, counted on from a number
+-- the ranks of the records at the places among the live ones, counted on from a number
 abbrev pub ranks_from : ℕ → Records → List ℕ → List ℕ
 ranks_from base segment places = map (λ place. base + live_before segment.dead place) places
 
@@ -93,13 +93,13 @@ IsNoting part base limit hits more = (before : List ℕ) → hits ≡ take limit
 abbrev pub ArePartsOf : (Doc → Bool) → List Records → List PartLeft → Type 0
 ArePartsOf test segments parts = AllZip (IsPartOf test) segments parts
 
--- There is room for what another counter has counted over the same labels too.
+-- The counter can also count what another counter has counted over the same labels.
 pub record HasRoomFor (parts : List PartLeft) (tally others : Tally) : Type 0 where
   pub labels : others.labels ≡ tally.labels
   pub config : others.config ≡ tally.config
   pub room : sum_by (λ p. length p.left) parts + others.added ≤ 1000000
 
--- The counter is new, every record may be counted, and at most a million of them are live, as of places left.
+-- The counter is new, can count every record, and at most a million of the places left are live records.
 pub record IsReady (parts : List PartLeft) (tally : Tally) : Type 0 where
   pub fresh : HasAdded tally []
   pub countable : AllByRecursion (λ p. AreCountable tally.config tally.labels p.segment) parts

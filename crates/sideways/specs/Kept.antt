@@ -1,4 +1,4 @@
--- What a plan and an answer keep true of their fields.
+-- The invariants of a plan and of an answer.
 use Rattle.std.specs.Prelude.{◌≡◌, ℕ, min, ◌<◌, ◌≤◌, ◌&&◌, ◌++◌, ◌∷◌, Bool, true, List, [], filter, length, slice_index_or, take, Option, Some, None}
 use Rattle.std.specs.List.{list_any, AllByRecursion}
 use Rattle.std.specs.Str.{bytes_eq}
@@ -29,7 +29,7 @@ pub record IsPassOf (q : Question) (test : Doc → Bool) (segments : List Record
   pub labels : pass.counter.labels ≡ q.labels
   pub config : pass.counter.config ≡ q.config
 
--- The dimension is one of the drill, and the pass is over the documents that it alone leaves out.
+-- The dimension is one of the drill, and the pass is over its near misses.
 pub record IsLiftedOf (q : Question) (segments : List Records) (l : LiftedPass) : Type 0 where
   pub drilled : is_drilled q.drill l.dim.now ≡ true
   pub pass : IsPassOf q (is_near q.query q.drill l.dim.now) segments l.pass
@@ -38,7 +38,7 @@ pub record IsLiftedOf (q : Question) (segments : List Records) (l : LiftedPass) 
 abbrev pub dim_in : LiftedPass → List ℕ
 dim_in l = l.dim.now
 
--- No dimension stands twice.
+-- No dimension occurs twice.
 abbrev pub AreDistinct : List (List ℕ) → Type 0
 AreDistinct [] = Unit {0}
 AreDistinct (d ∷ ds) = AllByRecursion (λ e. e ≡ d → ⊥) ds × AreDistinct ds
@@ -57,7 +57,7 @@ pub record HasParts (test : Doc → Bool) (segments : List Records) (old new : P
   pub parts : new.parts.items ≡ old.parts.items ++ more
   pub counter : new.counter ≡ old.counter
 
--- the pass of the dimension has a part more, the near misses of a segment
+-- the pass of the dimension has one part more: the near misses of a segment
 abbrev pub HasNear : QueryTree → List (List (List ℕ)) → Records → LiftedPass → LiftedPass → Type 0
 HasNear query drill segment old new = (new.dim ≡ old.dim) × HasPart (is_near query drill old.dim.now) segment old.pass new.pass
 
@@ -65,7 +65,8 @@ HasNear query drill segment old new = (new.dim ≡ old.dim) × HasPart (is_near 
 abbrev pub HasNears : QueryTree → List (List (List ℕ)) → List Records → LiftedPass → LiftedPass → Type 0
 HasNears query drill segments old new = (new.dim ≡ old.dim) × HasParts (is_near query drill old.dim.now) segments old.pass new.pass
 
--- There are documents, no ask is refused, and there is a pass for the hits and with sideways for each drilled dimension.
+-- The segments have documents, no ask is rejected, and there is a pass for the hits and, if sideways, for each drilled
+-- dimension.
 pub record IsPlan (q : Question) (pass : Pass) (lifted : List LiftedPass) : Type 0 where
   pub docs : (docs : List Doc) × HasDocs q docs × (length docs ≤ 1000000)
   pub list : IsLabelList q.labels
@@ -74,20 +75,20 @@ pub record IsPlan (q : Question) (pass : Pass) (lifted : List LiftedPass) : Type
   pub each : AllByRecursion (λ l. IsLiftedOf q q.segments l) lifted
   pub covers : (dim : List ℕ) → list_any (λ l. bytes_eq l.dim.now dim) lifted ≡ (q.sideways && list_any (λ path. bytes_eq (dim_of path) dim) q.drill)
 
--- The pass has a part more, the records at the places of a set.
+-- The pass has one part more: the records at the places of a set.
 pub record IsGivenSet (segment : Records) (set : Marked) (old new : LiftedPass) : Type 0 where
   pub dim : new.dim ≡ old.dim
   pub parts : new.pass.parts.items ≡ old.pass.parts.items ++ record { segment = segment; left = set.places } ∷ []
   pub counter : new.pass.counter ≡ old.pass.counter
 
--- The first k passes were given the sets beside them, and the others are as they were.
+-- The first k passes were given the sets at their places, and the others did not change.
 pub record IsGivenSets (segment : Records) (sets : List Marked) (k : ℕ) (old new : List LiftedPass) : Type 0 where
   pub len : length new ≡ length old
   pub done : (j : ℕ) (set : Marked) (l : LiftedPass) → j < k → j < length old
       → IsGivenSet segment (slice_index_or sets j set) (slice_index_or old j l) (slice_index_or new j l)
   pub rest : (j : ℕ) (l : LiftedPass) → k ≤ j → slice_index_or new j l ≡ slice_index_or old j l
 
--- There is room for the places of the hits that are wanted, of a million documents at most, and for the counts of each pass.
+-- There is capacity for the places of the wanted hits, at most a million, and for the counts of each pass.
 pub record HasRoom (wanted : ℕ) (lifted : List LiftedPass) (places : Vec ℕ Global) (counted : Vec LiftedCounts Global) : Type 0 where
   pub no_places : places.items ≡ []
   pub for_places : min wanted 1000000 ≤ vec_capacity places
@@ -104,7 +105,7 @@ pub record AreCountsOf (q : Question) (lift : Option (List ℕ)) (counts : Total
 abbrev pub AreHitsIn : Question → Tally → Type 0
 AreHitsIn q tally = (docs : List Doc) → HasDocs q docs → HasAdded tally (counted_of q (hits docs q.query q.drill))
 
--- No ask is refused; the counts are those of the hits, and with sideways of each drilled dimension; and the hits are these.
+-- No ask is rejected; the counts are those of the hits and, if sideways, of each drilled dimension; these are the hits.
 pub record IsAnswered (q : Question) (found : Found) (lifted : List LiftedCounts) : Type 0 where
   pub list : IsLabelList q.labels
   pub fit : first_refused q.config q.asks ≡ None

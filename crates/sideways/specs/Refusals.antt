@@ -1,4 +1,4 @@
--- Which search is refused, and why.
+-- Which searches are rejected, and why.
 use Rattle.std.specs.Prelude.{ℕ, List, Option, filter_map, option_map, slice_get}
 use Rattle.std.specs.List.{enumerate_from}
 use Rattle.facet_model.specs.Asks.{Asked, AskFault, top_of_none, value_not_kept, ask_fault}
@@ -6,7 +6,7 @@ use Rattle.facet_model.specs.Flags.{Config}
 use Rattle.sideways.specs.declared.ask.AskRefused.{AskRefused}
 use Rattle.sideways.specs.declared.ask.AskRefused.TheVariants.{TopZero, DimValueNotKept}
 
--- what is wrong with the ask at a place
+-- why the ask at a place is rejected
 abbrev pub refused_ask : ℕ → AskFault → AskRefused
 refused_ask at top_of_none = TopZero at
 refused_ask at value_not_kept = DimValueNotKept at
@@ -15,6 +15,6 @@ refused_ask at value_not_kept = DimValueNotKept at
 abbrev pub refusal_at : Config → ℕ × Asked → Option AskRefused
 refusal_at config e = option_map (refused_ask e.0) (ask_fault config e.1)
 
--- of the asks in order, the first that is refused
+-- the first ask that is rejected, in order
 abbrev pub first_refused : Config → List Asked → Option AskRefused
 first_refused config asks = slice_get (filter_map (refusal_at config) (enumerate_from 0 asks)) 0

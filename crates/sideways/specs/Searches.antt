@@ -10,14 +10,14 @@ use Rattle.facet_model.specs.Stored.{Records}
 use Rattle.sideways.specs.Questions.{Question}
 use Rattle.sideways.specs.declared.ask.SearchAsk.{SearchAsk}
 
--- a search, and the labels, the config and the segments that it is over
+-- a search, and the labels, the config and the segments that it searches
 pub record Search : Type 0 where
   pub labels : List (List (List ℕ))
   pub config : Config
   pub segments : List Records
   pub ask : SearchAsk
 
--- what it asks
+-- the question of the search
 abbrev pub question : Search → Question
 question s = record {
   labels = s.labels;
@@ -30,7 +30,7 @@ question s = record {
   sideways = s.ask.sideways;
 }
 
--- what the segments are
+-- the records of the segments
 abbrev pub records_of : List (Arc Records Global) → List Records
 records_of segments = map arc_value segments
 

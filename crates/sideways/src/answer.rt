@@ -24,7 +24,9 @@ use std::marker::Model;
 use std::sync::Arc;
 use taxo_list::{Labelled, TaxoView};
 
-/// What a search found, as Lucene's `DrillSidewaysResult`: the hits, and the counts of every dimension.
+/// The result of a search: the hits, and the counts of every dimension. It corresponds to Lucene's
+/// `DrillSidewaysResult`.
+/// It borrows the labels, the config, the segments and the ask, and keeps 4 bytes per label for each set of counts.
 #[derive(Drop)]
 pub struct SidewaysAnswer<'a> {
     pub(crate) view: &'a TaxoView,
@@ -50,7 +52,7 @@ impl<'a> Model for SidewaysAnswer<'a> {
     ghost invariant = { λ a. IsAnswered (question_of a.view.now a.config.now a.segments.now a.ask.now) a.found a.lifted.items };
 }
 
-// The results of all dimensions, the one that was added last first.
+// Returns the results of all dimensions, the dimension that was added last first.
 fn each_dim(
     answer: &SidewaysAnswer<'_>,
     view: &TaxoView,
@@ -74,14 +76,15 @@ fn each_dim(
 }
 
 impl<'a> SidewaysAnswer<'a> {
-    /// How many hits there are, of live records, in constant time.
+    /// Returns the number of hits, which are live documents. It takes constant time and allocates nothing.
     pub fn hit_count(&self) -> u64
         ensures { (docs : List Doc) → HasDocs (question self.now) docs → result ≡ length (hits docs (question self.now).query (question self.now).drill) }
     {
         self.found.number
     }
 
-    /// The places of the first hits, as many as were wanted, counted over the live records of all segments.
+    /// Returns the places of the first hits, in order, at most as many as the ask wants. Places number the live
+    /// documents of all segments from 0. It takes constant time.
     pub fn hits(&self) -> &[u32]
         ensures { (docs : List Doc) → HasDocs (question self.now) docs
             → result.now ≡ take (question self.now).hits (places (is_hit (question self.now).query (question self.now).drill) docs) }
@@ -89,8 +92,10 @@ impl<'a> SidewaysAnswer<'a> {
         &self.found.places
     }
 
-    /// The counts of a dimension: with sideways over the documents that match the query and all other drilled dimensions, and else over the hits. It
-    /// takes no memory, and time by the number of drilled dimensions.
+    /// Returns the counts of a dimension. If the search is sideways and the dimension is drilled, they cover the
+    /// documents that match the query and all other drilled dimensions. Otherwise they cover the hits.
+    ///
+    /// It compares the names of the drilled dimensions one after the other, and allocates nothing.
     pub fn counts(&self, dim: &str) -> &Counts<'a>
         ensures counts { (docs : List Doc) → HasDocs (question self.now) docs
             → AreCounts result.now (counted_of (question self.now) (docs_of (question self.now) docs dim.now)) }
@@ -106,7 +111,7 @@ impl<'a> SidewaysAnswer<'a> {
         &self.found.counts
     }
 
-    // Whether a live document of the snapshot has a path.
+    // Returns whether a live document of the snapshot has the path.
     fn exists(&self, alloc: Global, path: &Path) -> Result<bool, NoMemory>
         ensures { IfOk result (λ b. (docs : List Doc) → HasDocs (question self.now) docs → b ≡ nat_lt 0 (count docs path.now)) }
     {
@@ -148,7 +153,13 @@ impl<'a> SidewaysAnswer<'a> {
         Ok(FacetAnswer::AllDims(results))
     }
 
-    /// The answer to the ask at a place, by the counts of its dimension. It takes memory for what it lists.
+    /// Returns the answer to the ask at a place, from 0, by the counts of its dimension. A place past the last ask is
+    /// excluded by the contract.
+    ///
+    /// Costs: `Top` walks over the children of its path, and `AllDims` over those of each dimension; both allocate what
+    /// they list. `Specific` looks its path up in each segment.
+    ///
+    /// Errors: out of memory.
     pub fn answer(&self, alloc: Global, ask: usize) -> Result<FacetAnswer, NoMemory>
         requires { ask < length (question self.now).asks }
         ensures { IfOk result (λ a. (docs : List Doc) (asked : Asked) → HasDocs (question self.now) docs → slice_get (question self.now).asks ask ≡ Some asked

@@ -1,4 +1,4 @@
-//! What a search asks, and which searches are refused.
+//! What a search asks for, and which searches are rejected.
 ghost use Rattle.std.specs.Prelude.{◌≡◌, map, option_map};
 ghost use Rattle.facet_model.specs.AskViews.{ask_view};
 ghost use Rattle.facet_model.specs.Asks.{ask_fault};
@@ -8,30 +8,35 @@ use facet_config::FacetsConfig;
 use facet_counts::{AskFault, check_ask};
 use facet_model::{Ask, Drill, Query};
 
-/// A search over the documents of a snapshot, as the query and the collectors of Lucene's `DrillSideways.search`.
+/// A search over the documents of a snapshot. It corresponds to the query and the collectors of Lucene's
+/// `DrillSideways.search`.
 #[derive(Debug, Drop)]
 pub struct SearchAsk {
+    /// Which documents match.
     pub query: Query,
     /// The paths that the search is drilled down to.
     pub drill: Drill,
+    /// The counts that it asks for. Each has an answer at the same place.
     pub asks: Vec<Ask>,
-    /// How many places of hits are wanted.
+    /// How many places of hits to return, at most. At most 1,000,000 are returned.
     pub hits: u32,
     /// Whether a drilled dimension is counted over the documents that match the query and all other drilled dimensions.
+    /// If not, it is counted over the hits.
     pub sideways: bool,
 }
 
-/// Why a search is refused.
+/// Why a search is rejected. Places count the asks from 0.
 #[derive(Clone, Copy, Debug, PartialEq, Eq)]
 pub enum AskRefused {
-    /// The ask at this place wants no child.
+    /// The ask at this place asks for the top 0 children.
     TopZero { ask: u64 },
-    /// The ask at this place wants the value of a dimension alone that is not kept.
+    /// The ask at this place asks for the value of a whole dimension, and the config does not keep it.
     DimValueNotKept { ask: u64 },
+    /// Out of memory.
     NoMemory,
 }
 
-// Why the ask at a place is refused.
+// Returns why the ask at a place is rejected, or `None`.
 fn refusal_of(config: &FacetsConfig, at: u64, ask: &Ask) -> Option<AskRefused>
     ensures { result ≡ option_map (refused_ask at) (ask_fault config.now (ask_view ask.now)) }
 {
@@ -42,7 +47,7 @@ fn refusal_of(config: &FacetsConfig, at: u64, ask: &Ask) -> Option<AskRefused>
     }
 }
 
-/// Why the first ask is refused that is. It takes no memory.
+/// Returns why the first rejected ask is rejected, or `None` if none is. It allocates nothing.
 pub(crate) fn first_refusal(config: &FacetsConfig, asks: &[Ask]) -> Option<AskRefused>
     ensures { result ≡ first_refused config.now (map ask_view asks.now) }
 {

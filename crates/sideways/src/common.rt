@@ -14,7 +14,7 @@ use place_bits::Bits;
 use plan_places::PlanNode;
 use std::alloc::Global;
 
-/// The places that each node has, as bits.
+/// Returns the places of each node as bits: one bit per record and node. Errors: out of memory.
 pub(crate) fn marked_each(
     alloc: Global,
     nodes: Vec<PlanNode<'_>>,
@@ -32,7 +32,7 @@ pub(crate) fn marked_each(
     Ok(sets)
 }
 
-// The places of a set but for some.
+// Returns the places of a set except the dead ones.
 fn without_dead(alloc: Global, set: Bits, docs: u32, dead: &[u32]) -> Result<Bits, NoMemory>
     requires words { set.words ≡ (docs + 63) / 64 }
     requires set { IsRising set.places }
@@ -51,8 +51,10 @@ fn without_dead(alloc: Global, set: Bits, docs: u32, dead: &[u32]) -> Result<Bit
     Ok(left)
 }
 
-/// The places that all nodes have and that are not dead, as bits; of no node, all places. It takes an eighth of a byte a document, and as much again while
-/// it looks.
+/// Returns the places that all nodes have and that are not dead, as bits; without a node, all places that are not dead.
+/// It takes one bit per record, and one more while it works.
+///
+/// Errors: out of memory.
 pub(crate) fn in_common(
     alloc: Global,
     nodes: Vec<PlanNode<'_>>,

@@ -1,25 +1,26 @@
-//! What it costs to find the places of a segment either way, by estimates of instructions. No clause rests on them.
+//! Which of two ways to find the places of a segment is cheaper, by estimates of instructions. No contract depends on
+//! them.
 use facet_model::{Drill, Query};
 use plan_places::PlanNode;
 
-// A list that is asked for a place, and a term that is looked up, in a walk.
+// In a walk: a list that is asked for a place, and a term that is looked up.
 const ASKED: u64 = 60;
 
 const LOOKED_UP: u64 = 500;
 
-// A place that is marked; a word, for 64 documents, of a set that is made and combined, and of one that is counted.
+// A place that is marked. A word, for 64 documents, of a set that is made and combined, and of one that is counted.
 const MARKED: u64 = 8;
 
 const COMBINED: u64 = 10;
 
 const COUNTED: u64 = 50;
 
-/// About how many lists of places a search has: those of the query's words, and one for each path of the drill.
+/// Returns about how many lists of places a search has: those of the query's words, and one for each path of the drill.
 pub(crate) fn lists_of(query: &Query, drill: &Drill) -> u64 {
     words_of(query).saturating_add(drill.paths().len() as u64)
 }
 
-// How many words a query looks for.
+// Returns how many words a query looks up.
 #[cycle(words)]
 fn words_of(query: &Query) -> u64 {
     match query {
@@ -40,7 +41,7 @@ fn words_of(query: &Query) -> u64 {
     }
 }
 
-// How many words queries look for together.
+// Returns how many words the queries look up together.
 #[cycle(words)]
 fn words_in(queries: &[Query]) -> u64 {
     let mut words: u64 = 0;
@@ -50,7 +51,7 @@ fn words_in(queries: &[Query]) -> u64 {
     words
 }
 
-// The places of the node that has the fewest, and of the one that has the next fewest: of all documents, where there is none.
+// Returns the number of places of the two nodes that have the fewest. A missing node counts as all documents.
 fn fewest_two(nodes: &[PlanNode<'_>], docs: u64) -> (u64, u64) {
     let mut fewest = docs;
     let mut second = docs;
@@ -61,7 +62,7 @@ fn fewest_two(nodes: &[PlanNode<'_>], docs: u64) -> (u64, u64) {
     (fewest, second)
 }
 
-// What it takes to mark the places of each node. A node that is not of lists is walked for it.
+// Returns the cost of marking the places of each node. A node that does not consist of lists is walked over.
 fn marking(nodes: &[PlanNode<'_>]) -> u64 {
     let mut all: u64 = 0;
     for node in nodes {
@@ -75,8 +76,8 @@ fn marking(nodes: &[PlanNode<'_>]) -> u64 {
     all
 }
 
-// What a walk takes at each place of its lead, where the nodes have so many lists: it asks the lead and the node with the next fewest places, and the others
-// as often as that has the place.
+// Returns the cost of a walk at each place of its lead, if the nodes have so many lists. It asks the lead and the node
+// with the next fewest places. It asks the others as often as that one has the place.
 fn asking(nodes: u64, lists: u64, second: u64, docs: u64) -> u64 {
     let always = nodes.min(2).saturating_mul(docs);
     let then = nodes.saturating_sub(2).saturating_mul(second);
@@ -84,7 +85,7 @@ fn asking(nodes: u64, lists: u64, second: u64, docs: u64) -> u64 {
     asked.saturating_mul(ASKED) / nodes.saturating_mul(docs).max(1)
 }
 
-// What the words of sets take, of which some are counted.
+// Returns the cost of the words of sets, some of which are counted.
 fn combining(sets: u64, counted: u64, docs: u64) -> u64 {
     let each = sets
         .saturating_mul(COMBINED)
@@ -92,8 +93,8 @@ fn combining(sets: u64, counted: u64, docs: u64) -> u64 {
     each.saturating_mul(docs / 64 + 1)
 }
 
-/// Whether bits are the quicker way to what the nodes have in common. A walk asks them at each place of the one that has the fewest. Bits mark all places of
-/// all nodes, and cost some words for 64 documents.
+/// Returns whether bits are the cheaper way to the places that the nodes have in common. A walk asks all nodes at each
+/// place of the one that has the fewest. Bits mark all places of all nodes, and cost a few words for 64 documents.
 pub(crate) fn are_many(nodes: &[PlanNode<'_>], lists: u64, docs: u32) -> bool {
     let docs = docs as u64;
     let number = nodes.len() as u64;
@@ -103,9 +104,10 @@ pub(crate) fn are_many(nodes: &[PlanNode<'_>], lists: u64, docs: u32) -> bool {
     marks && marking(nodes).saturating_add(combining(number, 1, docs)) <= walking
 }
 
-/// Whether bits are the quicker way to the near misses of some dimensions among what the base has. Without bits each dimension has a walk of its own beside
-/// that for the hits, for which all terms are looked up once more. Its lead is the fewest of the base and of the other dimensions: that of the dimension with
-/// the fewest places is the longest.
+/// Returns whether bits are the cheaper way to the near misses of some dimensions among the places of the base. Without
+/// bits each dimension has a walk of its own in addition to that for the hits, for which all terms are looked up once
+/// more. Its lead is the smallest of the base and of the other dimensions. For the dimension with the fewest places it
+/// is the longest.
 pub(crate) fn are_near_many(
     base: &[PlanNode<'_>],
     dims: &[PlanNode<'_>],

@@ -1,4 +1,5 @@
-//! The plain body of a search, with the contract of the plan that is run: what the faster passes are held against.
+//! A search as it is defined, in the simplest way. It has the contract of [`DrillPlan`](crate::DrillPlan), which is
+//! faster; tests compare the two.
 ghost use Rattle.std.specs.Prelude.{◌≡◌, ◌≤◌, ◌&&◌, ℕ, List, Some, None, IfOk, IfErr, length, map};
 ghost use Rattle.std.specs.List.{AllByRecursion, list_any};
 ghost use Rattle.std.specs.Str.{bytes_eq};
@@ -31,7 +32,7 @@ use std::alloc::Global;
 use std::sync::Arc;
 use taxo_list::TaxoView;
 
-// The pass over the documents that match the query and pass all dimensions of the drill but for the one that is lifted.
+// Returns the pass over the documents that match the query and all dimensions of the drill except the lifted one.
 fn pass_over<'a>(
     alloc: Global,
     view: &'a TaxoView,
@@ -53,7 +54,7 @@ fn pass_over<'a>(
     Ok(pass)
 }
 
-// The counts of a drilled dimension, over the documents that match the query and pass all other drilled dimensions.
+// Returns the counts of a drilled dimension, over the documents that match the query and all other drilled dimensions.
 fn counts_over<'a>(
     alloc: Global,
     view: &'a TaxoView,
@@ -70,7 +71,7 @@ fn counts_over<'a>(
     Ok(counter.roll_up())
 }
 
-// The counts of each drilled dimension.
+// Returns the counts of each drilled dimension.
 fn each_count<'a>(
     alloc: Global,
     view: &'a TaxoView,
@@ -98,8 +99,11 @@ fn each_count<'a>(
     Ok(counted)
 }
 
-/// The answer of a search as it is defined: one filtered pass for the hits, and with sideways one more for each drilled dimension, each of which counts
-/// all documents that pass the others. It answers what `DrillPlan` does, and takes as many times longer as there are drilled dimensions.
+/// Searches as the definition does: one filtered pass for the hits, and, if the search is sideways, one more for each
+/// drilled dimension, which counts all documents that match the other dimensions. The answer is that of
+/// [`DrillPlan`](crate::DrillPlan). It takes up to as many times longer as there are drilled dimensions.
+///
+/// Errors: the first ask that is rejected, before anything is allocated; out of memory.
 pub fn plain<'a>(
     alloc: Global,
     view: &'a TaxoView,
@@ -121,7 +125,7 @@ pub fn plain<'a>(
     }
 }
 
-// The answer to a search whose asks all may be asked.
+// Returns the answer to a search whose asks are all accepted.
 fn plain_answer<'a>(
     alloc: Global,
     view: &'a TaxoView,

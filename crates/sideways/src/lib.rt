@@ -1,5 +1,6 @@
-//! Drill-down and drill-sideways over the segments of a snapshot, as Lucene's `DrillSideways`: one pass for the hits, and with sideways one more for
-//! the near misses of each drilled dimension, the documents that it alone leaves out. A document's ordinals are counted once.
+//! Drill-down and drill-sideways over the segments of a snapshot, as Lucene's `DrillSideways`. One pass finds the hits.
+//! With sideways, one more for each drilled dimension finds its near misses: the documents that match everything but
+//! this dimension. Each document's ordinals are counted once.
 #![tactic(auto)]
 
 mod answer;

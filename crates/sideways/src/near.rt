@@ -1,4 +1,5 @@
-//! The parts of one segment: the hits, and for each drilled dimension the documents that it alone leaves out. Records that are not live are in none.
+//! The parts of one segment: the hits, and for each drilled dimension its near misses, the documents that only it
+//! excludes. Dead records are in none.
 ghost use Rattle.std.specs.Prelude.{◌≡◌, ◌==◌, ◌+◌, ◌/◌, ◌&&◌, ◌∷◌, ◌++◌, [], Bool, ℕ, List, None, IfOk, OnOk, length, map, slice_index_or};
 ghost use Rattle.std.specs.List.{AllByRecursion, AllZip, list_any};
 ghost use Rattle.std.specs.Str.{bytes_eq};
@@ -28,14 +29,14 @@ use seg_drill::{base_nodes, push_paths};
 use seg_file::Segment;
 use std::alloc::Global;
 
-/// The hits of a segment, and for each drilled dimension the places that it alone leaves out, of live records.
+/// The hits of a segment, and for each drilled dimension the places of its near misses. All are live records.
 #[derive(Drop)]
 pub(crate) struct NearSets {
     pub(crate) hits: Bits,
     pub(crate) near: Vec<Bits>,
 }
 
-// The documents that pass the dimension of each pass.
+// Returns a node for the dimension of each pass: the documents that match it.
 fn dim_nodes<'a>(
     alloc: Global,
     segment: &'a Segment,
@@ -52,7 +53,7 @@ fn dim_nodes<'a>(
     Ok(nodes)
 }
 
-// Leaves of the base the hits, and of each dimension the places that it alone leaves out.
+// Reduces the base to the hits, and each dimension to the places that only it excludes.
 fn leave_near(alloc: Global, docs: u32, base: &mut Bits, dims: &mut [Bits]) -> Result<(), NoMemory>
     requires words { base.old.words ≡ (docs + 63) / 64 }
     requires dims { HaveWords base.old.words dims.old }
@@ -67,7 +68,8 @@ fn leave_near(alloc: Global, docs: u32, base: &mut Bits, dims: &mut [Bits]) -> R
     Ok(())
 }
 
-// What all nodes have, and what each dimension alone leaves out, a word for 64 documents at a time. Both are without the dead.
+// Returns the places of all nodes, and the near misses of each dimension, a word for 64 documents at a time, without
+// the dead.
 fn near_sets(
     alloc: Global,
     docs: u32,
@@ -94,7 +96,7 @@ fn near_sets(
     Ok(NearSets { hits, near })
 }
 
-// Gives each pass the set of its dimension.
+// Adds to each pass the set of its dimension.
 fn add_sets<'a>(
     segment: &'a Segment,
     sets: Vec<Bits>,
@@ -112,7 +114,7 @@ fn add_sets<'a>(
     Ok(())
 }
 
-// Adds the parts of a segment whose places are walked over.
+// Adds the parts of a segment whose places are found by walking.
 fn add_walks<'a>(
     alloc: Global,
     segment: &'a Segment,
@@ -130,7 +132,8 @@ fn add_walks<'a>(
     Ok(())
 }
 
-/// Adds the part of a segment to each pass. Where bits are the quicker way the query and each dimension are marked once for all passes.
+/// Adds the part of a segment to each pass. If bits are cheaper, the query and each dimension are marked once for all
+/// passes. Errors: out of memory.
 pub(crate) fn add_segment<'a>(
     alloc: Global,
     segment: &'a Segment,

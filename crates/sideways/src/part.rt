@@ -25,7 +25,7 @@ use std::alloc::Global;
 use std::marker::Model;
 use std::mem;
 
-/// The records of one segment that a pass goes over, those that are left.
+/// The records of one segment that a pass has yet to visit.
 #[derive(Drop)]
 pub(crate) struct Part<'a> {
     segment: &'a Segment,
@@ -54,7 +54,7 @@ impl<'a> Model for Part<'a> {
     ghost invariant = { λ p. IsLeft p.segment.now p.left };
 }
 
-// Counts the records that are left of a segment, and says how many they are.
+// Counts the records of a segment that are left, and returns how many they are.
 fn count_left(segment: &Segment, left: Left<'_>, counter: &mut Counter<'_>) -> u64
     requires countable { AreCountable counter.old.config counter.old.labels segment.now }
     requires left { IsLeft segment.now left }
@@ -70,7 +70,8 @@ fn count_left(segment: &Segment, left: Left<'_>, counter: &mut Counter<'_>) -> u
 }
 
 impl<'a> Part<'a> {
-    /// The live records of the documents that match the query and pass all dimensions of the drill but for the one that is lifted.
+    /// Returns the live records of the documents that match the query and all dimensions of the drill except the lifted
+    /// one. Errors: out of memory.
     pub(crate) fn new(
         alloc: Global,
         segment: &'a Segment,
@@ -85,7 +86,8 @@ impl<'a> Part<'a> {
         Part::of_nodes(alloc, segment, nodes, lists_of(query, drill))
     }
 
-    /// The live records of the documents that all nodes have, which are made of about so many lists.
+    /// Returns the live records of the documents that all nodes have. `lists` is about how many lists the nodes consist
+    /// of. Errors: out of memory.
     pub(crate) fn of_nodes(
         alloc: Global,
         segment: &'a Segment,
@@ -106,7 +108,7 @@ impl<'a> Part<'a> {
         Ok(Part { segment, left })
     }
 
-    /// The live records of the documents that a dimension alone leaves out, which are asked for one after the other.
+    /// Returns the live records of the near misses of a dimension, found by walking. Errors: out of memory.
     pub(crate) fn near(
         alloc: Global,
         segment: &'a Segment,
@@ -125,7 +127,7 @@ impl<'a> Part<'a> {
         Ok(Part { segment, left })
     }
 
-    /// The records at the places of a set.
+    /// Returns the records at the places of a set. It allocates nothing.
     pub(crate) fn marked(segment: &'a Segment, set: Bits) -> Part<'a>
         requires { IsSetWithin segment.now set }
         ensures segment { result.segment ≡ segment.now }
@@ -135,7 +137,7 @@ impl<'a> Part<'a> {
         Part { segment, left }
     }
 
-    /// The place of the next record left.
+    /// Takes the next record that is left, and returns its place.
     pub(crate) fn take(&mut self) -> Option<u32>
         ensures next { IsNext result self.old.left self.new.left }
         ensures segment { self.new.segment ≡ self.old.segment }
@@ -158,7 +160,7 @@ impl<'a> Part<'a> {
         count_record(self.segment, place, counter);
     }
 
-    /// Counts all records left, and says how many they are.
+    /// Counts all records that are left, and returns how many they are.
     pub(crate) fn count(&mut self, counter: &mut Counter<'_>) -> u64
         requires countable { AreCountable counter.old.config counter.old.labels self.old.segment }
         requires room { counter.old.added + length self.old.left ≤ 1000000 }
@@ -169,7 +171,7 @@ impl<'a> Part<'a> {
         count_left(self.segment, left, counter)
     }
 
-    /// How many live records of the segment stand before the one at a place.
+    /// Returns how many live records of the segment are before the one at a place.
     pub(crate) fn rank(&self, place: u32) -> u32
         requires { place < length self.now.segment.records }
         ensures { result ≡ live_before self.now.segment.dead place }
@@ -177,7 +179,7 @@ impl<'a> Part<'a> {
         self.segment.rank(place)
     }
 
-    /// How many records of the segment are live.
+    /// Returns how many records of the segment are live.
     pub(crate) fn live(&self) -> u32
         ensures { result ≡ live_in self.now.segment }
     {

@@ -12,21 +12,21 @@ use facet_names::NoMemory;
 use std::alloc::Global;
 use taxo_list::TaxoView;
 
-/// One pass over all segments, with a counter of its own.
+/// One pass over all segments, with its own counter.
 #[derive(Drop)]
 pub(crate) struct Pass<'a> {
     pub(crate) parts: Vec<Part<'a>>,
     pub(crate) counter: Counter<'a>,
 }
 
-/// A pass over the documents that a drilled dimension alone leaves out. With sideways it is counted over these and the hits.
+/// A pass over the near misses of a drilled dimension. With sideways the dimension is counted over these and the hits.
 #[derive(Drop)]
 pub(crate) struct LiftedPass<'a> {
     pub(crate) dim: &'a str,
     pub(crate) pass: Pass<'a>,
 }
 
-/// The counts of such a pass.
+/// The counts of one drilled dimension.
 #[derive(Drop)]
 pub(crate) struct LiftedCounts<'a> {
     pub(crate) dim: &'a str,
@@ -41,7 +41,7 @@ pub(crate) struct Hits<'a> {
     pub(crate) places: Vec<u32>,
 }
 
-/// What the pass for the hits found.
+/// What the pass for the hits found: the counts, the number of hits, and the places of the first ones.
 #[derive(Drop)]
 pub(crate) struct Found<'a> {
     pub(crate) counts: Counts<'a>,
@@ -49,7 +49,7 @@ pub(crate) struct Found<'a> {
     pub(crate) places: Vec<u32>,
 }
 
-/// Adds a value to a vector that has room for it. It takes no memory.
+/// Adds a value to a vector with spare capacity. It allocates nothing.
 pub(crate) fn push_within<T: Drop>(values: &mut Vec<T>, value: T)
     requires { vec_len values.old < vec_capacity values.old }
     ensures items { values.new.items ≡ values.old.items ++ value ∷ [] }
@@ -58,7 +58,7 @@ pub(crate) fn push_within<T: Drop>(values: &mut Vec<T>, value: T)
     let _pushed = values.push(value);
 }
 
-// Takes first places of a part until there are enough hits, counts their records, and says how many they are.
+// Takes the first places of a part until there are enough hits, counts their records, and returns how many they are.
 fn take_hits(
     part: &mut Part<'_>,
     counter: &mut Counter<'_>,
@@ -87,7 +87,8 @@ fn take_hits(
     number
 }
 
-// Counts all records of a part, and notes places of its first ones until there are enough. Says how many they are.
+// Counts all records of a part, notes the places of the first ones until there are enough, and returns how many were
+// counted.
 fn count_part(
     part: &mut Part<'_>,
     counter: &mut Counter<'_>,
@@ -110,7 +111,8 @@ fn count_part(
 }
 
 impl<'a> Pass<'a> {
-    /// A pass that has no part yet, with room for one of each segment. It takes the memory that the counting needs.
+    /// Returns a pass without a part, with capacity for one per segment. It allocates all that counting needs: 4 bytes
+    /// per label. Errors: out of memory.
     pub(crate) fn new(
         alloc: Global,
         view: &'a TaxoView,
@@ -128,7 +130,7 @@ impl<'a> Pass<'a> {
         Ok(Pass { parts, counter })
     }
 
-    /// Adds a part behind the others.
+    /// Adds a part after the others. Errors: out of memory.
     pub(crate) fn add(&mut self, part: Part<'a>) -> Result<(), NoMemory>
         ensures parts { OnOk result (self.new.parts.items ≡ self.old.parts.items ++ part.entry ∷ []) }
         ensures counter { OnOk result (self.new.counter ≡ self.old.counter) }
@@ -137,7 +139,7 @@ impl<'a> Pass<'a> {
         Ok(())
     }
 
-    /// Counts all documents that are found, and those that the hits' counter has counted. It takes no memory.
+    /// Counts all documents of the pass, and adds those that the counter of the hits has counted. It allocates nothing.
     pub(crate) fn count(self, hits: &Counter<'_>) -> Counts<'a>
         requires ready { IsReady self.parts.items self.counter }
         requires room { HasRoomFor self.parts.items self.counter hits.now }
@@ -156,7 +158,8 @@ impl<'a> Pass<'a> {
         counter.roll_up()
     }
 
-    /// Counts all documents that are found, and says how many they are and where the first of them stand. It takes no memory.
+    /// Counts all documents of the pass, and returns how many they are and the places of the first ones. It allocates
+    /// nothing.
     pub(crate) fn count_hits(self, limit: u32, places: Vec<u32>) -> Hits<'a>
         requires ready { IsReady self.parts.items self.counter }
         requires none { places.items ≡ [] }

@@ -30,10 +30,12 @@ use std::marker::Model;
 use std::sync::Arc;
 use taxo_list::{Labelled, TaxoView};
 
-/// A search that is ready to run, with all memory that the counting needs: one pass for the hits, and with sideways one more for each drilled
-/// dimension. A pass has a counter of its own, 4 bytes for each label of the view, and for each segment a plan or, where the conditions have many
-/// documents, its places as a set: an eighth of a byte a document, and twice as much again while the sets of a segment are made. A hit that is wanted takes
-/// 4 bytes.
+/// A search that is ready to run, with all memory that counting needs: one pass for the hits and, if the search is
+/// sideways, one more for each drilled dimension.
+///
+/// Memory: for each pass, 4 bytes per label of the view. For each pass and segment, a plan; or, if the conditions match
+/// many documents, a set of one bit per record. While the sets of a segment are made, one bit per record twice more.
+/// For each hit that is wanted, 4 bytes.
 #[derive(Drop)]
 pub struct DrillPlan<'a> {
     view: &'a TaxoView,
@@ -42,7 +44,7 @@ pub struct DrillPlan<'a> {
     ask: &'a SearchAsk,
     hits: Pass<'a>,
     lifted: Vec<LiftedPass<'a>>,
-    // room for what the passes find
+    // capacity for what the passes find
     places: Vec<u32>,
     counted: Vec<LiftedCounts<'a>>,
 }
@@ -63,14 +65,15 @@ impl<'a> Model for DrillPlan<'a> {
         × HasRoom p.ask.now.hits p.lifted.items p.places p.counted };
 }
 
-/// How many places of hits are kept: those that are wanted, and no more than there are documents.
+/// Returns how many places of hits are kept: as many as are wanted, and at most 1,000,000, the greatest number of
+/// documents.
 pub(crate) fn limit_of(ask: &SearchAsk) -> u32
     ensures { result ≡ min ask.now.hits 1000000 }
 {
     ask.hits.min(1_000_000)
 }
 
-// A pass without a part for each dimension of the drill.
+// Returns a pass without a part for each dimension of the drill.
 fn lifted_passes<'a>(
     alloc: Global,
     view: &'a TaxoView,
@@ -118,7 +121,7 @@ fn add_segments<'a>(
     Ok(())
 }
 
-// Runs the passes of the dimensions, each of which is counted over the hits too.
+// Runs the passes of the dimensions. Each dimension is counted over its near misses and the hits.
 fn count_lifted<'a>(
     lifted: Vec<LiftedPass<'a>>,
     counted: Vec<LiftedCounts<'a>>,
@@ -143,7 +146,10 @@ fn count_lifted<'a>(
 }
 
 impl<'a> DrillPlan<'a> {
-    /// Refused at the first ask that may not be asked, counted from 0; that is looked at before any memory is taken.
+    /// Prepares a search: looks up its terms and paths in each segment, and allocates all that [`run`](DrillPlan::run)
+    /// needs.
+    ///
+    /// Errors: the first ask that is rejected, before anything is allocated; out of memory.
     pub fn new(
         alloc: Global,
         view: &'a TaxoView,
@@ -165,7 +171,7 @@ impl<'a> DrillPlan<'a> {
         }
     }
 
-    // The plan of a search whose asks all may be asked.
+    // Returns the plan of a search whose asks are all accepted.
     fn fit(
         alloc: Global,
         view: &'a TaxoView,
@@ -194,8 +200,11 @@ impl<'a> DrillPlan<'a> {
         })
     }
 
-    /// Runs the passes, each from the first segment to the last. What it finds in a segment is counted by the segment's column where it is much, and else record
-    /// by record: a hit once for all dimensions, and a document that one dimension alone leaves out once for that dimension. It takes no memory.
+    /// Runs the passes, each from the first segment to the last, and returns what they found. It allocates nothing and
+    /// cannot fail.
+    ///
+    /// Costs: within a segment, many documents are counted with the columns of the segment, a word for 64 documents.
+    /// Few are counted one by one: a hit once for all dimensions, a near miss once for its dimension.
     pub fn run(self) -> SidewaysAnswer<'a>
         ensures { result ≡ self.entry }
     {

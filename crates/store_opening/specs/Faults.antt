@@ -10,24 +10,25 @@ use Rattle.seg_decoding.specs.declared.fault.StoredFault.TheVariants as segments
 use Rattle.store_opening.specs.declared.fault.OpenFault.{OpenFault}
 use Rattle.store_opening.specs.declared.fault.OpenFault.TheVariants.{Disk, Missing, Damaged, Malformed, Uncovered, NumbersSpent, OtherConfig, NoMemory}
 
--- that of a call of the disk
+-- the fault of a disk call
 abbrev pub of_disk : DiskFault → OpenFault
 of_disk disks.Failed = Disk
 of_disk (disks.Absent name) = Disk
 of_disk (disks.Present name) = Disk
 of_disk disks.NoMemory = NoMemory
 
--- that of a segment of labels, with its name
+-- the fault of a segment of labels, with its name
 abbrev pub of_labels : FileName → LabelsFault → OpenFault
 of_labels name (labels.Malformed at) = Malformed name at
 of_labels name labels.NoMemory = NoMemory
 
--- that of a segment of documents, with its name
+-- the fault of a segment of documents, with its name
 abbrev pub of_segment : FileName → StoredFault → OpenFault
 of_segment name (segments.Malformed at) = Malformed name at
 of_segment name segments.NoMemory = NoMemory
 
--- What a fault says by itself, whatever the disk tells: a digest is another than the one that was kept, there are fewer labels than are needed, a number is 2^63 or more.
+-- What a fault means by itself, whatever the disk returns: a digest differs from the one that was stored, there are
+-- fewer labels than needed, or a number is 2^63 or more.
 abbrev pub IsSound : OpenFault → Type 0
 IsSound Disk = Unit {0}
 IsSound (Missing name) = Unit {0}

@@ -1,4 +1,4 @@
--- What the files of a store stand for, or the first fault that is met in reading them.
+-- What the files of a store represent, or the first fault in reading them.
 use Rattle.std.specs.Prelude.{ℕ, ◌^◌, List, [], ◌∷◌, ◌||◌, length, Bool, is_some, nat_eq, nat_lt, nat_le, if◌then◌else◌, Option, Some, None, Result, Ok, Err}
 use Rattle.std.specs.Option.{option_map}
 use Rattle.std.specs.List.{find}
@@ -32,11 +32,11 @@ pub record Found : Type 0 where
   pub labels : List (List (List ℕ))
   pub segments : List Records
 
--- the bytes of the segment of a number, where there is one
+-- the bytes of the segment with a number, if there is one
 abbrev pub Segments : Type 0
 Segments = ℕ → Option (List ℕ)
 
--- those of a directory
+-- the segments of a directory
 abbrev pub segments_in : Dir → Image → Segments
 segments_in dir c n = c (file dir Segment n)
 
@@ -71,20 +71,20 @@ segment_bytes name kept (Some bytes) = if bytes_eq (sha256 bytes) kept then Ok b
 
 -- ---- the taxonomy
 
--- the labels of a segment, behind these
+-- the labels of a segment, after these
 unfoldable pub labels_behind : Segments → List (List (List ℕ)) → LabelPart → Result (List (List (List ℕ))) OpenFault
 labels_behind segments known part = do
   bytes ← segment_bytes (file Taxonomy Segment part.number) part.digest (segments part.number)
   told_as (Malformed (file Taxonomy Segment part.number)) (stored_labels known part.first part.count bytes)
 
--- the labels of these segments, behind these
+-- the labels of these segments, after these
 unfoldable pub labels_of : Segments → List (List (List ℕ)) → List LabelPart → Result (List (List (List ℕ))) OpenFault
 labels_of segments known [] = Ok known
 labels_of segments known (part ∷ parts) = do
   longer ← labels_behind segments known part
   labels_of segments longer parts
 
--- the labels of a commit; without one the root alone
+-- the labels of a commit; without one, only the root
 unfoldable pub taxonomy_in : Option (ℕ × List ℕ) → Segments → Result (List (List (List ℕ))) OpenFault
 taxonomy_in None segments = Ok ([] ∷ [])
 taxonomy_in (Some (n, bytes)) segments = do
@@ -108,13 +108,13 @@ agrees config labels commit = do
   same ← same_flags (first_different config commit.kept)
   covered commit.needs labels
 
--- what a segment has, whose documents need the first so many of the labels
+-- the records of a segment whose documents need the first so many of the labels
 unfoldable pub segment_of : Config → List (List (List ℕ)) → ℕ → Segments → DocumentPart → Result Records OpenFault
 segment_of config labels needs segments part = do
   bytes ← segment_bytes (file Index Segment part.number) part.digest (segments part.number)
   told_as (Malformed (file Index Segment part.number)) (stored_segment config labels needs part.documents bytes)
 
--- what each of these segments has
+-- the records of each of these segments
 unfoldable pub segments_of : Config → List (List (List ℕ)) → ℕ → Segments → List DocumentPart → Result (List Records) OpenFault
 segments_of config labels needs segments [] = Ok []
 segments_of config labels needs segments (part ∷ parts) = do
@@ -144,7 +144,7 @@ files config c = do
 abbrev pub held_segments : Held → Segments
 held_segments x n = option_map (λ s. s.1) (find (λ s. nat_eq s.0 n) x.segments)
 
--- the same of what two directories hold
+-- the same, given what the two directories hold
 unfoldable pub files_of : Config → Held → Held → Result Found OpenFault
 files_of config taxonomy index = do
   labels ← taxonomy_in taxonomy.commit (held_segments taxonomy)

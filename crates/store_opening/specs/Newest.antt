@@ -19,12 +19,12 @@ pub record AreListed (files : Image) (names : List FileName) : Type 0 where
   pub all : (n : FileName) → files n ≢ None → Contains names n
   pub once : AllPairs (λ a b. a ≢ b) names
 
--- one more than the greatest number of a file; 1 where there is no file
+-- one more than the greatest number of a file; 1 without a file
 abbrev pub next_after : Option ℕ → ℕ
 next_after None = 1
 next_after (Some n) = n + 1
 
--- the number of the taxonomy's newest commit, and its segments, which hold all labels but the root
+-- the number of the taxonomy's newest commit, and its segments, which hold all labels except the root
 abbrev pub IsNewestTaxonomy : Option (ℕ × List ℕ) → Option ℕ → List LabelPart → List (List (List ℕ)) → Type 0
 IsNewestTaxonomy None number parts labels = (number ≡ None) × (parts ≡ [])
 IsNewestTaxonomy (Some (n, bytes)) number parts labels = (number ≡ Some n) × (taxonomy_commit n bytes ≡ Ok (labels_listed (length labels) parts))
@@ -34,7 +34,8 @@ abbrev pub IsNewestIndex : Option (ℕ × List ℕ) → Option ℕ → List Docu
 IsNewestIndex None number parts = (number ≡ None) × (parts ≡ [])
 IsNewestIndex (Some (n, bytes)) number parts = (number ≡ Some n) × ((needs : ℕ) × (kept : Config) × (index_commit n bytes ≡ Ok (documents_listed needs kept parts)))
 
--- a segment that a commit names: it has so many documents and this digest, and it is the segment of its bytes and of its documents
+-- a segment that a commit names: it has the named digest and number of documents, and is the segment of its bytes and
+-- of its documents
 pub record IsNamedAs (config : Config) (labels : List (List (List ℕ))) (part : DocumentPart) (segment : Records) : Type 0 where
   pub documents : length segment.records ≡ part.documents
   pub digest : sha256 (seg_bytes segment) ≡ part.digest

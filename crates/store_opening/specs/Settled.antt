@@ -1,4 +1,4 @@
--- A disk whose images all stand for what it reads.
+-- A disk whose images all represent what it reads.
 use Rattle.std.specs.Prelude.{◌≡◌, ℕ, List, [], ◌∷◌, map, Option, Some, None, Result, Ok, Err}
 use Rattle.std.specs.List.{All}
 use Rattle.facet_disk.specs.declared.name.Dir.{Dir}
@@ -28,7 +28,7 @@ named dir None = []
 named Taxonomy (Some (n, bytes)) = label_numbers (taxonomy_commit n bytes)
 named Index (Some (n, bytes)) = document_numbers (index_commit n bytes)
 
--- a segment before others, where it is there
+-- a segment before others, if it is there
 abbrev pub before : ℕ → Option (List ℕ) → List (ℕ × List ℕ) → List (ℕ × List ℕ)
 before n None others = others
 before n (Some bytes) others = (n, bytes) ∷ others
@@ -42,7 +42,8 @@ there segments (n ∷ ns) = before n (segments n) (there segments ns)
 abbrev pub held_in : Dir → Image → Held
 held_in dir c = record { commit = newest_file dir c; segments = there (segments_in dir c) (named dir (newest_file dir c)) }
 
--- each image stands for what the disk reads, and has the commit files with the greatest numbers and the segments that these name
+-- each image represents what the disk reads, and has the commit files with the greatest numbers and the segments that
+-- these name
 pub record IsSettled {D : Type 0} (disk : Ghosts D) (config : Config) (s : Told) (now : D) : Type 0 where
   pub same : (c : Image) → disk.may_leave now c → files config c ≡ files config s.files
   pub commits : (dir : Dir) (c : Image) → disk.may_leave now c → newest_file dir c ≡ newest_file dir s.files

@@ -5,7 +5,7 @@ use Rattle.facet_disk.specs.Memory.{MemoryState, memory_told, memory_leaves, mem
 use Rattle.facet_model.specs.Flags.{Config}
 use Rattle.store_opening.specs.Settled.{IsSettled}
 
--- what a disk in memory tells as a disk
+-- a disk in memory as a disk
 abbrev pub memory_disk : Ghosts MemoryState
 memory_disk = record {
   told = λ d. Some (memory_told d);

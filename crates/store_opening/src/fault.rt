@@ -10,40 +10,51 @@ use label_file::LabelsFault;
 use seg_decoding::StoredFault;
 use std::alloc::{AllocError, AllocFailed};
 
-/// Why a disk's files stand for no store: the first of these that is met. Places count bytes from 0.
+/// Why the files of a disk hold no store: the first fault, in the order of reading. Places count bytes from 0.
 #[derive(Debug, Drop)]
 pub enum OpenFault {
     /// A call of the disk failed.
     Disk,
-    /// A segment that a commit names is not listed.
+    /// A commit names a segment, and the directory does not list it.
     Missing {
+        /// The segment's file.
         name: FileName,
     },
-    /// The digest of a file's bytes, `found`, is another than the one that was kept of them.
+    /// The SHA-256 digest of a file's bytes is not the one that was stored.
     Damaged {
+        /// The file.
         name: FileName,
+        /// The digest that was stored.
         kept: [u8; 32],
+        /// The digest of the bytes as they are.
         found: [u8; 32],
     },
-    /// A file breaks its format at this place.
+    /// A file breaks its format.
     Malformed {
+        /// The file.
         name: FileName,
+        /// Where the first part that breaks the format begins, in bytes.
         at: u64,
     },
-    /// The documents need this many labels, with the root, and there are only so many.
+    /// The documents need more labels than there are. Both numbers count the root.
     Uncovered {
+        /// How many labels the documents need.
         needs: u64,
+        /// How many labels the taxonomy has.
         has: u64,
     },
-    /// A file has this number, which is 2^63 or more.
+    /// A file has a number of 2^63 or more, so no further file can have a number.
     NumbersSpent {
+        /// The number.
         number: u64,
     },
-    /// The documents were stored under other flags of this dimension, the first one by its bytes.
+    /// The documents were stored under other flags than the config has. It is the first such dimension in the order of
+    /// bytes.
     OtherConfig {
+        /// The dimension.
         dim: Word,
     },
-    /// An allocation was refused.
+    /// Out of memory.
     NoMemory,
 }
 
@@ -92,7 +103,7 @@ impl<T: Drop> From<AllocFailed<T>> for OpenFault {
     }
 }
 
-/// The fault of a commit file, or of a digest, with the name of the file.
+/// Returns the fault of a commit file or of a digest as a fault of opening, with the name of the file.
 pub(crate) fn of_file(name: FileName, fault: FileFault) -> OpenFault
     ensures { result ≡ of_file name fault }
 {
@@ -103,7 +114,7 @@ pub(crate) fn of_file(name: FileName, fault: FileFault) -> OpenFault
     }
 }
 
-/// The fault of a segment of labels, with its name.
+/// Returns the fault of a segment of labels as a fault of opening, with its name.
 pub(crate) fn of_labels(name: FileName, fault: LabelsFault) -> OpenFault
     ensures { result ≡ of_labels name fault }
 {
@@ -113,7 +124,7 @@ pub(crate) fn of_labels(name: FileName, fault: LabelsFault) -> OpenFault
     }
 }
 
-/// The fault of a segment of documents, with its name.
+/// Returns the fault of a segment of documents as a fault of opening, with its name.
 pub(crate) fn of_segment(name: FileName, fault: StoredFault) -> OpenFault
     ensures { result ≡ of_segment name fault }
 {

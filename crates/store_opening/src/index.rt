@@ -1,4 +1,4 @@
-//! The index of a disk.
+//! Reading the index of a disk.
 ghost use Rattle.std.specs.Prelude.{◌≡◌, ◌≢◌, ◌≤◌, ◌++◌, [], ◌∷◌, ℕ, List, Option, Some, Ok, Err, length, map, IfOk, IfErr, OnOk, IsErrOf};
 ghost use Rattle.std.specs.Arc.{arc_value};
 ghost use Rattle.std.specs.List.{AllZip, sum_by};
@@ -38,7 +38,7 @@ pub(crate) struct IndexRead {
     pub(crate) segments: Vec<Arc<Segment>>,
 }
 
-// Reads a segment, whose documents need the first so many of the labels.
+// Reads a segment. Its documents need the first `needs` labels.
 #[tactic(auto, unfolding(crate::specs::Files::segment_of))]
 fn read_document_part<D: Disk>(
     alloc: Global,
@@ -70,7 +70,7 @@ fn read_document_part<D: Disk>(
     }
 }
 
-// Puts a segment behind these.
+// Adds a segment after the others.
 fn keep(alloc: Global, segments: &mut Vec<Arc<Segment>>, segment: Segment) -> Result<(), NoMemory>
     ensures { OnOk result (map arc_value segments.new.items ≡ map arc_value segments.old.items ++ segment ∷ []) }
 {
@@ -107,7 +107,7 @@ fn read_document_parts<D: Disk>(
     Ok(segments)
 }
 
-// The commit of the index that a file is.
+// Reads the index commit in the bytes of a file.
 fn commit_of(
     alloc: Global,
     keys: RandomState,
@@ -130,7 +130,7 @@ fn commit_of(
     }
 }
 
-// The dimensions have the flags that were kept.
+// Checks that the dimensions have the flags that were stored.
 fn check_flags(alloc: Global, config: &FacetsConfig, kept: &FacetsConfig) -> Result<(), OpenFault>
     ensures ok { IfOk result (λ _. same_flags (first_different config.now kept.now) ≡ Ok tt) }
     ensures err { IfErr result (λ e. e ≢ Memory → same_flags (first_different config.now kept.now) ≡ Err e) }
@@ -144,7 +144,7 @@ fn check_flags(alloc: Global, config: &FacetsConfig, kept: &FacetsConfig) -> Res
     Err(OpenFault::OtherConfig { dim })
 }
 
-// The documents were stored under these flags, and the labels that they need are there.
+// Checks that the documents were stored under these flags, and that the labels that they need exist.
 #[tactic(auto, unfolding(crate::specs::Files::agrees))]
 fn check_commit(
     alloc: Global,
@@ -169,7 +169,7 @@ fn check_commit(
     Ok(())
 }
 
-/// The index: the segments of its newest commit, or none. It reads the commit file and each of its segments once.
+/// Reads the index: the segments of its newest commit, or none. It reads the commit file and each of its segments once.
 pub(crate) fn read_index<D: Disk>(
     alloc: Global,
     keys: RandomState,

@@ -1,24 +1,24 @@
-//! Laws of what files stand for, for proofs of the crates above. Each call does nothing: its contract is the law.
+//! Laws of what files represent, for proofs of other crates. Each call does nothing: its contract is the law.
 
 ghost use Rattle.store_opening.specs.Laws.{StandsForHeld, HoldsFiles, SettledStands, StandsSettles, OneImageSettles, QuietStays};
 ghost use Rattle.store_opening.specs.Stopped.{StoppedSettles};
 
 use facet_disk::{Disk, MemoryDisk};
 
-/// The files of an image, and what its directories hold.
+/// States what the files of an image represent, given what its directories hold.
 pub fn of_files()
     ensures stands { StandsForHeld }
     ensures held { HoldsFiles }
 {}
 
-/// A settled disk stands for what it reads, whatever a crash leaves.
+/// States that a settled disk represents what it reads, whatever a crash leaves.
 pub fn of_settled<D: Disk>(disk: &D)
     ensures { SettledStands D.Disk disk.now }
 {
     let _ = disk;
 }
 
-/// When a disk is settled.
+/// States when a disk is settled.
 pub fn of_settling<D: Disk>(disk: &D)
     ensures stands { StandsSettles D.Disk disk.now }
     ensures alone { OneImageSettles D.Disk disk.now }
@@ -26,14 +26,14 @@ pub fn of_settling<D: Disk>(disk: &D)
     let _ = disk;
 }
 
-/// A disk in memory that a crash left, as `MemoryDisk::stopped` gives it, is settled.
+/// States that a disk in memory is settled after a crash, as `MemoryDisk::stopped` returns it.
 pub fn of_stopped(disk: &MemoryDisk)
     ensures { StoppedSettles disk.now }
 {
     let _ = disk;
 }
 
-/// A settled disk stays so where nothing is changed.
+/// States that a settled disk stays settled if nothing is changed.
 pub fn of_quiet<D: Disk>(old: &D, new: &D)
     ensures { QuietStays D.Disk old.now new.now }
 {

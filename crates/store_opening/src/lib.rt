@@ -1,4 +1,4 @@
-//! What the files of a store stand for, and reading them.
+//! What the files of a store represent, and reading them.
 #![tactic(auto)]
 
 mod fault;

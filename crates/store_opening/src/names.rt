@@ -4,7 +4,7 @@ ghost use Rattle.std.specs.List.Sorted.{IsPermutation};
 use facet_disk::FileName;
 use std::marker::Model;
 
-/// The names of the files of a disk, in their order, so that one is looked up among many without going over them.
+/// The names of the files of a disk, sorted, so that a look-up is a binary search.
 ///
 /// Contracts see them as their list.
 #[derive(Drop)]
@@ -26,7 +26,7 @@ impl Model for Names {
 }
 
 impl Names {
-    /// These names, put in order. It takes no memory, and the time of a sort.
+    /// Sorts the names, and allocates nothing.
     pub(crate) fn new(mut names: Vec<FileName>) -> Names
         ensures { IsPermutation names.items result }
     {
@@ -34,7 +34,7 @@ impl Names {
         Names { names }
     }
 
-    /// Whether the name is among them. It takes time by the logarithm of how many there are.
+    /// Returns whether the name is among them. It takes logarithmic time.
     pub(crate) fn has(&self, name: FileName) -> bool
         ensures there { result ≡ true → Contains self.now name }
         ensures none { result ≡ false → Contains self.now name → ⊥ }

@@ -16,7 +16,7 @@ use facet_disk::{Dir, FileName, Kind};
 
 const LIMIT: u64 = 1 << 63;
 
-// The greatest of the numbers before and of this one, if it counts.
+// Returns the greater of the greatest number so far and this one, if it counts.
 fn greater(best: Option<u64>, counts: bool, number: u64) -> Option<u64>
     ensures best { result ≡ (if counts then Some (option_map_or (λ n. max n number) best number) else best) }
     ensures fits { IfSome result (λ n. n < 2 ^ 64) }
@@ -36,7 +36,7 @@ fn is_commit_of(name: FileName, dir: Dir) -> bool
     name.dir == dir && name.kind == Kind::Commit
 }
 
-/// The number of the newest commit file of a directory. It goes over the names once.
+/// Returns the number of the newest commit file of a directory, or `None`. It visits each name once.
 pub(crate) fn newest_of(names: &[FileName], dir: Dir) -> Option<u64>
     ensures { (c : Image) → AreListed c names.now → result ≡ newest dir c }
 {
@@ -47,7 +47,7 @@ pub(crate) fn newest_of(names: &[FileName], dir: Dir) -> Option<u64>
     best
 }
 
-// The greatest number of all.
+// Returns the greatest number of all files.
 fn greatest_of(names: &[FileName]) -> Option<u64>
     ensures greatest { (c : Image) → AreListed c names.now → result ≡ greatest_number c }
     ensures most { (n : FileName) → Contains names.now n → IfSome result (λ most. n.number ≤ most) }
@@ -60,7 +60,8 @@ fn greatest_of(names: &[FileName]) -> Option<u64>
     best
 }
 
-/// The number that the next file takes, where none has a number of 2^63 or more. It goes over the names once.
+/// Returns the number that the next file takes. It visits each name once. Errors: `NumbersSpent` if a file has a number
+/// of 2^63 or more.
 pub(crate) fn next_number(names: &[FileName]) -> Result<u64, OpenFault>
     ensures ok { IfOk result (λ next. (c : Image) → AreListed c names.now → unspent (greatest_number c) ≡ Ok tt) }
     ensures next { IfOk result (λ next. (c : Image) → AreListed c names.now → next ≡ next_after (greatest_number c)) }

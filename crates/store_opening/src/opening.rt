@@ -28,35 +28,41 @@ use std::hash::RandomState;
 use std::sync::Arc;
 use taxo_list::Taxonomy;
 
-/// A store that was read from a disk: its labels, the segments of its documents, and the files that hold them.
+/// A store that was read from a disk.
 #[derive(Drop)]
 pub struct Read {
+    /// The newest commits, and the names of all files.
     pub newest: Newest,
+    /// The labels; the root alone if there is no commit of the taxonomy.
     pub labels: Taxonomy,
+    /// The segments of documents, in order; none if there is no commit of the index.
     pub segments: Vec<Arc<Segment>>,
 }
 
 /// Reads the store of a disk, and writes nothing.
 ///
-/// Each directory is listed, and then the newest commit of the taxonomy is read with the segments that it names, and the newest commit of the index
-/// with those that it names. Each of these files is read once and whole; other files are not read. The first fault that is met in this order is
-/// answered.
+/// It lists each directory. Then it reads the newest commit of the taxonomy and the segments that it names, and the
+/// newest commit of the index and the segments that it names. It reads each of these files once and whole, and no other
+/// file. `keys` are hash keys of labels and terms; no result depends on them.
 ///
-/// It takes the time and the memory of adding all labels, and for each segment what `open_stored` takes beside its bytes. It keeps
-/// the labels, the segments, and the names of all files. Labels and terms are hashed with `keys`, on which no answer depends.
+/// Costs: time and memory of adding all labels, and for each segment those of `seg_decoding::open_stored`. The labels,
+/// the segments and the names of all files stay in memory.
+///
+/// Errors: the first fault in the order of reading; `Disk` if a call of the disk failed; out of memory.
 pub fn read_store<D: Disk>(
     alloc: Global,
     keys: RandomState,
     disk: &mut D,
     config: &FacetsConfig,
 ) -> Result<Read, OpenFault>
-    // It is what the files stand for, or the first fault, unless memory ran out or a call of the disk failed.
+    // The result is what the files represent, or their first fault, unless it is out of memory or a call of the disk
+    // failed.
     ensures ok { IfOk result (λ r. (s : Told) → D.told disk.old ≡ Some s → files config.now s.files ≡ Ok (found r)) }
     ensures err { IfErr result (λ e. e ≢ Memory → e ≢ Disk → (s : Told) → D.told disk.old ≡ Some s → files config.now s.files ≡ Err e) }
     ensures read { IsRead D.Disk disk.old disk.new result }
     ensures failed { (s : Told) → D.told disk.old ≡ Some s → IsErrOf result Disk → Rose (D.failures disk.old) (D.failures disk.new) }
 
-    // Whatever the disk tells, the segments are those of their documents, which are at most 1,000,000.
+    // Whatever the disk returns, the segments have their documents, at most 1,000,000.
     ensures decodes { IfOk result (λ r. Decodes r.labels config.now (found r).segments (docs_in r.labels (found r).segments)) }
     ensures few { IfOk result (λ r. length (docs_in r.labels (found r).segments) ≤ 1000000) }
 
@@ -67,12 +73,13 @@ pub fn read_store<D: Disk>(
     ensures some { IfOk result (λ r. 1 ≤ r.newest.next) }
     ensures room { IfOk result (λ r. r.newest.next ≤ 2 ^ 63) }
 
-    // Whatever the disk tells, the labels are a label list, and their segments, each of at least one, follow one another.
+    // Whatever the disk returns, the labels are a label list, and their segments follow one another, each with at least
+    // one label.
     ensures list { IfOk result (λ r. IsLabelList r.labels) }
     ensures many { IfOk result (λ r. length r.newest.label_parts.items < length r.labels) }
     ensures order { IfOk result (λ r. AreInOrder (length r.labels) 1 r.newest.label_parts.items) }
 
-    // The numbers and the parts are those of the newest commits, and each part of the index is that of its segment.
+    // The numbers and the parts are those of the newest commits, and each part of the index describes its segment.
     ensures taxonomy { IfOk result (λ r. (s : Told) → D.told disk.old ≡ Some s → IsTaxonomyOf s.files r.newest r.labels) }
     ensures index { IfOk result (λ r. (s : Told) → D.told disk.old ≡ Some s → IsIndexOf s.files r.newest) }
     ensures named { IfOk result (λ r. AllZip (IsNamedAs config.now r.labels) r.newest.document_parts.items (found r).segments) }

@@ -25,7 +25,7 @@ pub(crate) struct CommitBytes {
     pub(crate) bytes: Vec<u8>,
 }
 
-// The names of a directory.
+// Returns the names of a directory's files.
 fn list_dir<D: Disk>(alloc: Global, disk: &mut D, dir: Dir) -> Result<Vec<FileName>, OpenFault>
     ensures ok { IfOk result (λ v. (s : Told) → D.told disk.old ≡ Some s → Lists dir s.files v.items) }
     ensures err { IfErr result (λ e. (e ≡ Memory) ⊎ (e ≡ Disk)) }
@@ -36,7 +36,7 @@ fn list_dir<D: Disk>(alloc: Global, disk: &mut D, dir: Dir) -> Result<Vec<FileNa
     Ok(names.into_vec())
 }
 
-/// The names of both directories.
+/// Returns the names of the files of both directories.
 pub(crate) fn list_all<D: Disk>(alloc: Global, disk: &mut D) -> Result<Names, OpenFault>
     ensures ok { IfOk result (λ names. (s : Told) → D.told disk.old ≡ Some s → AreListed s.files names) }
     ensures err { IfErr result (λ e. (e ≡ Memory) ⊎ (e ≡ Disk)) }
@@ -49,7 +49,7 @@ pub(crate) fn list_all<D: Disk>(alloc: Global, disk: &mut D) -> Result<Names, Op
     Ok(Names::new(names))
 }
 
-// The bytes of a file.
+// Returns the bytes of a file.
 fn read_file<D: Disk>(alloc: Global, disk: &mut D, name: FileName) -> Result<Vec<u8>, OpenFault>
     ensures ok { IfOk result (λ v. (s : Told) → D.told disk.old ≡ Some s → s.files name ≡ Some v.items) }
     ensures err { IfErr result (λ e. (e ≡ Memory) ⊎ (e ≡ Disk)) }
@@ -60,7 +60,7 @@ fn read_file<D: Disk>(alloc: Global, disk: &mut D, name: FileName) -> Result<Vec
     Ok(bytes)
 }
 
-/// The newest commit file of a directory, where there is one.
+/// Reads the newest commit file of a directory, if there is one.
 pub(crate) fn read_newest<D: Disk>(
     alloc: Global,
     disk: &mut D,
@@ -84,7 +84,8 @@ pub(crate) fn read_newest<D: Disk>(
     Ok(Some(CommitBytes { number, bytes }))
 }
 
-/// The bytes of a segment, which has to be listed, and to have the digest that a commit kept of it.
+/// Reads the bytes of a segment that a commit names. Errors: `Missing` if it is not listed, `Damaged` if it does not
+/// have the digest of the commit.
 #[tactic(auto, unfolding(crate::specs::Files::segment_bytes))]
 pub(crate) fn read_segment<D: Disk>(
     alloc: Global,

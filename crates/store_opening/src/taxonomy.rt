@@ -1,4 +1,4 @@
-//! The taxonomy of a disk.
+//! Reading the taxonomy of a disk.
 ghost use Rattle.std.specs.Prelude.{◌≡◌, ◌≢◌, ◌+◌, ◌≤◌, ◌<◌, [], ◌∷◌, ℕ, List, Option, Some, Ok, Err, length, IfOk, IfErr, OnOk, IsErrOf};
 ghost use Rattle.facet_codec.specs.Faults.{told_as};
 ghost use Rattle.facet_disk.specs.Calls.{Rose};
@@ -30,7 +30,7 @@ pub(crate) struct TaxonomyRead {
     pub(crate) labels: Taxonomy,
 }
 
-// Reads the labels of a segment behind these.
+// Reads the labels of a segment, and adds them after the others.
 #[tactic(auto, unfolding(crate::specs::Files::labels_behind))]
 fn read_label_part<D: Disk>(
     alloc: Global,
@@ -62,7 +62,7 @@ fn read_label_part<D: Disk>(
     Ok(())
 }
 
-// Reads so many labels: those of these segments behind the root.
+// Reads the labels of these segments after the root, `total` labels in all.
 fn read_label_parts<D: Disk>(
     alloc: Global,
     keys: RandomState,
@@ -88,7 +88,7 @@ fn read_label_parts<D: Disk>(
     Ok(labels)
 }
 
-// The commit of the taxonomy that a file is.
+// Reads the taxonomy commit in the bytes of a file.
 fn commit_of(alloc: Global, found: &CommitBytes) -> Result<TaxonomyCommit, OpenFault>
     ensures ok { IfOk result (λ c. taxonomy_commit found.now.number found.now.bytes.items ≡ Ok (taxonomy_listing c)) }
     ensures order { IfOk result (λ c. AreInOrder c.labels 1 c.parts.items) }
@@ -108,7 +108,8 @@ fn commit_of(alloc: Global, found: &CommitBytes) -> Result<TaxonomyCommit, OpenF
     }
 }
 
-/// The taxonomy: the labels of its newest commit, or the root alone. It reads the commit file and each of its segments once.
+/// Reads the taxonomy: the labels of its newest commit, or the root alone. It reads the commit file and each of its
+/// segments once.
 pub(crate) fn read_taxonomy<D: Disk>(
     alloc: Global,
     keys: RandomState,

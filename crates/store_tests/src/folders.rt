@@ -21,7 +21,7 @@ const FOLDER_CALLS: &[Call] = &[
     (Step::Rename(PENDING, COMMIT), Ok(0)),
     (Step::SyncNames(Dir::Taxonomy), Ok(0)),
     (Step::Remove(PENDING), NO_PENDING),
-    // No rename takes the place of another file.
+    // No rename replaces another file.
     (Step::Put(PENDING, b"another"), Ok(0)),
     (Step::Rename(PENDING, COMMIT), HAS_COMMIT),
     (Step::Read(PENDING), Ok(7)),
@@ -35,7 +35,7 @@ const FOLDER_CALLS: &[Call] = &[
     (Step::List(Dir::Index), Ok(0)),
 ];
 
-// What a disk answers while another has its folder.
+// What a disk returns while another one has locked its folder.
 const REFUSED: &[Call] = &[
     (Step::List(Dir::Index), FAILED),
     (Step::Read(OUTER), FAILED),
@@ -46,7 +46,7 @@ const REFUSED: &[Call] = &[
     (Step::Remove(OUTER), FAILED),
 ];
 
-// And once the other is gone.
+// What it returns after the other one was dropped.
 const TAKEN: &[Call] = &[
     (Step::List(Dir::Index), Ok(1)),
     (Step::Read(OUTER), Ok(3)),
@@ -57,23 +57,23 @@ const TAKEN: &[Call] = &[
     (Step::Remove(OUTER), Ok(0)),
 ];
 
-// Whether each of these calls of a disk is answered so, with so many faults counted.
+// Returns whether each of these calls of a disk has this result, with this many faults counted.
 fn answers_all<D: Disk>(alloc: Global, disk: &mut D, calls: &[Call], faults: u64) -> bool {
     make_all(alloc, disk, calls) == calls.len() && disk.fault_count() == faults
 }
 
-// Whether each call of a disk is refused while another has its folder, which has put a file there.
+// Returns whether each call of a disk fails while another one, which has put a file there, has locked its folder.
 fn is_refused<D: Disk>(alloc: Global, mut first: D, second: &mut D) -> Result<bool, Fail> {
     first.put(OUTER, b"one")?;
     Ok(answers_all(alloc, second, REFUSED, 7))
 }
 
-// Whether it is, and then has the folder once the other is gone.
+// Returns whether that is so, and the disk has the folder after the other one was dropped.
 fn waits_for<D: Disk>(alloc: Global, first: D, mut second: D) -> Result<bool, Fail> {
     Ok(is_refused(alloc, first, &mut second)? && make_all(alloc, &mut second, TAKEN) == TAKEN.len())
 }
 
-// Of a disk alone in its folder, and of two in one, where there was memory to make them.
+// Tests a disk alone in its folder, and two in one, if there was memory to make them.
 fn are_folders<D: Disk>(
     alloc: Global,
     alone: Result<D, NoMemory>,
@@ -97,7 +97,7 @@ fn a_folder(rt: HostRuntime) -> Result<(), Fail> {
     Ok(())
 }
 
-// Entries of a directory, and whether they are names of ours.
+// Entries of a directory, and whether they are file names of a store.
 const ENTRIES: &[(&str, bool)] = &[
     ("segment-0", true),
     ("pending-18446744073709551615", true),
@@ -112,7 +112,7 @@ const ENTRIES: &[(&str, bool)] = &[
     ("note", false),
 ];
 
-// Whether the entry is read as a name of this text, or as none.
+// Returns whether the entry is read as a file name with this text, or as none.
 fn is_read(alloc: Global, entry: &str, is_name: bool) -> Result<bool, Fail> {
     match FileName::from_entry(Dir::Index, entry) {
         Some(name) => {
@@ -123,14 +123,14 @@ fn is_read(alloc: Global, entry: &str, is_name: bool) -> Result<bool, Fail> {
     }
 }
 
-// The names in the order of their directories, kinds and numbers.
+// Returns the names in the order of their directories, kinds and numbers.
 fn sorted_names<D: Disk>(alloc: Global, disk: &mut D) -> Result<Names, Fail> {
     let mut names = disk.list(alloc, Dir::Index)?.into_vec();
     names.sort()?;
     Ok(Names::new(names))
 }
 
-// Whether each entry, which becomes a file, is read as it is to be.
+// Makes each entry a file, and returns whether it is read as expected.
 fn are_read<R: Files>(rt: &R, alloc: Global) -> Result<bool, Fail> {
     for (entry, is_name) in ENTRIES {
         fs::write(rt, format!(in alloc; "store/index/{entry}")?, "x")?;
@@ -141,7 +141,7 @@ fn are_read<R: Files>(rt: &R, alloc: Global) -> Result<bool, Fail> {
     Ok(true)
 }
 
-// Whether the disk lists the names, and no other entry.
+// Returns whether the disk lists the names, and no other entry.
 fn are_listed<D: Disk>(alloc: Global, disk: &mut D) -> Result<bool, Fail> {
     let names = sorted_names(alloc, disk)?;
     let first = FileName {
@@ -152,7 +152,7 @@ fn are_listed<D: Disk>(alloc: Global, disk: &mut D) -> Result<bool, Fail> {
     Ok(names.as_slice().len() == 4 && names.as_slice().first() == Some(&first))
 }
 
-// Of entries beside a file that the disk puts, where there was memory to make it.
+// Tests entries next to a file that the disk puts, if there was memory to make the disk.
 fn are_told_apart<R: Files, D: Disk>(
     rt: &R,
     alloc: Global,

@@ -11,7 +11,7 @@ use std::test::Fail;
 
 const TEXT: &[u8] = b"facets and labels";
 
-// Gives three bytes a call, or an error where none are left.
+// Returns three bytes per call, and an error if none are left.
 #[derive(Drop)]
 struct Broken {
     bytes: &'static [u8],
@@ -30,7 +30,7 @@ impl Read for Broken {
     }
 }
 
-// Takes two bytes a call, and none once it is full.
+// Takes two bytes per call, and none once it is full.
 #[derive(Drop)]
 struct Small {
     room: usize,
@@ -48,7 +48,7 @@ impl Write for Small {
     }
 }
 
-// Gives or takes these bytes, at most five a call, and is interrupted twice before each such call.
+// Returns or takes these bytes, at most five per call, and is interrupted twice before each such call.
 #[derive(Drop)]
 struct Interrupted {
     bytes: &'static [u8],
@@ -100,13 +100,13 @@ impl Write for Interrupted {
     }
 }
 
-// Whether one read gives what the reader gave after its interruptions.
+// Returns whether one read returns what the reader returned after its interruptions.
 fn reads_on() -> bool {
     let mut block = [0u8; 5];
     matches!(read_retrying(&mut Interrupted::new(), &mut block), Ok(5)) && block == *b"facet"
 }
 
-// Whether one write gives what the writer took after its interruptions.
+// Returns whether one write returns what the writer took after its interruptions.
 fn writes_on() -> bool {
     matches!(write_retrying(&mut Interrupted::new(), TEXT), Ok(5))
 }
@@ -119,7 +119,7 @@ fn source(alloc: Global, piece: usize, failing: &[u64]) -> Result<MemorySource, 
     Ok(MemorySource::new(bytes, piece, failing))
 }
 
-// The piece, the reads that fail, the limit, and the answer.
+// The piece, the reads that fail, the limit, and the result.
 type Reading = (usize, &'static [u64], usize, Result<usize, ReadFault>);
 
 const READINGS: &[Reading] = &[
@@ -133,7 +133,7 @@ const READINGS: &[Reading] = &[
     (5, &[6, 0], 17, Ok(17)),
 ];
 
-// Whether this is the answer to a reading of the text.
+// Returns whether this is the result of reading the text.
 fn answers<S: Source>(
     alloc: Global,
     source: &mut S,
@@ -157,7 +157,7 @@ fn is_read(alloc: Global, reading: &Reading) -> Result<bool, Fail> {
     Ok(answers(alloc, &mut source, limit, want))
 }
 
-// Whether each reading gives its answer.
+// Returns whether each reading has its result.
 fn each_is_read(alloc: Global) -> Result<bool, Fail> {
     for reading in READINGS {
         if !is_read(alloc, reading)? {
@@ -182,7 +182,7 @@ fn interrupted_is_read(alloc: Global) -> bool {
     answers(alloc, &mut interrupted, 17, Ok(17))
 }
 
-// Whether the second write alone fails, and leaves what was written before it.
+// Returns whether only the second write fails, and leaves what was written before it.
 fn second_write_fails(alloc: Global) -> Result<bool, Fail> {
     let mut sink = MemorySink::new(alloc, Vec::from_slice(alloc, &[2u64])?);
     let first = write_all(&mut sink, TEXT);
@@ -201,7 +201,7 @@ fn vec_is_written(alloc: Global) -> bool {
     write_all(&mut outside, TEXT) == Ok(())
 }
 
-// Whether a sink of five bytes takes two of them, and then not all of the text.
+// Returns whether a sink of five bytes takes two of them, and then not all of the text.
 fn small_fails() -> bool {
     let mut small = StdSink::new(Small { room: 5 });
     small.write(TEXT) == Ok(2) && write_all(&mut small, TEXT) == Err(Failed)

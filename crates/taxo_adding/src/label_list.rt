@@ -6,7 +6,7 @@ use facet_names::Path;
 use std::marker::Model;
 use taxo_list::Taxonomy;
 
-/// The value of the labels chronicle: it stands for its labels after the root, in order.
+/// The value of the labels chronicle. It represents its labels after the root, in order.
 #[derive(Drop)]
 pub struct LabelList {
     list: Taxonomy,
@@ -37,7 +37,7 @@ impl Standing for LabelList {
 }
 
 impl LabelList {
-    /// The list as it is, which stands for what a chronicle that is opened with it begins with.
+    /// Makes it of a list. A chronicle that is opened with it begins with the labels of the list. It allocates nothing.
     pub fn new(list: Taxonomy) -> LabelList
         requires list { IsLabelList list }
         ensures list { result ≡ list }
@@ -45,7 +45,7 @@ impl LabelList {
         LabelList { list }
     }
 
-    /// The list again.
+    /// Returns the list.
     pub fn into_list(self) -> Taxonomy
         ensures same { result ≡ self }
         ensures list { IsLabelList self }

@@ -1,5 +1,5 @@
-//! Adding labels for the holder of their lock: the labels chronicle's value, and paths to ordinals, where each missing prefix of a path is added and entered
-//! into the chronicle.
+//! Adding labels for the holder of their lock: the value of the labels chronicle, and resolving paths to ordinals,
+//! where each missing prefix of a path is added and entered into the chronicle.
 #![tactic(auto)]
 
 mod label_list;

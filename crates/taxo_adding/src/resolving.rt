@@ -15,7 +15,8 @@ use facet_names::Path;
 use std::alloc::Global;
 use taxo_list::{Labelled, TaxoFault, Taxonomy};
 
-// The ordinal of the parent of a path's prefix, whose ordinals of shorter ones these are: that of the one before it, and the root's before the first.
+// Returns the ordinal of the parent of a path's prefix, given the ordinals of the shorter ones: the last of these, or
+// the root's.
 fn parent_of(ords: &[u32], n: usize) -> u32
     requires { n ≤ length ords.now }
     ensures first { n ≡ 0 → result ≡ 0 }
@@ -24,7 +25,8 @@ fn parent_of(ords: &[u32], n: usize) -> u32
     if n == 0 { 0 } else { ords[n - 1] }
 }
 
-// In the holder's turn: the ordinal of a path, which is added and entered where it is not there, under the parent at an ordinal.
+// Returns the ordinal of a path, under the parent at an ordinal. It adds and enters the path if it is missing. The
+// caller holds the lock of the labels.
 fn add_label(
     labels: &Chronicle<LabelList>,
     token: &mut Token<Path>,
@@ -61,8 +63,11 @@ fn add_label(
     }
 }
 
-/// In the holder's turn: the ordinals of the path's prefixes behind those that have theirs already, the shortest first. Each is added where it is not there.
-/// Those that were added before a refusal stay.
+/// Appends to `ords` the ordinals of the path's prefixes after those that it has, the shortest first. It adds and
+/// enters each missing prefix. The caller holds the lock of the labels.
+///
+/// Errors: `LabelsFull` if the list has `limit` labels and a prefix is missing; out of memory. Prefixes that were added
+/// before stay.
 pub fn add_each(
     alloc: Global,
     labels: &Chronicle<LabelList>,
@@ -97,7 +102,7 @@ pub fn add_each(
     Ok(())
 }
 
-// In the holder's turn: the ordinals of all prefixes of a path, of which the first were found before.
+// Returns the ordinals of all prefixes of a path. `found` has the first of them.
 fn add_behind(
     alloc: Global,
     labels: &Chronicle<LabelList>,
@@ -128,8 +133,12 @@ fn add_behind(
     }
 }
 
-/// In the holder's turn: the ordinals of all prefixes of each path, path by path, of which the first were found before. They are put into `resolved`, which
-/// has room for them.
+/// Returns the ordinals of all prefixes of each path, path by path. `found` has the first of them for each path. It
+/// adds and enters each missing prefix. `resolved` is empty, with capacity for the result. The caller holds the lock of
+/// the labels.
+///
+/// Errors: `LabelsFull` if the list has `limit` labels and a prefix is missing; out of memory. Prefixes that were added
+/// before stay.
 pub fn add_behind_each(
     alloc: Global,
     labels: &Chronicle<LabelList>,

@@ -1,4 +1,4 @@
--- What a memo of paths has, and what its type says of that.
+-- The contents of a memo of paths, and its invariant.
 use Rattle.std.specs.Prelude.{◌≡◌, ℕ, true, false, List, Contains, map, Some}
 use Rattle.atomic_table.specs.Seated.{TableId}
 use Rattle.chronicle.specs.Shown.{Shown}
@@ -9,17 +9,18 @@ use Rattle.taxo_cache.specs.Seen.{labels_of, SeesLabels}
 abbrev pub HasOrdinals : List (List (List ℕ)) → List (List ℕ) → List ℕ → Type 0
 HasOrdinals labels path ords = map (place labels) (prefixes path) ≡ map Some ords
 
--- the entries, the one used last first, how many there may be, and what its note has seen of the labels
+-- the entries, the most recent one first, the capacity, and what its note has seen of the labels
 pub record Noted : Type 0 where
   pub entries : List (List (List ℕ) × List ℕ)
   pub room : ℕ
   pub seen : List (ℕ × List (List ℕ))
 
--- beside each entry's path stand the ordinals of its prefixes
+-- each entry's path has the ordinals of its prefixes
 abbrev pub HaveEach : List (List (List ℕ)) → List (List (List ℕ) × List ℕ) → Type 0
 HaveEach labels entries = (e : List (List ℕ) × List ℕ) → Contains entries e → HasOrdinals labels e.0 e.1
 
--- The note is of this chronicle of labels. What it has seen is a label list, in which the prefixes of the entries' paths have these ordinals.
+-- The note is of this chronicle of labels. What it has seen is a label list, in which the prefixes of the entries'
+-- paths have these ordinals.
 pub record IsMemo (labels : TableId) (note : Shown (List (List ℕ))) (entries : List (List (List ℕ) × List ℕ)) : Type 0 where
   pub named : note.identity ≡ labels
   pub is_note : note.is_note ≡ true

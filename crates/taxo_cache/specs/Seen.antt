@@ -13,7 +13,7 @@ labels_of seen = [] ∷ entries seen
 abbrev pub SeesLabels : Shown (List (List ℕ)) → Type 0
 SeesLabels token = IsLabelList (labels_of token.seen)
 
--- a path that has an ordinal has it in all that is seen later
+-- a path that has an ordinal keeps it in all that is seen later
 abbrev pub OrdinalsStay : Type 0
 OrdinalsStay = (old new : List (ℕ × List (List ℕ))) (path : List (List ℕ)) (ord : ℕ) → IsPrefix old new
     → place (labels_of old) path ≡ Some ord → place (labels_of new) path ≡ Some ord

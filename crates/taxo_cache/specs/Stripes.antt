@@ -1,4 +1,4 @@
--- What a stripe of the cache has, and what its type says of that.
+-- The contents of a stripe of the cache, and its invariant.
 use Rattle.std.specs.Prelude.{◌≡◌, ◌<◌, ◌≤◌, ℕ, true, false, List, Contains, length, Option, Some, None}
 use Rattle.atomic_table.specs.Seated.{TableId}
 use Rattle.chronicle.specs.Shown.{Shown}
@@ -7,18 +7,19 @@ use Rattle.taxo_cache.specs.Seen.{labels_of, SeesLabels}
 use Rattle.taxo_cache.specs.declared.looked.Looked.{Looked}
 use Rattle.taxo_cache.specs.declared.looked.Looked.TheVariants.{Hit, Miss}
 
--- the entries, the one used last first, how many there may be, and what its note has seen of the labels
+-- the entries, the most recent one first, the capacity, and what its note has seen of the labels
 pub record Striped : Type 0 where
   pub entries : List (List (List ℕ) × ℕ)
   pub room : ℕ
   pub seen : List (ℕ × List (List ℕ))
 
--- each entry's path stands in the labels at its ordinal
+-- each entry's path is in the labels at its ordinal
 abbrev pub AreAt : List (List (List ℕ)) → List (List (List ℕ) × ℕ) → Type 0
 AreAt labels entries = (e : List (List ℕ) × ℕ) → Contains entries e → place labels e.0 ≡ Some e.1
 
--- The note is of this chronicle of labels. What it has seen is a label list, in which the entries' paths stand, each at its ordinal. There are no more
--- entries than there is room for.
+-- The note is of this chronicle of labels. What it has seen is a label list, which has the entries' paths, each at its
+-- ordinal.
+-- There are no more entries than the capacity.
 pub record IsStripe (labels : TableId) (note : Shown (List (List ℕ))) (entries : List (List (List ℕ) × ℕ)) (room : ℕ) : Type 0 where
   pub named : note.identity ≡ labels
   pub is_note : note.is_note ≡ true
@@ -28,7 +29,7 @@ pub record IsStripe (labels : TableId) (note : Shown (List (List ℕ))) (entries
   pub some : 0 < room
   pub few : length entries ≤ room
 
--- what a look answers where this was found
+-- the result of a look-up that found this
 abbrev pub looked : Option ℕ → Looked
 looked (Some ord) = Hit ord
 looked None = Miss

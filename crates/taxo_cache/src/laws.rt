@@ -1,6 +1,6 @@
 ghost use Rattle.taxo_cache.specs.Seen.{OrdinalsStay};
 
-/// A path that has an ordinal in what was seen of the labels has it in all that is seen later.
+/// States that a path that has an ordinal in a prefix of the labels keeps it in all later labels.
 pub fn ordinals_stay()
     ensures { OrdinalsStay }
 {}

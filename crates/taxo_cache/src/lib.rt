@@ -1,5 +1,6 @@
-//! A cache from paths to their ordinals in the list of labels that a chronicle keeps, as the label cache of Lucene's `DirectoryTaxonomyWriter`. It has
-//! stripes, each behind a lock of its own, and a path's hash tells its stripe. A hit answers without the turn of the chronicle.
+//! A cache from paths to their ordinals in the labels of a chronicle, as the label cache of Lucene's
+//! `DirectoryTaxonomyWriter`. It has stripes, each under its own lock, and a path's hash chooses its stripe. A hit
+//! needs no lock of the chronicle.
 #![tactic(auto)]
 
 mod laws;

@@ -17,12 +17,13 @@ use std::alloc::Global;
 use std::marker::{Model, PhantomData};
 use std::num::NonZeroUsize;
 
-// Of so many paths that are offered one is kept. What is used often is kept soon, and what is used once seldom drives another out.
+// One of so many offered paths is stored. A path that is used often is stored soon, and one that is used once seldom
+// evicts another.
 const OFFERED: u32 = 8;
 
-/// The ordinals of the prefixes of some paths, those that were used last, with a note of the labels in which they have them.
+/// An LRU cache of the ordinals of the prefixes of some paths, with a note of the labels in which they have them.
 ///
-/// Contracts see its entries, the one used last first, how many there may be, and what the note has seen.
+/// Contracts see its entries, the most recent one first, its capacity, and what the note has seen.
 #[derive(Drop)]
 pub(crate) struct Memo<N: Name> {
     alloc: Global,
@@ -51,7 +52,7 @@ fn copied(alloc: Global, ords: &[u32]) -> Result<Vec<u32>, NoMemory>
 }
 
 impl<N: Name> Memo<N> {
-    // A memo with room for so many entries, and none. It takes memory with each of them.
+    // Returns an empty memo with a capacity of `room` entries. It allocates memory with each entry.
     pub(crate) fn new<V: Standing<Entry = Path>>(
         alloc: Global,
         labels: &Chronicle<V>,
@@ -74,7 +75,7 @@ impl<N: Name> Memo<N> {
         })
     }
 
-    // A copy of the ordinals of the path's entry, which comes to the front; None where it has none.
+    // Returns a copy of the ordinals of the path's entry, which becomes the most recent one, or `None`.
     pub(crate) fn find(&mut self, path: &Path) -> Result<Option<Vec<u32>>, NoMemory>
         ensures found { IfOk result (λ o. option_map (λ v. v.items) o ≡ lookup (path_eq path.now) self.old.entries) }
         ensures there { IfOk result (λ o. IfSome o (λ v. HasOrdinals (labels_of self.old.seen) path.now v.items)) }
@@ -88,7 +89,7 @@ impl<N: Name> Memo<N> {
         Ok(Some(copy))
     }
 
-    // Keeps the ordinals of a path's prefixes, as the first entry. The last goes where there would be more than there is room for.
+    // Stores the ordinals of a path's prefixes as the most recent entry. It evicts the oldest one if the memo is full.
     pub(crate) fn keep<V: Standing<Entry = Path>>(
         &mut self,
         labels: &Chronicle<V>,
@@ -113,7 +114,7 @@ impl<N: Name> Memo<N> {
         Ok(())
     }
 
-    // Finds the path, and where it has an entry tells the token what the note has seen.
+    // Finds the path. If it has an entry, the token sees what the note has seen.
     pub(crate) fn look<V: Standing<Entry = Path>>(
         &mut self,
         labels: &Chronicle<V>,
@@ -135,7 +136,7 @@ impl<N: Name> Memo<N> {
         Ok(Some(ords))
     }
 
-    // Keeps every eighth path that it is offered.
+    // Stores every eighth path that it is offered.
     pub(crate) fn offer<V: Standing<Entry = Path>>(
         &mut self,
         labels: &Chronicle<V>,

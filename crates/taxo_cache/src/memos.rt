@@ -11,11 +11,13 @@ use std::alloc::Global;
 use std::marker::Model;
 use std::sync::{Mutex, Wait};
 
-/// Memos of paths, each behind a lock of its own. A token's number tells its memo, so sessions seldom wait for one another, and what a session uses stays
-/// with its processor. A path's entry has the ordinals of all its prefixes. Contracts see how many memos there are.
+/// LRU caches of paths, called memos, each under its own lock. A token's number chooses its memo, so sessions seldom
+/// wait for one another, and the entries of a session stay in the cache of its processor. A path's entry has the
+/// ordinals of all its prefixes. Contracts see how many memos there are.
 ///
-/// A call locks one memo for as long as it takes to find or to keep one path, and takes no turn of the chronicle. The hash has a fixed seed, so paths can be
-/// picked that collide: a look-up then compares at worst all paths of a memo, of which there are few.
+/// A call holds the lock of one memo while it finds or stores one path. It needs no lock of the chronicle. The hash has
+/// a fixed seed, so somebody who chooses the paths can make them collide. Then a look-up compares at worst all paths of
+/// a memo, which are few.
 #[derive(Drop)]
 pub struct Memos<N: Name> {
     memos: Vec<Mutex<Memo<N>>>,
@@ -33,7 +35,8 @@ impl<N: Name> Model for Memos<N> {
 }
 
 impl<N: Name> Memos<N> {
-    /// So many memos, each with room for so many paths, and with none. They take memory for an entry as it is kept, and none for one that may come.
+    /// Makes `memos` empty memos with a capacity of `room` paths each. It allocates memory for each entry when that is
+    /// stored. Errors: out of memory.
     pub fn new<V: Standing<Entry = Path>>(
         alloc: Global,
         labels: &Chronicle<V>,
@@ -55,14 +58,16 @@ impl<N: Name> Memos<N> {
         Ok(Memos { memos: all })
     }
 
-    // The memo of a token's number.
+    // Returns the memo of a token's number.
     fn memo_of(&self, number: u64) -> &Mutex<Memo<N>> {
         let at = number as usize % self.memos.len();
         &self.memos[at]
     }
 
-    /// The ordinals of the path's prefixes, where the token's memo has them; the token has then seen all that the memo's note has. It waits for the memo's
-    /// lock, takes memory for the ordinals alone, and no turn.
+    /// Returns the ordinals of the path's prefixes if the token's memo has them, and `None` otherwise. On a hit the
+    /// token has then seen everything that the memo's note has.
+    ///
+    /// Locks: that of the memo. It allocates only the ordinals. Errors: out of memory.
     pub fn look<V: Standing<Entry = Path>, R: Wait>(
         &self,
         rt: &R,
@@ -81,8 +86,9 @@ impl<N: Name> Memos<N> {
         self.memo_of(number).lock(rt).look(labels, token, path)
     }
 
-    /// Offers the ordinals of a path's prefixes to the token's memo, which keeps every eighth path that it is offered. It waits for the memo's lock, and
-    /// without memory the memo's entries stay.
+    /// Offers the ordinals of a path's prefixes to the token's memo, which stores every eighth path that it is offered.
+    ///
+    /// Locks: that of the memo. If it runs out of memory, the entries of the memo stay.
     pub fn offer<V: Standing<Entry = Path>, R: Wait>(
         &self,
         rt: &R,

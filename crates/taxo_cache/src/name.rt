@@ -1,7 +1,8 @@
 use std::marker::Brand;
 
-/// Which chronicle of labels. What stands behind a plain lock shows no identity, so such a type ties it to its chronicle: whoever has opened the
-/// chronicle calls a function over any name, and picks for it the chronicle's identity. It costs nothing when the program runs.
+/// Identifies a chronicle of labels by a type. A value under a plain lock shows no identity, so this type ties it to
+/// its chronicle. The opener of the chronicle calls a function that is generic over the name, and chooses the
+/// chronicle's identity for it. It has no cost at run time.
 pub trait Name {
     ghost use Rattle.atomic_table.specs.Seated.{TableId};
 

@@ -20,9 +20,9 @@ use std::hash::RandomState;
 use std::marker::{Model, PhantomData};
 use std::num::NonZeroUsize;
 
-/// Ordinals of some labels, those that were used last, with a note of the labels in which each of them stands.
+/// An LRU cache of the ordinals of some labels, with a note of the labels in which they have them.
 ///
-/// Contracts see its entries, the one used last first, how many there may be, and what the note has seen.
+/// Contracts see its entries, the most recent one first, its capacity, and what the note has seen.
 #[derive(Drop)]
 pub struct Stripe<N: Name> {
     alloc: Global,
@@ -42,7 +42,7 @@ impl<N: Name> Model for Stripe<N> {
 }
 
 impl<N: Name> Stripe<N> {
-    // A stripe with room for so many entries, and none. It takes memory with each of them.
+    // Returns an empty stripe with a capacity of `room` entries. It allocates memory with each entry.
     pub(crate) fn new<V: Standing<Entry = Path>>(
         alloc: Global,
         keys: RandomState,
@@ -56,7 +56,7 @@ impl<N: Name> Stripe<N> {
         ensures token { token.new ≡ token.old }
         ensures empty { IfOk result (λ s. s ≡ record { entries = []; room = room; seen = token.old.seen }) }
     {
-        // Room for one entry is reserved, and for none that may come.
+        // Memory for one entry is reserved, so that an unused capacity costs nothing.
         let mut cache = LruCache::with_hasher(alloc, NonZeroUsize::MIN, keys)?;
         cache.resize(NonZeroUsize::new(room as usize).unwrap());
         Ok(Stripe {
@@ -67,7 +67,7 @@ impl<N: Name> Stripe<N> {
         })
     }
 
-    /// The ordinal of the stripe's entry for the path, which comes to the front; None where it has none. It takes no memory.
+    /// Returns the ordinal of the path's entry, which becomes the most recent one, or `None`. It allocates nothing.
     pub fn find(&mut self, path: &Path) -> Option<u32>
         ensures found { result ≡ lookup (path_eq path.now) self.old.entries }
         ensures there { IfSome result (λ ord. place (labels_of self.old.seen) path.now ≡ Some ord) }
@@ -77,8 +77,10 @@ impl<N: Name> Stripe<N> {
         self.cache.get(path).copied()
     }
 
-    /// Keeps the ordinal of a path, as the first entry. The others follow in their order, without an older one of the path, and the last goes where
-    /// there would be more than there is room for. It takes memory for a copy of the path, and without it the stripe is as before.
+    /// Stores the ordinal of a path as the most recent entry, in place of an older one of the path. It evicts the
+    /// oldest entry if the stripe is full. It copies the path.
+    ///
+    /// Errors: out of memory; then the stripe is as before.
     pub fn keep<V: Standing<Entry = Path>>(
         &mut self,
         labels: &Chronicle<V>,
@@ -102,7 +104,7 @@ impl<N: Name> Stripe<N> {
         Ok(())
     }
 
-    /// Finds the path, and where it has an entry tells the token what the note has seen.
+    /// Looks the path up. On a hit the token has then seen what the note has seen. It allocates nothing.
     pub fn look<V: Standing<Entry = Path>>(
         &mut self,
         labels: &Chronicle<V>,

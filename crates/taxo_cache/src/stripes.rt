@@ -14,9 +14,10 @@ use std::hash::{BuildHasher, RandomState};
 use std::marker::Model;
 use std::sync::{Mutex, Wait};
 
-/// The ordinals of labels, by stripes, each behind a lock of its own. A path's hash, which whoever picks the paths cannot foresee, tells its stripe. Contracts see how many stripes there are.
+/// The ordinals of labels in stripes, each under its own lock. A path's hash chooses its stripe; its keys are random,
+/// so nobody who chooses paths can foresee it. Contracts see how many stripes there are.
 ///
-/// A call locks one stripe for as long as it takes to find or to keep one path, and takes no turn of the chronicle.
+/// A call holds the lock of one stripe while it finds or stores one path. It needs no lock of the chronicle.
 #[derive(Drop)]
 pub struct Stripes<N: Name> {
     keys: RandomState,
@@ -35,7 +36,8 @@ impl<N: Name> Model for Stripes<N> {
 }
 
 impl<N: Name> Stripes<N> {
-    /// So many stripes, each with room for `cache` entries, and with none. They take memory for an entry as it is kept, and none for one that may come.
+    /// Makes `stripes` empty stripes with a capacity of `cache` entries each. It allocates memory for each entry when
+    /// that is stored. Errors: out of memory.
     pub fn new<V: Standing<Entry = Path>>(
         alloc: Global,
         keys: RandomState,
@@ -58,15 +60,17 @@ impl<N: Name> Stripes<N> {
         Ok(Stripes { keys, stripes: all })
     }
 
-    // A path's stripe, by the upper half of its hash, since the map inside a stripe goes by the lower bits.
+    // Returns a path's stripe, by the upper half of its hash, since the map in a stripe uses the lower bits.
     fn stripe_of(&self, path: &Path) -> &Mutex<Stripe<N>> {
         let hash = self.keys.hash_one(path);
         let at = (hash >> 32) as usize % self.stripes.len();
         &self.stripes[at]
     }
 
-    /// The path's ordinal, where its stripe has it; the token has then seen all that the stripe's note has. It waits for the stripe's lock, and takes no
-    /// memory and no turn.
+    /// Looks up the path's ordinal in its stripe. On a hit the token has then seen everything that the stripe's note
+    /// has.
+    ///
+    /// Locks: that of the stripe. It allocates nothing.
     pub fn look<V: Standing<Entry = Path>, R: Wait>(
         &self,
         rt: &R,
@@ -85,7 +89,9 @@ impl<N: Name> Stripes<N> {
         self.stripe_of(path).lock(rt).look(labels, token, path)
     }
 
-    /// Keeps the ordinal of a path in its stripe, for whoever looks next. It waits for the stripe's lock, and without memory the stripe's entries stay.
+    /// Stores the ordinal of a path in its stripe, for later look-ups.
+    ///
+    /// Locks: that of the stripe. If it runs out of memory, the entries of the stripe stay.
     pub fn remember<V: Standing<Entry = Path>, R: Wait>(
         &self,
         rt: &R,

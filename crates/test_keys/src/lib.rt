@@ -1,11 +1,11 @@
-//! Keys for hashing that are the same at each run, for tests and measurements. The program draws its keys at random.
+//! Fixed hash keys, for tests and measurements. The program draws its keys at random.
 #![tactic(auto)]
 
 use std::hash::RandomState;
 use std::io;
 use std::random::RandomSource;
 
-// Every byte is zero.
+// Returns zeros in place of random bytes.
 struct Zeros;
 
 impl RandomSource for Zeros {
@@ -15,7 +15,7 @@ impl RandomSource for Zeros {
     }
 }
 
-/// Returns keys that are the same at each run. It does not fail, since no random numbers are read.
+/// Returns the same hash keys in each process. It does not fail, since it reads no random numbers.
 pub fn fixed_keys() -> io::Result<RandomState> {
     RandomState::new(&Zeros)
 }
