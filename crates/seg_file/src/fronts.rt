@@ -1,4 +1,4 @@
-//! Readers of what is known to stand at the front. None of them can meet a fault.
+//! Readers of values that are known to be at the beginning of bytes. None of them can fail.
 
 ghost use Rattle.std.specs.Prelude.{◌≡◌, ◌≤◌, List, ℕ, drop, length};
 ghost use Rattle.seg_file.specs.Fronts.{BeginsText, BeginsList, BeginsPlaces};
@@ -6,7 +6,7 @@ ghost use Rattle.seg_file.specs.Fronts.{BeginsText, BeginsList, BeginsPlaces};
 use facet_codec::Cursor;
 use seg_postings::{Ords, Postings};
 
-/// A cursor at a place of the bytes.
+/// Returns a cursor at a place of the bytes.
 pub(crate) fn cursor_at(bytes: &[u8], at: usize) -> Cursor<'_>
     requires { at ≤ length bytes.now }
     ensures { result.rest ≡ drop at bytes.now }
@@ -15,7 +15,7 @@ pub(crate) fn cursor_at(bytes: &[u8], at: usize) -> Cursor<'_>
     Cursor::new(rest)
 }
 
-/// The text at the front, which the cursor passes. Its bytes are known to be UTF-8, and are not looked at.
+/// Reads a text. Its bytes are known to be UTF-8, and are not checked.
 pub(crate) fn text_front<'a>(cursor: &mut Cursor<'a>) -> &'a str
     requires { (t : List ℕ) × (tail : List ℕ) × BeginsText cursor.old.rest t tail }
     ensures { (t tail : List ℕ) → BeginsText cursor.old.rest t tail → (result.now ≡ t) × (cursor.new.rest ≡ tail) }
@@ -29,7 +29,7 @@ pub(crate) fn text_front<'a>(cursor: &mut Cursor<'a>) -> &'a str
     unsafe { str::from_utf8_unchecked(bytes) }
 }
 
-/// The numbers at the front.
+/// Reads a list of numbers.
 pub(crate) fn list_front<'a>(cursor: &mut Cursor<'a>) -> Ords<'a>
     requires { (ns : List ℕ) × (tail : List ℕ) × BeginsList cursor.old.rest ns tail }
     ensures { (ns tail : List ℕ) → BeginsList cursor.old.rest ns tail → result ≡ ns }
@@ -43,7 +43,7 @@ pub(crate) fn list_front<'a>(cursor: &mut Cursor<'a>) -> Ords<'a>
     Ords::new(bytes)
 }
 
-/// The places at the front.
+/// Reads a list of places.
 pub(crate) fn places_front<'a>(cursor: &mut Cursor<'a>) -> Postings<'a>
     requires { (places : List ℕ) × (tail : List ℕ) × BeginsPlaces cursor.old.rest places tail }
     ensures { (places tail : List ℕ) → BeginsPlaces cursor.old.rest places tail → result ≡ places }

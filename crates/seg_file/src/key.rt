@@ -1,4 +1,4 @@
-//! What is looked for among the terms of a segment.
+//! Look-up keys for the terms of a segment.
 ghost use Rattle.std.specs.Prelude.{◌≡◌};
 ghost use Rattle.std.specs.Ordering.{nat_cmp};
 ghost use Rattle.std.specs.Cmp.Lexicographic.{slice_cmp};
@@ -6,7 +6,7 @@ ghost use Rattle.seg_file.specs.Search.{text_of};
 
 use std::cmp::Ordering;
 
-/// A term that is looked for.
+/// A term to look up.
 #[derive(Drop)]
 pub(crate) enum Key<'k> {
     /// The term of this text.
@@ -16,7 +16,7 @@ pub(crate) enum Key<'k> {
 }
 
 impl<'k> Key<'k> {
-    /// How a text stands to the term that is looked for. It takes no memory.
+    /// Compares a text with the term. It allocates nothing.
     pub(crate) fn order(&self, text: &str) -> Ordering
         ensures { result ≡ slice_cmp nat_cmp text.now (text_of self.now) }
     {

@@ -1,4 +1,4 @@
-//! Stored segments: documents and their terms as bytes, format 1, which are read where they stand, as Lucene's segments are.
+//! Stored segments: documents and their terms as bytes, format 1, which are read in place, as Lucene's segments are.
 #![tactic(auto)]
 
 mod fronts;

@@ -1,11 +1,11 @@
-ghost use Rattle.std.specs.Prelude.{◌≡◌, ◌≤◌, ◌<◌, ◌||◌, ◌++◌, not, codes, false, ℕ, List, map, length, IfOk, IfErr, MatchResult, None};
-ghost use Rattle.std.specs.List.{AllByRecursion};
+ghost use Rattle.std.specs.Prelude.{◌≡◌, ◌≤◌, ◌<◌, ◌||◌, ◌-◌, ◌++◌, not, codes, false, ℕ, List, map, length, take, drop, IfOk, IfErr, MatchResult, None};
+ghost use Rattle.std.specs.List.{flat_map, AllByRecursion};
 ghost use Rattle.facet_codec.specs.Laws.{IsBelow};
 ghost use Rattle.seg_postings.specs.Rising.{IsRising};
 ghost use Rattle.facet_model.specs.Stored.{Records, is_dead, live_before};
 ghost use Rattle.seg_terms.specs.Entries.{segment_of};
 ghost use Rattle.seg_grammar.specs.declared.fault.SegFault.TheVariants.{NoMemory as Memory};
-ghost use Rattle.seg_grammar.specs.Spelling.{IsRecord, IsSegment, all_live, seg_bytes, TermsRise};
+ghost use Rattle.seg_grammar.specs.Spelling.{IsRecord, IsSegment, all_live, record_bytes, seg_bytes, TermsRise};
 ghost use Rattle.seg_grammar.specs.Reading.{Fails, segment_at};
 ghost use Rattle.seg_grammar.specs.Lookups.{record_of, places_of_term};
 ghost use Rattle.seg_file.specs.Search.{term_of, IsFirstFrom};
@@ -23,10 +23,11 @@ use std::hash::RandomState;
 use std::marker::Model;
 use std::sync::Arc;
 
-/// Documents and their terms, as bytes that are read where they stand. Beside the bytes it keeps where their parts begin, 16 bytes a document and 8 a
-/// term, and a column of the counted ordinals: a map of a bit a document for each ordinal that at least one document in 64 has, at most 64 for each
-/// counted ordinal of a document, so 4.5 to 5 bytes a document where documents share their labels, and 4 bytes for each other counted ordinal. Records are
-/// live until they are left out, which keeps 4 bytes for each. No reader copies or takes memory.
+/// Documents and their terms, as bytes that are read in place. No reader copies or allocates.
+///
+/// Memory: the bytes; where their parts begin, 16 bytes per document and 8 per term; and the [`Column`] of the counted
+/// ordinals, 4.5 to 5 bytes per document if documents share their labels. Records are live until they are left out,
+/// which takes 4 bytes each.
 #[derive(Drop)]
 pub struct Segment {
     stored: Arc<SegmentBytes>,
@@ -46,7 +47,7 @@ impl Model for Segment {
     ghost invariant = { λ s. IsKept (arc_value s.stored) (arc_value s.column) s.live };
 }
 
-// The counted ordinals of each document, as a column. In between it takes 16 bytes a document.
+// Returns the counted ordinals of each document, as a column. While it works it takes 16 bytes per document.
 fn column_of(alloc: Global, stored: &SegmentBytes) -> Result<Column, AllocError>
     ensures { IfOk result (λ c. c ≡ map (λ r. r.counted) stored.now.records) }
 {
@@ -58,7 +59,7 @@ fn column_of(alloc: Global, stored: &SegmentBytes) -> Result<Column, AllocError>
     Column::of(alloc, &lists)
 }
 
-// A segment whose records are all live.
+// Returns a segment whose records are all live.
 fn of_stored(alloc: Global, stored: SegmentBytes) -> Result<Segment, AllocError>
     ensures { IfOk result (λ s. s ≡ stored) }
 {
@@ -72,9 +73,13 @@ fn of_stored(alloc: Global, stored: SegmentBytes) -> Result<Segment, AllocError>
 }
 
 impl Segment {
-    /// The segment of documents and their terms: the records in their order, and each term once. It takes memory for the bytes, and in between for the
-    /// terms with their places. Beside a refused allocation it answers that there is no memory where there would be 2^32 terms or more, which the format
-    /// cannot number, or 2^32 counted ordinals without a map, which the column cannot.
+    /// Makes the segment of documents and their terms: the records in order, and each term once. `keys` are hash keys;
+    /// no result depends on them.
+    ///
+    /// It allocates the bytes, the index and the column, and while it works the terms with their places.
+    ///
+    /// Errors: out of memory, also for 2^32 terms or more, which the format cannot number, or 2^32 counted ordinals
+    /// without a bit map, which the column cannot.
     pub fn build(alloc: Global, keys: RandomState, entries: &[Entry]) -> Result<Segment, NoMemory>
         requires some { 0 < length entries.now }
         requires few { length entries.now ≤ 1000000 }
@@ -84,8 +89,11 @@ impl Segment {
         Ok(of_stored(alloc, stored)?)
     }
 
-    /// The segment that the bytes are. They are checked in one pass from left to right, and kept; the column goes twice more over the counted ordinals.
-    /// Beside a refused allocation there is no memory for 2^32 counted ordinals without a map, which the column cannot number.
+    /// Opens the segment in these bytes, and keeps them. It checks them in one pass from left to right. The column
+    /// needs two more passes over the counted ordinals.
+    ///
+    /// Errors: the first fault of the bytes; out of memory, also for 2^32 counted ordinals without a bit map, which the
+    /// column cannot number.
     pub fn open(alloc: Global, bytes: Vec<u8>) -> Result<Segment, SegFault>
         ensures found { IfOk result (λ s. IsSegment bytes.items s) }
         ensures only { (r : Records) → IsSegment bytes.items r → MatchResult result (λ s. s ≡ r) (λ e. e ≡ Memory) }
@@ -95,7 +103,7 @@ impl Segment {
         Ok(of_stored(alloc, stored)?)
     }
 
-    /// The bytes.
+    /// Returns the bytes.
     pub fn bytes(&self) -> &[u8]
         ensures bytes { result.now ≡ seg_bytes self.now }
         ensures is { IsSegment (seg_bytes self.now) (all_live self.now) }
@@ -103,7 +111,7 @@ impl Segment {
         self.stored.bytes()
     }
 
-    /// How many documents there are, 1 to 1,000,000.
+    /// Returns how many documents there are, 1 to 1,000,000.
     pub fn docs(&self) -> u32
         ensures number { result ≡ length self.now.records }
         ensures is { IsSegment (seg_bytes self.now) (all_live self.now) }
@@ -111,7 +119,7 @@ impl Segment {
         self.stored.docs()
     }
 
-    /// The id of a document.
+    /// Returns the id of a document.
     pub fn id(&self, doc: u32) -> &str
         requires { doc < length self.now.records }
         ensures id { result.now ≡ (record_of self.now doc).id }
@@ -120,7 +128,7 @@ impl Segment {
         self.stored.id(doc)
     }
 
-    /// The text of a document.
+    /// Returns the text of a document.
     pub fn text(&self, doc: u32) -> &str
         requires { doc < length self.now.records }
         ensures { result.now ≡ (record_of self.now doc).text }
@@ -128,7 +136,7 @@ impl Segment {
         self.stored.text(doc)
     }
 
-    /// The ordinals of a document's labels, in the order given.
+    /// Returns the ordinals of a document's labels, in the order given.
     pub fn leaves(&self, doc: u32) -> Ords<'_>
         requires { doc < length self.now.records }
         ensures { result ≡ (record_of self.now doc).leaves }
@@ -136,7 +144,7 @@ impl Segment {
         self.stored.leaves(doc)
     }
 
-    /// The ordinals that are counted for a document, rising, at most 8,192. It goes straight to them.
+    /// Returns the ordinals that are counted for a document, rising, at most 8,192, in constant time.
     pub fn counted(&self, doc: u32) -> Ords<'_>
         requires { doc < length self.now.records }
         ensures { result ≡ (record_of self.now doc).counted }
@@ -144,22 +152,45 @@ impl Segment {
         self.stored.counted(doc)
     }
 
-    /// The documents that have a term, rising, or None exactly where there is no such term. It bisects, so it looks at about the logarithm of the number
-    /// of terms.
+    /// Returns the bytes of a record: its id, its text, its leaves and its counted ordinals, as format 1 writes them.
+    /// It takes constant time.
+    pub fn record_bytes(&self, doc: u32) -> &[u8]
+        requires { doc < length self.now.records }
+        ensures bytes { result.now ≡ record_bytes (record_of self.now doc) }
+        ensures fits { IsRecord (record_of self.now doc) }
+    {
+        let doc = doc as usize;
+        self.stored.record_range(doc, doc + 1)
+    }
+
+    /// Returns the bytes of the records from `from` up to `to`, without that one, each following the one before it. It
+    /// takes constant time.
+    pub fn record_range(&self, from: u32, to: u32) -> &[u8]
+        requires order { from ≤ to }
+        requires within { to ≤ length self.now.records }
+        ensures bytes { result.now ≡ flat_map record_bytes (take (to - from) (drop from self.now.records)) }
+        ensures fit { AllByRecursion IsRecord (take (to - from) (drop from self.now.records)) }
+    {
+        self.stored.record_range(from as usize, to as usize)
+    }
+
+    /// Returns the documents that have a term, rising, or `None` if there is no such term. It takes a binary search
+    /// over the terms.
     pub fn postings(&self, term: &str) -> Option<Postings<'_>>
         ensures { result ≡ places_of_term self.now.terms term.now }
     {
         self.stored.postings(&Key::Text(term))
     }
 
-    /// The documents that have a word, rising, or None exactly where there is no term of it. It takes no memory, and as much time as `postings`.
+    /// Returns the documents that have a word, rising, or `None` if there is no such word. It costs as much as
+    /// [`postings`](Segment::postings).
     pub fn word_postings(&self, word: &str) -> Option<Postings<'_>>
         ensures { result ≡ places_of_term self.now.terms (codes "w" ++ word.now) }
     {
         self.stored.postings(&Key::Word(word))
     }
 
-    /// How many terms there are.
+    /// Returns how many terms there are.
     pub fn terms(&self) -> usize
         ensures number { result ≡ length self.now.terms }
         ensures rise { TermsRise None self.now.terms }
@@ -167,7 +198,7 @@ impl Segment {
         self.stored.terms()
     }
 
-    /// How many terms come before the text. It bisects.
+    /// Returns how many terms are less than the text, by binary search.
     pub fn first_from(&self, text: &str) -> usize
         ensures first { IsFirstFrom text.now self.now.terms result result }
         ensures within { result ≤ length self.now.terms }
@@ -176,7 +207,7 @@ impl Segment {
         self.stored.first_from(&Key::Text(text))
     }
 
-    /// The text of a term.
+    /// Returns the text of a term.
     pub fn term_text(&self, at: usize) -> &str
         requires { at < length self.now.terms }
         ensures { result.now ≡ (term_of self.now.terms at).0 }
@@ -184,7 +215,7 @@ impl Segment {
         self.stored.term_text(at)
     }
 
-    /// The places of a term.
+    /// Returns the places of a term.
     pub fn places(&self, at: usize) -> Postings<'_>
         requires { at < length self.now.terms }
         ensures { result ≡ (term_of self.now.terms at).1 }
@@ -192,21 +223,21 @@ impl Segment {
         self.stored.places(at)
     }
 
-    /// The counted ordinals of all documents.
+    /// Returns the counted ordinals of all documents.
     pub fn column(&self) -> &Column
         ensures { result.now ≡ map (λ r. r.counted) self.now.records }
     {
         &self.column
     }
 
-    /// How many records are live.
+    /// Returns how many records are live.
     pub fn live(&self) -> u32
         ensures { result ≡ live_before self.now.dead (length self.now.records) }
     {
         self.live.number()
     }
 
-    /// Whether a record is live. It bisects.
+    /// Returns whether a record is live, by binary search.
     pub fn is_live(&self, doc: u32) -> bool
         requires { doc < length self.now.records }
         ensures { result ≡ not (is_dead self.now.dead doc) }
@@ -214,7 +245,7 @@ impl Segment {
         self.live.is_live(doc)
     }
 
-    /// How many live records there are before a record. It bisects.
+    /// Returns how many live records there are before a record, by binary search.
     pub fn rank(&self, doc: u32) -> u32
         requires { doc < length self.now.records }
         ensures { result ≡ live_before self.now.dead doc }
@@ -222,7 +253,7 @@ impl Segment {
         self.live.rank(doc)
     }
 
-    /// The live record before which there are so many live ones. It bisects.
+    /// Returns the live record with `rank` live ones before it, by binary search.
     pub fn live_at(&self, rank: u32) -> u32
         requires { rank < live_before self.now.dead (length self.now.records) }
         ensures within { result < length self.now.records }
@@ -232,7 +263,7 @@ impl Segment {
         self.live.place_of(rank)
     }
 
-    /// The records that are not live.
+    /// Returns the records that are not live, rising.
     pub fn dead(&self) -> &[u32]
         ensures dead { result.now ≡ self.now.dead }
         ensures rise { IsRising self.now.dead }
@@ -241,7 +272,8 @@ impl Segment {
         self.live.dead()
     }
 
-    /// The same bytes, and these records are no longer live. The bytes are shared.
+    /// Returns a segment of the same bytes in which these records are no longer live. The two share the bytes. Errors:
+    /// out of memory.
     pub fn without(&self, alloc: Global, docs: &[u32]) -> Result<Segment, NoMemory>
         requires { AllByRecursion (IsBelow (length self.now.records)) docs.now }
         ensures records { IfOk result (λ s. s.records ≡ self.now.records) }

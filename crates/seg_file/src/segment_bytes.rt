@@ -1,8 +1,9 @@
-ghost use Rattle.std.specs.Prelude.{◌≡◌, ◌≤◌, ◌<◌, ℕ, List, map, length, IfOk, IfErr, MatchResult, None};
+ghost use Rattle.std.specs.Prelude.{◌≡◌, ◌≤◌, ◌<◌, ◌+◌, ◌-◌, ℕ, List, map, length, take, drop, IfOk, IfErr, MatchResult, None};
+ghost use Rattle.std.specs.List.{flat_map, AllByRecursion};
 ghost use Rattle.facet_model.specs.Stored.{Records};
 ghost use Rattle.seg_terms.specs.Entries.{segment_of};
 ghost use Rattle.seg_grammar.specs.declared.fault.SegFault.TheVariants.{NoMemory as Memory};
-ghost use Rattle.seg_grammar.specs.Spelling.{IsRecord, IsSegment, seg_bytes, TermsRise};
+ghost use Rattle.seg_grammar.specs.Spelling.{IsRecord, IsSegment, record_bytes, seg_bytes, TermsRise};
 ghost use Rattle.seg_grammar.specs.Reading.{Fails, segment_at};
 ghost use Rattle.seg_grammar.specs.Lookups.{record_of, places_of_term};
 ghost use Rattle.seg_file.specs.Fronts.{BeginsRecord, BeginsCounted, BeginsTerm};
@@ -20,7 +21,7 @@ use std::alloc::Global;
 use std::hash::RandomState;
 use std::marker::Model;
 
-/// The bytes of a segment, which are read where they stand, and where their parts begin, 16 bytes a document and 8 a term.
+/// The bytes of a segment, which are read in place, and where their parts begin: 16 bytes per document and 8 per term.
 #[derive(Drop)]
 pub(crate) struct SegmentBytes {
     bytes: Vec<u8>,
@@ -39,9 +40,10 @@ impl Model for SegmentBytes {
 }
 
 impl SegmentBytes {
-    /// The segment of documents and their terms: the records in their order, and each term once. It takes memory for the bytes, and in between for the
-    /// terms with their places. Beside a refused allocation it answers that there is no memory where there would be 2^32 terms or more, which the format
-    /// cannot number.
+    /// Makes the segment of documents and their terms: the records in order, and each term once. It allocates the
+    /// bytes, and while it works the terms with their places.
+    ///
+    /// Errors: out of memory, also for 2^32 terms or more, which the format cannot number.
     pub(crate) fn build(
         alloc: Global,
         keys: RandomState,
@@ -59,17 +61,22 @@ impl SegmentBytes {
         })
     }
 
-    /// The segment that the bytes are. They are read once from left to right, and kept.
-    pub(crate) fn open(alloc: Global, bytes: Vec<u8>) -> Result<SegmentBytes, SegFault>
+    /// Opens the segment in these bytes, and keeps them. It reads them once from left to right, and frees their spare
+    /// capacity. Errors: the first fault; out of memory.
+    pub(crate) fn open(alloc: Global, mut bytes: Vec<u8>) -> Result<SegmentBytes, SegFault>
         ensures found { IfOk result (λ s. IsSegment bytes.items s) }
         ensures only { (r : Records) → IsSegment bytes.items r → MatchResult result (λ s. s ≡ r) (λ e. e ≡ Memory) }
         ensures fault { IfErr result (λ e. Fails e (segment_at bytes.items)) }
     {
-        let index = read_index(alloc, &bytes)?;
+        let mut index = read_index(alloc, &bytes)?;
+        bytes.shrink_to_fit();
+        index.records.shrink_to_fit();
+        index.counted.shrink_to_fit();
+        index.terms.shrink_to_fit();
         Ok(SegmentBytes { bytes, index })
     }
 
-    /// The bytes.
+    /// Returns the bytes.
     pub(crate) fn bytes(&self) -> &[u8]
         ensures bytes { result.now ≡ seg_bytes self.now }
         ensures is { IsSegment (seg_bytes self.now) self.now }
@@ -77,7 +84,7 @@ impl SegmentBytes {
         self.bytes.as_slice()
     }
 
-    /// How many documents there are, 1 to 1,000,000.
+    /// Returns how many documents there are, 1 to 1,000,000.
     pub(crate) fn docs(&self) -> u32
         ensures number { result ≡ length self.now.records }
         ensures is { IsSegment (seg_bytes self.now) self.now }
@@ -85,7 +92,7 @@ impl SegmentBytes {
         self.index.records.len() as u32
     }
 
-    /// The id of a document.
+    /// Returns the id of a document.
     pub(crate) fn id(&self, doc: u32) -> &str
         requires { doc < length self.now.records }
         ensures id { result.now ≡ (record_of self.now doc).id }
@@ -95,7 +102,7 @@ impl SegmentBytes {
         text_front(&mut cursor)
     }
 
-    /// The text of a document.
+    /// Returns the text of a document.
     pub(crate) fn text(&self, doc: u32) -> &str
         requires { doc < length self.now.records }
         ensures { result.now ≡ (record_of self.now doc).text }
@@ -105,7 +112,7 @@ impl SegmentBytes {
         text_front(&mut cursor)
     }
 
-    /// The ordinals of a document's labels, in the order given.
+    /// Returns the ordinals of a document's labels, in the order given.
     pub(crate) fn leaves(&self, doc: u32) -> Ords<'_>
         requires { doc < length self.now.records }
         ensures { result ≡ (record_of self.now doc).leaves }
@@ -116,7 +123,7 @@ impl SegmentBytes {
         list_front(&mut cursor)
     }
 
-    /// The ordinals that are counted for a document, rising, at most 8,192. It goes straight to them.
+    /// Returns the ordinals that are counted for a document, rising, at most 8,192, in constant time.
     pub(crate) fn counted(&self, doc: u32) -> Ords<'_>
         requires { doc < length self.now.records }
         ensures { result ≡ (record_of self.now doc).counted }
@@ -125,8 +132,7 @@ impl SegmentBytes {
         list_front(&mut cursor)
     }
 
-    /// The documents that have a term, rising, or None exactly where there is no such term. It bisects, so it looks at about the logarithm of the number
-    /// of terms.
+    /// Returns the documents that have a term, rising, or `None` if there is no such term, by binary search.
     pub(crate) fn postings(&self, key: &Key<'_>) -> Option<Postings<'_>>
         ensures { result ≡ places_of_term self.now.terms (text_of key.now) }
     {
@@ -140,7 +146,7 @@ impl SegmentBytes {
         Some(self.places(at))
     }
 
-    /// How many terms there are.
+    /// Returns how many terms there are.
     pub(crate) fn terms(&self) -> usize
         ensures number { result ≡ length self.now.terms }
         ensures rise { TermsRise None self.now.terms }
@@ -148,7 +154,7 @@ impl SegmentBytes {
         self.index.terms.len()
     }
 
-    /// How many terms come before the one that is looked for. It bisects.
+    /// Returns how many terms are less than this one, by binary search.
     pub(crate) fn first_from(&self, key: &Key<'_>) -> usize
         ensures first { IsFirstFrom (text_of key.now) self.now.terms result result }
         ensures within { result ≤ length self.now.terms }
@@ -167,7 +173,7 @@ impl SegmentBytes {
         low
     }
 
-    /// The text of a term.
+    /// Returns the text of a term.
     pub(crate) fn term_text(&self, at: usize) -> &str
         requires { at < length self.now.terms }
         ensures { result.now ≡ (term_of self.now.terms at).0 }
@@ -176,7 +182,7 @@ impl SegmentBytes {
         text_front(&mut cursor)
     }
 
-    /// The places of a term.
+    /// Returns the places of a term.
     pub(crate) fn places(&self, at: usize) -> Postings<'_>
         requires { at < length self.now.terms }
         ensures { result ≡ (term_of self.now.terms at).1 }
@@ -186,7 +192,34 @@ impl SegmentBytes {
         places_front(&mut cursor)
     }
 
-    // A cursor at a term.
+    /// Returns the bytes of the records from one number up to another one.
+    pub(crate) fn record_range(&self, from: usize, to: usize) -> &[u8]
+        requires order { from ≤ to }
+        requires within { to ≤ length self.now.records }
+        ensures bytes { result.now ≡ flat_map record_bytes (take (to - from) (drop from self.now.records)) }
+        ensures fit { AllByRecursion IsRecord (take (to - from) (drop from self.now.records)) }
+    {
+        let start = self.record_start(from);
+        let end = self.record_start(to);
+        &self.bytes[start..end]
+    }
+
+    // Returns where the record of a number begins, or where all of them end.
+    fn record_start(&self, number: usize) -> usize
+        requires { number ≤ length self.now.records }
+        ensures { result ≡ 12 + length (flat_map record_bytes (take number self.now.records)) }
+    {
+        if number < self.index.records.len() {
+            return self.index.records[number];
+        }
+        // The number of terms, in four bytes, follows them.
+        if self.index.terms.is_empty() {
+            return self.bytes.len() - 4;
+        }
+        self.index.terms[0] - 4
+    }
+
+    // Returns a cursor at a term.
     fn term(&self, at: usize) -> Cursor<'_>
         requires { at < length self.now.terms }
         ensures { BeginsTerm (length self.now.records) result.rest (term_of self.now.terms at) }
@@ -194,7 +227,7 @@ impl SegmentBytes {
         cursor_at(self.bytes.as_slice(), self.index.terms[at])
     }
 
-    // A cursor at a record.
+    // Returns a cursor at a record.
     fn record(&self, doc: u32) -> Cursor<'_>
         requires { doc < length self.now.records }
         ensures { BeginsRecord result.rest (record_of self.now doc) }
@@ -202,7 +235,7 @@ impl SegmentBytes {
         cursor_at(self.bytes.as_slice(), self.index.records[doc as usize])
     }
 
-    // A cursor at the counted ordinals of a record.
+    // Returns a cursor at the counted ordinals of a record.
     fn counted_list(&self, doc: u32) -> Cursor<'_>
         requires { doc < length self.now.records }
         ensures { BeginsCounted result.rest (record_of self.now doc) }

@@ -1,5 +1,6 @@
 pub mod Moved
 mod Places
 mod Puts
+mod Walking
 mod Built
 pub mod Standing

@@ -29,7 +29,7 @@ use Rattle.seg_merge.specs.Merged.{HasTerms, HaveTerms, IsOwn}
 use Rattle.seg_merge.proofs.Moved.{moved_places, places_append, some_of_places}
 
 -- where the keys rise each stands once
-all_found : (es : Table) → IsStrictlySortedBy word_cmp (keys_of es) → (q : List ℕ) → all_places es q ≡ unwrap_or (found es q) []
+pub all_found : (es : Table) → IsStrictlySortedBy word_cmp (keys_of es) → (q : List ℕ) → all_places es q ≡ unwrap_or (found es q) []
 unfolding IsStrictlySortedBy
 all_found [] up q = refl
 all_found (e ∷ es) up q = by (bytes_eq q e.0) refl (all_found es (sorted_tail word_cmp e.0 (keys_of es) up) q)

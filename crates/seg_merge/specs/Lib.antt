@@ -1,3 +1,4 @@
 pub mod Moved
 pub mod Merged
 pub mod Laws
+pub mod Walk

@@ -1,6 +1,7 @@
 //! Merging segments: one segment of the live records of several, in their order, as Lucene's `SegmentMerger`.
 #![tactic(auto)]
 
+mod heads;
 mod laws;
 mod merging;
 mod records;
