@@ -1,0 +1,4 @@
+pub mod Samples
+pub mod Together
+pub mod Decimals
+pub mod Fitting

@@ -1,0 +1,5 @@
+pub mod Numbers
+pub mod Values
+pub mod Shapes
+pub mod Bounds
+pub mod Laws
