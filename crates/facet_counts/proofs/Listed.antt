@@ -73,17 +73,6 @@ ordered_images (y ∷ ys) h = λ k d low high.
     let next = get_or-map counted_child (y ∷ ys) (k + 1) y d long in
     rw (here, next) (h k y low long)
 
--- ---- the label at an ordinal
-
-pub at_root : (labels paths : List (List (List ℕ))) → labels ≡ [] ∷ paths → (ord : ℕ) → ord ≡ 0 → slice_get labels ord ≡ Some []
-at_root labels paths e ord root = ap (slice_get labels) root ∙ ap (λ l. slice_get l 0) e
-
-pub behind_root : (labels paths : List (List (List ℕ))) → labels ≡ [] ∷ paths → (ord : ℕ) (path : List (List ℕ)) → 0 < ord → ord < length labels → path ≡ get_or paths (ord - 1) path → slice_get labels ord ≡ Some path
-behind_root labels paths e zero path some within is = absurd (omega (arith, some))
-behind_root labels paths e (suc k) path some within is =
-    let before : suc k - 1 ≡ k = omega arith in
-    ap (λ l. slice_get l (suc k)) e ∙ slice_get-get_or paths k path (omega (arith, within, ap length e)) ∙ ap Some (ap (λ i. get_or paths i path) (sym before) ∙ sym is)
-
 -- ---- the children of a label
 
 module _ (labels : List (List (List ℕ))) (is : IsLabelList labels) (totals : List ℕ) (ord : ℕ) (path : List (List ℕ)) (here : slice_get labels ord ≡ Some path) where

@@ -1,4 +1,4 @@
-//! Which asks are refused.
+//! Which asks are rejected.
 ghost use Rattle.std.specs.Prelude.{◌≡◌};
 ghost use Rattle.facet_model.specs.AskViews.{ask_view};
 ghost use Rattle.facet_model.specs.Asks.{ask_fault, is_kept_path};
@@ -8,17 +8,17 @@ use facet_config::FacetsConfig;
 use facet_model::Ask;
 use facet_names::Path;
 
-/// Why an ask is refused.
+/// Why an ask is rejected.
 #[derive(Clone, Copy, Debug, PartialEq, Eq)]
 pub enum AskFault {
-    /// No child is asked for.
+    /// It asks for the top 0 children.
     TopZero,
-    /// It asks for the value of a dimension alone, which is kept only where the dimension is hierarchical and not multi-valued, or multi-valued
-    /// with a required count.
+    /// It asks for the value of a whole dimension. That is counted only if the dimension is hierarchical and not
+    /// multi-valued, or multi-valued with a required count.
     DimValueNotKept,
 }
 
-// Whether the count of the path is kept.
+// Returns whether the path's value is counted.
 fn is_kept(config: &FacetsConfig, path: &Path) -> bool
     ensures { result ≡ is_kept_path config.now path.now }
 {
@@ -28,7 +28,7 @@ fn is_kept(config: &FacetsConfig, path: &Path) -> bool
         || flags.multi_valued && flags.require_dim_count
 }
 
-/// Whether an ask can be answered. It takes no memory.
+/// Checks that an ask has an answer. It allocates nothing. Errors: `TopZero`, `DimValueNotKept`.
 pub fn check_ask(config: &FacetsConfig, ask: &Ask) -> Result<(), AskFault>
     ensures { refused result ≡ ask_fault config.now (ask_view ask.now) }
 {

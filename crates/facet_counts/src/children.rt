@@ -10,14 +10,14 @@ use facet_names::{NoMemory, Path};
 use std::alloc::Global;
 use taxo_list::{Labelled, TaxoView};
 
-// The last component of a path.
+// Returns the last component of a path.
 fn last_part(alloc: Global, path: &Path) -> Result<Word, NoMemory>
     ensures { IfOk result (λ w. w ≡ last_part path.now) }
 {
     Ok(Word::new(alloc, path.part(path.len() - 1))?.unwrap())
 }
 
-// A child with its count.
+// Returns a child with its count.
 fn child_with(alloc: Global, view: &TaxoView, totals: &[u32], child: u32) -> Result<Child, NoMemory>
     requires some { 0 < child }
     requires within { child < length view.now }
@@ -29,7 +29,7 @@ fn child_with(alloc: Global, view: &TaxoView, totals: &[u32], child: u32) -> Res
     Ok(Child { part, count })
 }
 
-// Notes a child, where its count is above 0.
+// Adds a child if its count is above 0.
 fn note(
     alloc: Global,
     view: &TaxoView,
@@ -49,7 +49,8 @@ fn note(
     Ok(())
 }
 
-/// The children of a label with a count above 0, the one that was added last first: a walk over the child and sibling arrays.
+/// Returns the children of a label with a count above 0, the one that was added last first. It walks over the child and
+/// sibling arrays, and copies the text of each child. Errors: out of memory.
 pub fn children_below(
     alloc: Global,
     view: &TaxoView,
@@ -70,7 +71,7 @@ pub fn children_below(
     Ok(children)
 }
 
-/// The sum of the counts.
+/// Returns the sum of the counts.
 pub fn sum_of(children: &[Child]) -> u64
     requires few { length children.now ≤ 1000000 }
     requires small { All (λ c. c.count ≤ 1000000) children.now }

@@ -16,7 +16,8 @@ use std::alloc::Global;
 use std::marker::Model;
 use taxo_list::{Labelled, TaxoView};
 
-/// Counts the ordinals of documents, one number for each label of a view: 4 bytes a label, and a mark a dimension, whether its counts are rolled up.
+/// Counts the ordinals of documents: one number per label of a view, 4 bytes each. For each dimension it has a mark of
+/// whether its counts are rolled up.
 #[derive(Drop)]
 pub struct Counter<'a> {
     view: &'a TaxoView,
@@ -37,7 +38,7 @@ impl<'a> Model for Counter<'a> {
     ghost invariant = { λ c. IsCounter (record { labels = c.view.now; config = c.config.now; own = c.counts.items; added = c.added }) c.rolled.items };
 }
 
-// Adds one at each of these ordinals.
+// Adds one to the count of each of these ordinals.
 fn add_each(counts: &mut [u32], mut ords: Ords<'_>)
     requires within { All (λ ord. ord < length counts.old) ords }
     requires distinct { AllPairs (λ a b. a ≡ b → ⊥) ords }
@@ -63,7 +64,8 @@ fn add_counts(counts: &mut [u32], others: &[u32])
 }
 
 impl<'a> Counter<'a> {
-    /// No document is counted yet. It takes time and memory in proportion to the view's labels, and asks the config once for each dimension.
+    /// Returns a counter that has counted no document. It takes time and memory proportional to the labels of the view,
+    /// and looks each dimension up in the config once. Errors: out of memory.
     pub fn new(
         alloc: Global,
         view: &'a TaxoView,
@@ -87,7 +89,7 @@ impl<'a> Counter<'a> {
         })
     }
 
-    /// Counts a document, by its ordinals. Fewer than a million were counted before.
+    /// Counts a document, by its ordinals. Fewer than a million were counted before. It allocates nothing.
     pub fn add_doc(&mut self, counted: Ords<'_>)
         requires counted { IsCounted self.old.config self.old.labels counted }
         requires few { self.old.added < 1000000 }
@@ -100,7 +102,8 @@ impl<'a> Counter<'a> {
         self.added += 1;
     }
 
-    /// Counts the documents of a segment at these places, by the segment's column: as much work as `Column::count_at`.
+    /// Counts the documents of a segment at these places with the segment's column, at the cost of `Column::count_at`.
+    /// It allocates nothing.
     pub fn add_column(&mut self, column: &Column, places: &Bits)
         requires words { places.now.words ≡ (length column.now + 63) / 64 }
         requires below { (n : ℕ) → is_in n places.now.places ≡ true → n < length column.now }
@@ -116,7 +119,8 @@ impl<'a> Counter<'a> {
         self.added += places.len() as u32;
     }
 
-    /// Counts all documents that another counter over the same labels has counted, by one sum a label. Together they are at most a million.
+    /// Counts all documents that another counter over the same labels has counted, with one addition per label.
+    /// Together they are at most a million. It allocates nothing.
     pub fn add_counter(&mut self, other: &Counter<'_>)
         requires labels { other.now.labels ≡ self.old.labels }
         requires config { other.now.config ≡ self.old.config }
@@ -130,8 +134,9 @@ impl<'a> Counter<'a> {
         self.added += other.added;
     }
 
-    /// The counts, rolled up to the parents in dimensions that are hierarchical and not multi-valued. One walk over the labels, from the last to
-    /// the first, so that a label's count is whole before it goes to the parent.
+    /// Returns the counts, rolled up to the parents in dimensions that are hierarchical and not multi-valued. It visits
+    /// the labels once, from the last to the first, so that a label's count is complete before it is added to the
+    /// parent's. It allocates nothing.
     pub fn roll_up(self) -> Counts<'a>
         ensures counts { (lists : List (List ℕ)) → HasAdded self.entry lists → AreCounts result lists }
         ensures labels { result.labels ≡ self.entry.labels }

@@ -40,7 +40,8 @@ impl<'a> Model for Counts<'a> {
     ghost invariant = { λ c. IsTotals (record { labels = c.view.now; config = c.config.now; totals = c.totals.items }) };
 }
 
-// The value of a path: the sum of its children's counts where the dimension is not multi-valued, else its own count or none.
+// Returns the value of a path: the sum of its children's counts if the dimension is not multi-valued, otherwise its own
+// count or -1.
 fn value_for(flags: DimFlags, own: u32, sum: u64) -> i64
     requires { sum < 2 ^ 63 }
     ensures { result ≡ (if not flags.multi_valued then pos sum else (if flags.require_dim_count then pos own else negsuc 0)) }
@@ -66,14 +67,15 @@ impl<'a> Counts<'a> {
         }
     }
 
-    /// The number of documents that count for a label: in a dimension that is hierarchical and not multi-valued those that have it or a label
-    /// below it among their ordinals, and in every other dimension those that have it. It takes no memory.
+    /// Returns the number of documents that count for a label, in constant time. In a dimension that is hierarchical
+    /// and not multi-valued these are the documents with the label or one below it among their ordinals, and in every
+    /// other dimension those with the label itself.
     pub fn at(&self, ord: u32) -> u32
         requires some { 0 < ord }
         requires within { ord < length self.now.labels }
         ensures total { result ≡ slice_index_or self.now.totals ord 0 }
         ensures counts { (lists : List (List ℕ)) → AreCounts self.now lists → result ≡ lists_at self.now.config self.now.labels lists ord }
-        // Where the lists are those of documents: the number of these that have the path, where its count is kept.
+        // If the lists are those of documents: the number of these that have the path, if its count is kept.
         ensures documents { (docs : List Doc) (lists : List (List ℕ)) (path : List (List ℕ)) → AreCounts self.now lists
             → AllZip (IsListOf self.now.config self.now.labels) lists docs → place self.now.labels path ≡ Some ord → is_kept_path self.now.config path ≡ true
             → result ≡ count docs path }
@@ -81,10 +83,13 @@ impl<'a> Counts<'a> {
         self.totals[ord as usize]
     }
 
-    /// The `n` children of a path that the most documents have, as Lucene's `getTopChildren`; ties go by the components' bytes. There is no
-    /// result where no document has a label below the path.
+    /// Returns the `n` children of a path that the most documents have, as Lucene's `getTopChildren`; ties are broken
+    /// by the components' bytes. It returns `None` if no document has a label below the path.
     ///
-    /// It walks over the path's children, and takes memory for the `n` that it shows; where `n` is above 64, for each that has a document.
+    /// It walks over the path's children, and allocates the `n` that it lists; if `n` is above 64, each child that has
+    /// a document.
+    ///
+    /// Errors: out of memory.
     pub fn top(&self, alloc: Global, path: &Path, n: u32) -> Result<Option<FacetResult>, NoMemory>
         requires { 0 < n }
         ensures { IfOk result (λ r. (docs : List Doc) (lists : List (List ℕ)) → AreCounts self.now lists
@@ -97,7 +102,7 @@ impl<'a> Counts<'a> {
         }
     }
 
-    // The same, for a path with its ordinal and the flags of its dimension.
+    // Does the same, given the path's ordinal and the flags of its dimension.
     fn top_at(
         &self,
         alloc: Global,
@@ -131,8 +136,9 @@ impl<'a> Counts<'a> {
         }))
     }
 
-    /// The number of documents that have a path, as Lucene's `getSpecificValue`. `exists` says whether a document of the whole snapshot has
-    /// it: where none does the answer is -1. One look-up in a hash table; it takes no memory.
+    /// Returns the number of documents that have a path, as Lucene's `getSpecificValue`. `exists` is whether a document
+    /// of the whole snapshot has it; if not, the result is -1. It takes one look-up in a hash table, and allocates
+    /// nothing.
     pub fn specific(&self, path: &Path, exists: bool) -> i64
         requires kept { ask_fault self.now.config (one_value path.now) ≡ None }
         ensures { (docs snapshot : List Doc) (lists : List (List ℕ)) → AreCounts self.now lists → AllZip (IsListOf self.now.config self.now.labels) lists docs
@@ -147,10 +153,11 @@ impl<'a> Counts<'a> {
         }
     }
 
-    /// The `n` children of each dimension that the most documents have, as Lucene's `getAllDims`. A dimension without a result is left out.
-    /// They are ordered by value falling, ties by the dimension's bytes rising.
+    /// Returns the `n` children of each dimension that the most documents have, as Lucene's `getAllDims`. A dimension
+    /// without a result is left out. They are ordered by falling values, ties by the rising bytes of the dimensions.
     ///
-    /// It walks over the dimensions and their children, and takes memory for each child that has a document.
+    /// It walks over the dimensions and their children, and allocates as [`top`](Counts::top) does for each. Errors:
+    /// out of memory.
     pub fn all_dims(&self, alloc: Global, n: u32) -> Result<Vec<FacetResult>, NoMemory>
         requires { 0 < n }
         ensures { IfOk result (λ v. (docs : List Doc) (lists : List (List ℕ)) → AreCounts self.now lists
@@ -161,7 +168,7 @@ impl<'a> Counts<'a> {
         Ok(results)
     }
 
-    // The results of all dimensions, the one that was added last first.
+    // Returns the results of all dimensions, the one that was added last first.
     fn each_dim(&self, alloc: Global, n: u32) -> Result<Vec<FacetResult>, NoMemory>
         requires { 0 < n }
         ensures { IfOk result (λ v. (docs : List Doc) (lists : List (List ℕ)) → AreCounts self.now lists

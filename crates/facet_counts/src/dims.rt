@@ -1,4 +1,4 @@
-//! The results of dimensions, put together.
+//! Joining the results of dimensions.
 ghost use Rattle.std.specs.Prelude.{◌≡◌, ◌||◌, ◌∷◌, [], ℕ, List, Bool, false, None, OnOk, OnErr, map, option_map};
 ghost use Rattle.std.specs.Str.{bytes_eq};
 ghost use Rattle.facet_model.specs.Documents.{Doc};
@@ -11,8 +11,8 @@ use facet_model::FacetResult;
 use facet_names::NoMemory;
 use std::cmp::Ordering;
 
-/// Puts the result of one more dimension to those of others, if it has one. Each dimension may be counted over documents of its own. After
-/// NoMemory the results are as before.
+/// Adds the result of one more dimension to those of others, if it has one. Each dimension may be counted over its own
+/// documents. Errors: out of memory; then the results are as before.
 pub fn note_dim(results: &mut Vec<FacetResult>, top: Option<FacetResult>) -> Result<(), NoMemory>
     ensures noted { OnOk result ((among : List ℕ → Bool) (config : Config) (docs_of : List ℕ → List Doc) (n : ℕ) (dim : List ℕ) → among dim ≡ false
         → IsTop config (docs_of dim) (dim ∷ []) n (option_map result_view top) → AreDims among config docs_of n (map result_view results.old.items)
@@ -25,15 +25,15 @@ pub fn note_dim(results: &mut Vec<FacetResult>, top: Option<FacetResult>) -> Res
     Ok(())
 }
 
-// By value falling, ties by the dimension's bytes rising.
+// by falling values, ties by the rising bytes of the dimensions
 fn by_value(a: &FacetResult, b: &FacetResult) -> Ordering
     ensures { result ≡ dims_cmp (result_view a.now) (result_view b.now) }
 {
     b.value.cmp(&a.value).then(a.path.cmp(&b.path))
 }
 
-/// Orders the results of all dimensions that have one: by value falling, so that values of -1 come last, ties by the dimension's bytes
-/// rising. It takes no memory.
+/// Orders the results of all dimensions: by falling values, so that values of -1 come last, ties by the rising bytes of
+/// the dimensions. It allocates nothing.
 pub fn order_dims(results: &mut Vec<FacetResult>)
     ensures { (among : List ℕ → Bool) (config : Config) (docs_of : List ℕ → List Doc) (n : ℕ)
         → ((dim : List ℕ) → among dim ≡ false → IsTop config (docs_of dim) (dim ∷ []) n None)

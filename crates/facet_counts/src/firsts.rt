@@ -3,6 +3,7 @@ ghost use Rattle.std.specs.Prelude.{◌≡◌, ◌<◌, ◌≤◌, ◌+◌, ◌-
 ghost use Rattle.std.specs.List.Sorted.{IsPermutation, IsSorted};
 ghost use Rattle.std.specs.Ordering.{is_lt};
 ghost use Rattle.facet_names.specs.Arrays.{is_child};
+ghost use Rattle.facet_names.specs.Labels.{IsLabelList};
 ghost use Rattle.facet_names.specs.Paths.{last_part};
 ghost use Rattle.facet_model.specs.Listing.{PartCount, counted_child, listing_cmp};
 ghost use Rattle.facet_counts.specs.Children.{entries_of, children_at};
@@ -15,27 +16,29 @@ use facet_names::NoMemory;
 use std::alloc::Global;
 use taxo_list::{Labelled, TaxoView};
 
-// Up to so many children are chosen while walking, where each that is chosen moves those behind it. For more of them all are sorted.
+// Up to this many children are chosen while walking, where each chosen one moves those after it. For more of them, all
+// are sorted.
 const MOST_CHOSEN: u32 = 64;
 
-/// The first children of a label, and what is told of all that a document has.
+/// The first children of a label, and a summary of all that a document has.
 #[derive(Drop)]
 pub struct Firsts {
+    /// The first children, in order.
     pub children: Vec<Child>,
-    /// The sum of the counts of all of them.
+    /// The sum of the counts of all children.
     pub sum: u64,
-    /// How many they are.
+    /// The number of all children with a document.
     pub number: u32,
 }
 
-/// A child that is among the first ones so far. Its text is the view's.
+/// A child that is among the first ones so far. It borrows its text from the view.
 #[derive(Drop)]
 pub(crate) struct Candidate<'a> {
     pub(crate) text: &'a str,
     pub(crate) count: u32,
 }
 
-/// The first children so far, and what is told of all that were walked over.
+/// The first children so far, and a summary of all that were visited.
 #[derive(Drop)]
 pub(crate) struct Chosen<'a> {
     pub(crate) candidates: Vec<Candidate<'a>>,
@@ -43,20 +46,20 @@ pub(crate) struct Chosen<'a> {
     pub(crate) number: u32,
 }
 
-// How many components a label has. The last one of each of its children stands behind so many.
+// Returns how many components a label has. The last one of each of its children is at this place.
 fn depth_of(view: &TaxoView, ord: u32) -> usize
-    requires { ord < length view.now }
+    requires within { ord < length view.now }
+    requires list { IsLabelList view.now }
     ensures { (child : ℕ) → child < length view.now → is_child view.now ord child ≡ true
         → length (slice_index_or view.now child []) ≡ result + 1 }
 {
-    let paths = view.paths();
     if ord == 0 {
         return 0;
     }
-    paths[ord as usize - 1].len()
+    view.path_of(ord).len()
 }
 
-// The last component of a label, behind so many.
+// Returns the component of a label at a place.
 fn text_of(view: &TaxoView, ord: u32, depth: usize) -> &str
     requires some { 0 < ord }
     requires within { ord < length view.now }
@@ -68,7 +71,7 @@ fn text_of(view: &TaxoView, ord: u32, depth: usize) -> &str
     view.path_of(ord).part(depth)
 }
 
-// Whether a child comes before another one. Their texts are compared where their counts are equal.
+// Returns whether a child precedes another one. Their texts are compared only if their counts are equal.
 fn comes_before(one: &Candidate<'_>, other: &Candidate<'_>) -> bool
     ensures { result ≡ is_lt (listing_cmp (standing one.now) (standing other.now)) }
 {
@@ -78,8 +81,8 @@ fn comes_before(one: &Candidate<'_>, other: &Candidate<'_>) -> bool
     one.text.cmp(other.text).is_lt()
 }
 
-// Where a child stands among others. Most stand behind all of them, and where the labels were added in the order of their texts, each stands
-// before all: so these two places are asked first.
+// Returns where a child belongs among others. Most belong after all of them. If the labels were added in the order of
+// their texts, each belongs before all. So these two places are tried first.
 fn place_among(child: &Candidate<'_>, candidates: &[Candidate<'_>]) -> usize
     ensures within { result ≤ length candidates.now }
     ensures after { 0 < result → is_lt (listing_cmp (standing child.now)
@@ -107,7 +110,7 @@ fn place_among(child: &Candidate<'_>, candidates: &[Candidate<'_>]) -> usize
     low
 }
 
-// Puts a child among the first ones, where it is one of them.
+// Adds a child to the first ones if it is one of them.
 fn choose<'a>(
     child: Candidate<'a>,
     n: usize,
@@ -129,7 +132,7 @@ fn choose<'a>(
     Ok(())
 }
 
-// Chooses among one more child, where its count is above 0.
+// Visits one more child, if its count is above 0.
 fn choose_among<'a>(
     view: &'a TaxoView,
     totals: &[u32],
@@ -159,7 +162,7 @@ fn choose_among<'a>(
     Ok(())
 }
 
-// The first children of a label, chosen in one walk. It takes memory for n candidates.
+// Returns the first children of a label, chosen in one walk. It allocates n candidates.
 fn chosen_below<'a>(
     alloc: Global,
     view: &'a TaxoView,
@@ -168,6 +171,7 @@ fn chosen_below<'a>(
     n: usize,
 ) -> Result<Chosen<'a>, NoMemory>
     requires within { ord < length view.now }
+    requires list { IsLabelList view.now }
     requires few { length view.now ≤ 1000000 }
     requires sized { length totals.now ≡ length view.now }
     requires small { (k : ℕ) → 0 < k → k < length view.now → slice_index_or totals.now k 0 ≤ 1000000 }
@@ -187,7 +191,7 @@ fn chosen_below<'a>(
     Ok(chosen)
 }
 
-// The children that were chosen, each with a copy of its text.
+// Returns the chosen children, each with a copy of its text.
 fn children_of(alloc: Global, candidates: &[Candidate<'_>]) -> Result<Vec<Child>, NoMemory>
     requires { All IsShort candidates.now }
     ensures { IfOk result (λ v. map counted_child v.items ≡ map standing candidates.now) }
@@ -203,7 +207,7 @@ fn children_of(alloc: Global, candidates: &[Candidate<'_>]) -> Result<Vec<Child>
     Ok(children)
 }
 
-// The same for any n: all children are sorted, each with a copy of its text.
+// Does the same for any n: all children are sorted, each with a copy of its text.
 fn sorted_below(
     alloc: Global,
     view: &TaxoView,
@@ -231,8 +235,11 @@ fn sorted_below(
     })
 }
 
-/// The first `n` children of a label with a count above 0, by count falling and ties by text. One walk over the children; for up to 64 no text is
-/// copied but those of the `n`, and no memory is taken but for these.
+/// Returns the first `n` children of a label with a count above 0, by falling counts, ties by their texts. It walks
+/// over the children once. For `n` up to 64 it allocates only these `n`, with copies of their texts. Otherwise it
+/// copies and sorts all.
+///
+/// Errors: out of memory.
 pub fn first_below(
     alloc: Global,
     view: &TaxoView,
@@ -241,6 +248,7 @@ pub fn first_below(
     n: u32,
 ) -> Result<Firsts, NoMemory>
     requires within { ord < length view.now }
+    requires list { IsLabelList view.now }
     requires few { length view.now ≤ 1000000 }
     requires sized { length totals.now ≡ length view.now }
     requires small { (k : ℕ) → 0 < k → k < length view.now → slice_index_or totals.now k 0 ≤ 1000000 }

@@ -1,22 +1,23 @@
 ghost use Rattle.facet_counts.specs.Laws.{MayBeCounted, NoneElsewhere, NoResultElsewhere, OneAllDims};
 
-/// The ordinals that are counted for a document which the config accepts meet the condition of [`Counter::add_doc`](crate::Counter::add_doc),
-/// where its labels and their prefixes stand in the view.
+/// States that the ordinals that are counted for a document satisfy the condition of
+/// [`Counter::add_doc`](crate::Counter::add_doc), if the config accepts the document and the view has its labels and
+/// their prefixes.
 pub fn may_be_counted()
     ensures { MayBeCounted }
 {}
 
-/// No document has a path that is not in the view.
+/// States that no document has a path that is not in the view.
 pub fn none_elsewhere()
     ensures { NoneElsewhere }
 {}
 
-/// A path that is not in the view has no result.
+/// States that a path that is not in the view has no result.
 pub fn no_result_elsewhere()
     ensures { NoResultElsewhere }
 {}
 
-/// Two answers about all dimensions, over the same documents, are the same: the order leaves no tie.
+/// States that two answers about all dimensions over the same documents are equal: the order leaves no tie.
 pub fn one_all_dims()
     ensures { OneAllDims }
 {}

@@ -1,6 +1,6 @@
-//! Counting by ordinals, as Lucene's `TaxonomyFacetCounts`: the ordinals of each document are counted, the counts are rolled up to the parents
-//! in dimensions that are hierarchical and not multi-valued. Of documents' ordinals the counts are document counts, by which the children of
-//! a path are listed.
+//! Counting by ordinals, as Lucene's `TaxonomyFacetCounts`. The ordinals of each document are counted, and the counts
+//! are rolled up to the parents in dimensions that are hierarchical and not multi-valued. The children of a path are
+//! listed by these counts.
 #![tactic(auto)]
 
 mod ask;

@@ -5,14 +5,14 @@ ghost use Rattle.taxo_list.specs.Links.{ordinal};
 
 use taxo_list::TaxoView;
 
-// An entry of an array: none is negative.
+// Returns an entry of an array as an ordinal, or `None` if it is negative.
 fn entry(link: i32) -> Option<u32>
     ensures { result ≡ ordinal link }
 {
     if link < 0 { None } else { Some(link as u32) }
 }
 
-/// The parent of a label, which is smaller.
+/// Returns the parent of a label, which is smaller, in constant time.
 pub fn parent_of(view: &TaxoView, ord: u32) -> u32
     requires some { 0 < ord }
     requires within { ord < length view.now }
@@ -22,7 +22,7 @@ pub fn parent_of(view: &TaxoView, ord: u32) -> u32
     entry(view.arrays().parent(ord)).unwrap()
 }
 
-/// The child that was added last.
+/// Returns the child that was added last, or `None`, in constant time.
 pub fn child_of(view: &TaxoView, ord: u32) -> Option<u32>
     requires { ord < length view.now }
     ensures { result ≡ child_at view.now ord }
@@ -30,7 +30,7 @@ pub fn child_of(view: &TaxoView, ord: u32) -> Option<u32>
     entry(view.arrays().child(ord))
 }
 
-/// The child of the same parent that was added last before this one.
+/// Returns the child of the same parent that was added last before this one, or `None`, in constant time.
 pub fn sibling_of(view: &TaxoView, ord: u32) -> Option<u32>
     requires { ord < length view.now }
     ensures { result ≡ sibling_at view.now ord }

@@ -1,4 +1,4 @@
-//! Which counts are rolled up, and to what.
+//! Which counts are rolled up, and where to.
 ghost use Rattle.std.specs.Prelude.{◌≡◌, ◌<◌, ◌≤◌, ◌+◌, ◌^◌, ◌&&◌, ℕ, false, not, length, slice_index_or, slice_set, IfOk, IfSome};
 ghost use Rattle.std.specs.Option.{option_map_or};
 ghost use Rattle.facet_model.specs.Flags.{Config};
@@ -20,7 +20,8 @@ fn rolls_up(flags: DimFlags) -> bool
     flags.hierarchical && !flags.multi_valued
 }
 
-/// For each dimension of the view, whether its counts are rolled up: the config is asked once a dimension.
+/// Returns for each dimension of the view whether its counts are rolled up. It looks each dimension up in the config
+/// once. Errors: out of memory.
 pub fn rolled_dims(
     alloc: Global,
     view: &TaxoView,
@@ -38,7 +39,7 @@ pub fn rolled_dims(
     Ok(rolled)
 }
 
-/// What a label's count goes to: the parent, where the count is rolled up and the parent is not the root.
+/// Returns what a label's count is added to: the parent, if the count is rolled up and the parent is not the root.
 pub fn next(view: &TaxoView, mark: bool, ord: u32) -> Option<u32>
     requires some { 0 < ord }
     requires within { ord < length view.now }
@@ -51,7 +52,7 @@ pub fn next(view: &TaxoView, mark: bool, ord: u32) -> Option<u32>
     if parent == 0 { None } else { Some(parent) }
 }
 
-// Adds a label's count to what it goes to, by the mark of its dimension.
+// Adds a label's count to the next one, if its dimension is marked.
 fn go_up(view: &TaxoView, mark: bool, counts: &mut [u32], ord: usize)
     requires some { 0 < ord }
     requires within { ord < length view.now }
@@ -66,7 +67,8 @@ fn go_up(view: &TaxoView, mark: bool, counts: &mut [u32], ord: usize)
     }
 }
 
-/// Rolls the counts up, from the last label to the first: so a label's count is whole before it goes to the parent.
+/// Rolls the counts up, from the last label to the first, so that a label's count is complete before it is added to the
+/// parent's.
 pub fn roll(view: &TaxoView, rolled: &[bool], counts: &mut [u32])
     requires { (config : Config) × (added : ℕ) × IsCounter (record { labels = view.now; config = config; own = counts.old; added = added }) rolled.now }
     ensures { (config : Config) (added : ℕ) → IsCounter (record { labels = view.now; config = config; own = counts.old; added = added }) rolled.now

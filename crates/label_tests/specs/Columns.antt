@@ -1,4 +1,4 @@
--- Lists of ordinals that a column is made of.
+-- The lists of ordinals of a column.
 use Rattle.std.specs.Prelude.{List, ℕ}
 use Rattle.facet_model.specs.Flags.{Config}
 use Rattle.seg_postings.specs.Bytes.{AreNumbers}

@@ -8,7 +8,7 @@ use Rattle.facet_names.specs.Paths.{is_under}
 abbrev pub child_of : List (List ℕ) → List (List ℕ) → Option (List ℕ)
 child_of path label = if is_under label path then slice_get label (length path) else None
 
--- the list with one more component, if it has it not yet
+-- the list with one more component, unless it has it already
 abbrev pub with_part : List (List ℕ) → Option (List ℕ) → List (List ℕ)
 with_part parts None = parts
 with_part parts (Some p) = if list_any (bytes_eq p) parts then parts else parts ++ p ∷ []

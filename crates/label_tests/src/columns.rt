@@ -16,7 +16,7 @@ use taxo_list::{Labelled, TaxoView};
 
 const TAGS: &[&str] = &["Tag", "Tag/a", "Tag/b", "Tag/c"];
 
-// The bytes of these ordinals.
+// Returns the bytes of these ordinals.
 fn list_of(
     alloc: Global,
     view: &TaxoView,
@@ -31,7 +31,8 @@ fn list_of(
     Ok(spelled(alloc, ords)?)
 }
 
-// A column of 130 documents: the first list for those of even numbers, the second for the others, but the third for the last two.
+// Returns a column of 130 documents: the first list for those of even numbers, the second for the others, and the third
+// for the last two.
 fn column_of(
     alloc: Global,
     view: &TaxoView,
@@ -55,7 +56,7 @@ fn column_of(
     Ok(Column::of(alloc, &lists)?)
 }
 
-// The set of these of 130 documents.
+// Returns the set of these of 130 documents.
 fn chosen(alloc: Global, docs: &[u32]) -> Result<Bits, AllocError>
     ensures words { IfOk result (λ b. b.words ≡ 3) }
     ensures below { IfOk result (λ b. (n : ℕ) → is_in n b.places ≡ true → n < 130) }
@@ -69,7 +70,7 @@ fn chosen(alloc: Global, docs: &[u32]) -> Result<Bits, AllocError>
     Ok(set)
 }
 
-// The counts of these documents.
+// Returns the counts of these documents.
 fn counts_of<'a>(
     alloc: Global,
     view: &'a TaxoView,
@@ -90,7 +91,7 @@ fn counts_of<'a>(
     Ok(counter.roll_up())
 }
 
-// Whether so many of these documents have these ordinals.
+// Returns whether this many of these documents have these ordinals.
 fn are_at(
     alloc: Global,
     view: &TaxoView,
@@ -144,7 +145,7 @@ fn are_at_all(
     are_at(alloc, view, config, column, &all, AT_ALL)
 }
 
-// The lists of even and of odd documents, and of the last two; the last ordinal is that of these alone.
+// The lists of even and of odd documents, and of the last two. Only the last two have the last ordinal.
 const KINDS: [&[u32]; 3] = [&[1, 2], &[1, 3], &[1, 2, 4]];
 
 fn are_counted_by(alloc: Global, view: &TaxoView, config: &FacetsConfig) -> Result<bool, Fail> {
@@ -157,7 +158,7 @@ fn are_tags_of(alloc: Global, view: &TaxoView) -> Result<bool, Fail> {
     are_counted_by(alloc, view, &config)
 }
 
-/// Whether tags of 130 documents are counted at some of their places.
+/// Returns whether tags of 130 documents are counted at some of their places.
 pub(crate) fn tags_are_counted(alloc: Global) -> Result<bool, Fail> {
     let view = viewed(alloc, TAGS)?;
     are_tags_of(alloc, &view)

@@ -5,7 +5,7 @@ use facet_model::{Counted, DimFlags, Document, Resolved};
 use std::alloc::Global;
 use std::test::Fail;
 
-// What is counted for a document with the labels Tag/a/b and Tag/a/c, whose prefixes have these ordinals.
+// Returns what is counted for a document with the labels Tag/a/b and Tag/a/c, whose prefixes have these ordinals.
 fn expanded(alloc: Global, config: &FacetsConfig, b: &[u32], c: &[u32]) -> Result<Counted, Fail> {
     let first = path(alloc, "Tag/a/b")?;
     let second = path(alloc, "Tag/a/c")?;

@@ -13,7 +13,7 @@ fn append(alloc: Global, id: &str, text: &str) -> Result<Event, Fail> {
     Ok(Event::Append { session: 1, doc })
 }
 
-/// A document with one label, behind the label and its parent.
+/// Returns the events that add a document with one label: the label's parent, the label and the document.
 fn added(alloc: Global, id: &str, text: &str) -> Result<Vec<Event>, Fail> {
     let mut events = Vec::new(alloc);
     events.push(label(alloc, "Author")?)?;
@@ -35,7 +35,7 @@ fn commit(alloc: Global, core: &mut Core, calls: u32) -> Result<(), Fail> {
     Ok(())
 }
 
-/// One document is committed, and of the commit of a second so many device calls are done.
+/// Commits one document, and begins to commit a second, with this many disk calls done.
 fn committing(alloc: Global, core: &mut Core, calls: u32) -> Result<(), Fail> {
     add(alloc, core, "b1", "Author/Bob")?;
     commit(alloc, core, 12)?;
@@ -47,7 +47,8 @@ fn shown(core: &Core) -> (u64, u64) {
     (core.labels(), core.operations())
 }
 
-// How many device calls of the second commit are done, whether one more fails, the choice, and what labels and operations there are then.
+// How many disk calls of the second commit are done, whether one more fails, the choice of the crash, and the numbers
+// of labels and operations afterwards.
 type Crash = (u32, bool, u32, (u64, u64));
 
 const CRASHES: &[Crash] = &[
@@ -84,7 +85,7 @@ const CRASHES: &[Crash] = &[
     (11, true, 1, (4, 2)),
 ];
 
-// A device call fails, and no other commit begins.
+// Fails a disk call, after which no other commit begins.
 fn fail(alloc: Global, core: &mut Core) -> Result<(), Fail> {
     step(alloc, core, &Event::Device { done: false })?;
     commit(alloc, core, 12)
@@ -99,7 +100,7 @@ fn crash(alloc: Global, core: &mut Core, crash: &Crash) -> Result<(), Fail> {
     Ok(step(alloc, core, &Event::Crash { keep })?)
 }
 
-// The core after the crash.
+// Returns the core after the crash.
 fn crashed(alloc: Global, row: &Crash) -> Result<Core, Fail> {
     let mut core = Core::new(alloc)?;
     crash(alloc, &mut core, row)?;
@@ -115,7 +116,7 @@ fn are_left(alloc: Global) -> Result<bool, Fail> {
     Ok(true)
 }
 
-// What was published when a crash has kept the pair of one operation and four labels.
+// What is published after a crash that kept the pair of one operation and four labels.
 const KEPT: &[Publication] = &[Publication {
     operations: 1,
     labels: 4,
@@ -142,8 +143,8 @@ fn publish(alloc: Global, core: &mut Core, session: u32) -> Result<(), Fail> {
     Ok(run(alloc, core, &events)?)
 }
 
-// A refresh between two documents, which first takes the index, or the labels, for which it is too early; and then its publication. Steps of other
-// sessions change nothing.
+// Refreshes between two documents, first taking the index, or the labels, for which it is too early; then publishes.
+// Steps of other sessions change nothing.
 fn refresh(alloc: Global, core: &mut Core, first: &Event) -> Result<(), Fail> {
     add(alloc, core, "b1", "Author/Bob")?;
     step(alloc, core, &Event::TakeLabels { session: 1 })?;
@@ -169,7 +170,7 @@ fn has_published(alloc: Global, first: &Event, expected: &[Publication]) -> Resu
     Ok(core.publications() == expected)
 }
 
-// A label whose parent does not stand, a document whose label does not, and the end of a commit that did not begin.
+// A label without its parent, a document without its label, and the end of a commit that did not begin.
 fn none_is_possible(alloc: Global) -> Result<bool, Fail> {
     let mut core = Core::new(alloc)?;
     step(alloc, &mut core, &label(alloc, "Author/Bob")?)?;

@@ -16,7 +16,7 @@ use std::test::Fail;
 use taxo_list::{Labelled, TaxoView};
 use test_keys::fixed_keys;
 
-// The flags of one hierarchical dimension.
+// Returns the flags of a hierarchical dimension.
 pub(crate) fn flags_of(multi_valued: bool, require_dim_count: bool) -> DimFlags {
     DimFlags {
         hierarchical: true,
@@ -39,7 +39,7 @@ fn is_multi_valued(view: &TaxoView, config: &FacetsConfig, ord: u32) -> bool
     config.flags(view.path_of(ord).dim()).multi_valued
 }
 
-// Whether the ordinals rise, in dimensions that are multi-valued; one alone may be in any.
+// Returns whether the ordinals rise, in multi-valued dimensions; a single one may be in any.
 pub(crate) fn may_be_added(view: &TaxoView, config: &FacetsConfig, ords: &[u32]) -> bool
     ensures counted { result ≡ true → IsCounted config.now view.now ords.now }
     ensures rising { result ≡ true → IsRising ords.now }
@@ -57,7 +57,7 @@ pub(crate) fn may_be_added(view: &TaxoView, config: &FacetsConfig, ords: &[u32])
     true
 }
 
-// The bytes of these ordinals.
+// Returns the bytes of these ordinals.
 pub(crate) fn spelled(alloc: Global, ords: &[u32]) -> Result<Vec<u8>, facet_codec::NoMemory>
     ensures { IfOk result (λ bytes. AreNumbers bytes.items ords.now) }
 {
@@ -68,7 +68,7 @@ pub(crate) fn spelled(alloc: Global, ords: &[u32]) -> Result<Vec<u8>, facet_code
     Ok(out)
 }
 
-// The counts of these lists.
+// Returns the counts of these lists.
 fn counts_of<'a>(
     alloc: Global,
     view: &'a TaxoView,
@@ -90,7 +90,7 @@ fn counts_of<'a>(
     Ok(counter.roll_up())
 }
 
-// Whether so many documents have these ordinals.
+// Returns whether this many documents have these ordinals.
 pub(crate) fn are_counted(view: &TaxoView, counts: &Counts, rows: &[(u32, u32)]) -> bool
     requires { counts.now.labels ≡ view.now }
 {

@@ -28,7 +28,8 @@ fn shop(alloc: Global) -> Result<Vec<Document>, Fail> {
     Ok(docs)
 }
 
-// The path, whether its dimension is multi-valued and its count is required, how many children are asked for, and the result; none where it is empty.
+// The path, whether its dimension is multi-valued and its count required, how many children to list, and the result, or
+// empty if there is none.
 type TopRow = (&'static str, (bool, bool), u32, &'static str);
 
 const TOPS: &[TopRow] = &[

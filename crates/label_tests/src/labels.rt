@@ -10,7 +10,7 @@ use test_keys::fixed_keys;
 const ARRAYS: &str =
     "Arrays { parents: [-1, 0, 1, 0, 3, 4, 5, 1, 5, 3, 9, 10, 1, 10, 1, 3, 15, 16], children: [3, 14, -1, 15, 5, 8, -1, -1, -1, 10, 13, -1, -1, -1, -1, 16, 17, -1], siblings: [-1, -1, -1, 1, -1, -1, -1, 2, 6, 4, -1, -1, 7, 11, 12, 9, -1, -1] }";
 
-// Puts these labels, and extends the arrays of the list before to those of the list now.
+// Adds these labels, and extends the arrays of the list before to those of the list now.
 fn go_on(
     alloc: Global,
     list: &mut Taxonomy,
@@ -25,7 +25,7 @@ fn go_on(
     Ok(())
 }
 
-// Puts these labels, and extends the arrays after each so many of them.
+// Adds these labels, and extends the arrays after each `many` of them.
 fn go_on_by(
     alloc: Global,
     list: &mut Taxonomy,
@@ -42,7 +42,7 @@ fn go_on_by(
     Ok(())
 }
 
-// The arrays of these labels, extended after each so many of them.
+// Returns the arrays of these labels, extended after each `many` of them.
 fn extended(alloc: Global, labels: &[&str], many: usize) -> Result<Arrays, Fail>
     requires { 0 < many }
 {
@@ -52,7 +52,7 @@ fn extended(alloc: Global, labels: &[&str], many: usize) -> Result<Arrays, Fail>
     Ok(arrays)
 }
 
-// The arrays of these labels, from scratch.
+// Returns the arrays of these labels, from scratch.
 fn from_scratch(alloc: Global, labels: &[&str]) -> Result<Arrays, Fail> {
     let view = viewed(alloc, labels)?;
     Ok(Arrays::from_scratch(alloc, &view)?)
@@ -75,7 +75,7 @@ fn are_extended_by(alloc: Global, many: usize) -> Result<bool, Fail>
     is_text(alloc, &arrays, ARRAYS)
 }
 
-// Extended after each so many labels: from the nine that stand after eight of them, from each, and from the root to all.
+// Extended after each eight labels, after each label, and once from the root to all.
 fn are_extended(alloc: Global) -> Result<bool, Fail> {
     Ok(are_extended_by(alloc, 8)? && are_extended_by(alloc, 1)? && are_extended_by(alloc, 17)?)
 }
@@ -99,13 +99,13 @@ fn are_linked(alloc: Global, view: &TaxoView) -> Result<bool, Fail> {
     Ok((arrays.parent(2), arrays.child(1), arrays.sibling(2)) == (1, 2, -1))
 }
 
-// Whether the links of two labels are these, by a view that threads may share.
+// Returns whether the links of two labels are these, in a view that threads may share.
 fn has_links(alloc: Global) -> Result<bool, Fail> {
     let view: TaxoView = viewed(alloc, &["Author", "Author/Bob"])?;
     Ok(may_be_shared(&view) && are_linked(alloc, &view)?)
 }
 
-// The components of all labels, and how many labels there are.
+// Returns the components of all labels, and how many labels there are, with the root.
 fn described<L: Labelled>(alloc: Global, labels: &L) -> Result<String, Fail> {
     let mut text = String::new(alloc);
     for ord in 1..labels.size() {
@@ -116,15 +116,15 @@ fn described<L: Labelled>(alloc: Global, labels: &L) -> Result<String, Fail> {
         }
         text.push(' ')?;
     }
-    let paths = labels.paths().len();
-    Ok(format!(in alloc; "{text}{paths}")?)
+    let size = labels.size();
+    Ok(format!(in alloc; "{text}{size}")?)
 }
 
 fn is_described<L: Labelled>(alloc: Global, labels: &L, expected: &str) -> Result<bool, Fail> {
     Ok(described(alloc, labels)?.as_str() == expected)
 }
 
-const DESCRIBED: &str = "Author/ Author/Bob/ Year/ 3";
+const DESCRIBED: &str = "Author/ Author/Bob/ Year/ 4";
 
 fn view_is_described(alloc: Global, list: &Taxonomy) -> Result<bool, Fail> {
     let view = list.view()?;
@@ -133,7 +133,8 @@ fn view_is_described(alloc: Global, list: &Taxonomy) -> Result<bool, Fail> {
 
 fn both_are_described(alloc: Global) -> Result<bool, Fail> {
     let list = listed(alloc, &["Author", "Author/Bob", "Year"])?;
-    Ok(is_described(alloc, &list, DESCRIBED)? && view_is_described(alloc, &list)?)
+    let both = is_described(alloc, &list, DESCRIBED)? && view_is_described(alloc, &list)?;
+    Ok(both && list.paths().len() == 3)
 }
 
 #[test]

@@ -1,5 +1,5 @@
-//! Tests of labels, documents, what is counted of them, and the core: what no run of the program shows; and the plain, slow program that says what
-//! a listing is, by which they compare.
+//! Tests of labels, documents, counts and the core, for what no invocation of the program shows. They compare with the
+//! plain, slow listing that follows the definition.
 #![tactic(auto)]
 
 #[cfg(test)]
@@ -19,5 +19,9 @@ mod making;
 #[cfg(test)]
 mod paths;
 mod plain;
+#[cfg(test)]
+mod shares;
+#[cfg(test)]
+mod views;
 
 pub use plain::plain_top;

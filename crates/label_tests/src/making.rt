@@ -1,4 +1,4 @@
-//! Paths, documents and labels, for the tests.
+//! Paths, documents and labels for the tests.
 ghost use Rattle.std.specs.Prelude.{◌≡◌, ◌<◌, IfOk};
 ghost use Rattle.facet_names.specs.Labels.{GoesOn, above, stands};
 
@@ -9,7 +9,7 @@ use std::test::Fail;
 use taxo_list::{Labelled, TaxoView, Taxonomy};
 use test_keys::fixed_keys;
 
-/// The path whose components stand between slashes.
+/// Returns the path whose components are between slashes.
 pub fn path(alloc: Global, text: &str) -> Result<Path, Fail> {
     let mut parts = Vec::new(alloc);
     for part in text.split("/") {
@@ -18,6 +18,7 @@ pub fn path(alloc: Global, text: &str) -> Result<Path, Fail> {
     Ok(Path::of(alloc, &parts)?)
 }
 
+/// Returns a document with these labels, which are paths between slashes.
 pub fn document(alloc: Global, id: &str, labels: &[&str]) -> Result<Document, Fail> {
     let mut facets = Vec::new(alloc);
     for label in labels {
@@ -29,7 +30,7 @@ pub fn document(alloc: Global, id: &str, labels: &[&str]) -> Result<Document, Fa
 fn has_parent(alloc: Global, list: &Taxonomy, path: &Path) -> Result<bool, NoMemory>
     ensures { IfOk result (λ b. b ≡ stands list.now (above path.now)) }
 {
-    // Its clause says that the root stands in the list.
+    // By its contract, the list has the root.
     let _ = list.size();
     match path.parent(alloc)? {
         Some(parent) => Ok(list.find(&parent).is_some()),
@@ -37,19 +38,26 @@ fn has_parent(alloc: Global, list: &Taxonomy, path: &Path) -> Result<bool, NoMem
     }
 }
 
-// Puts a label, whose parent stands.
+/// Adds a label whose parent is in the list.
+pub fn put_path(alloc: Global, list: &mut Taxonomy, path: &Path) -> Result<(), Fail>
+    ensures { GoesOn list.old list.new }
+{
+    if !has_parent(alloc, list, path)? {
+        return Err("no parent".into());
+    }
+    list.add(path, 20_000)?;
+    Ok(())
+}
+
+// Adds a label whose parent is in the list.
 fn put(alloc: Global, list: &mut Taxonomy, text: &str) -> Result<(), Fail>
     ensures { GoesOn list.old list.new }
 {
     let path = path(alloc, text)?;
-    if !has_parent(alloc, list, &path)? {
-        return Err("no parent".into());
-    }
-    list.add(&path, 1000)?;
-    Ok(())
+    put_path(alloc, list, &path)
 }
 
-/// Puts these labels.
+/// Adds these labels.
 pub fn put_all(alloc: Global, list: &mut Taxonomy, labels: &[&str]) -> Result<(), Fail>
     ensures { GoesOn list.old list.new }
 {
@@ -59,14 +67,14 @@ pub fn put_all(alloc: Global, list: &mut Taxonomy, labels: &[&str]) -> Result<()
     Ok(())
 }
 
-/// A list of these labels.
+/// Returns a list of these labels.
 pub fn listed(alloc: Global, labels: &[&str]) -> Result<Taxonomy, Fail> {
     let mut list = Taxonomy::new(alloc, fixed_keys()?)?;
     put_all(alloc, &mut list, labels)?;
     Ok(list)
 }
 
-/// A view of these labels.
+/// Returns a view of these labels.
 pub fn viewed(alloc: Global, labels: &[&str]) -> Result<TaxoView, Fail> {
     let list = listed(alloc, labels)?;
     Ok(list.view()?)

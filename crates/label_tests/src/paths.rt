@@ -10,7 +10,7 @@ fn fault(alloc: Global, parts: &[&str]) -> Option<PathFault> {
     }
 }
 
-// Whether a component of so many letters é is refused at its place, before an empty one behind it.
+// Returns whether a component of this many letters é is rejected at its place, before an empty one after it.
 fn is_too_long(alloc: Global) -> Result<bool, Fail> {
     let long = "é".repeat(alloc, 513)?;
     let found = fault(alloc, &["A", "b", long.as_str(), ""]);
@@ -65,7 +65,7 @@ fn is_year(alloc: Global) -> Result<bool, Fail> {
     Ok(has_parts(&year) && refuses_child(alloc, &year) && has_child(alloc, &year)?)
 }
 
-// Whether the parent of the date, copied, is the year.
+// Returns whether the parent of the date, copied, is the year.
 fn has_parent(alloc: Global, date: &Path) -> Result<bool, Fail> {
     match date.parent(alloc)? {
         Some(parent) => is_path(alloc, &parent.dup(alloc)?, YEAR),
@@ -83,7 +83,7 @@ fn is_dim(alloc: Global) -> Result<bool, Fail> {
     Ok(is_path(alloc, &dim, DIM)? && dim.parent(alloc)? == None)
 }
 
-// Whether the parts, the parent and the child of a date are what they should be.
+// Returns whether the parts, the parent and the child of a date are as expected.
 fn is_taken_apart(alloc: Global) -> Result<bool, Fail> {
     Ok(is_year(alloc)? && is_date(alloc)? && is_dim(alloc)?)
 }
@@ -141,7 +141,7 @@ fn places(alloc: Global) -> Result<HashMap<Path, usize>, Fail> {
     Ok(places)
 }
 
-// Whether each path is found in a map.
+// Returns whether each path is found in a map.
 fn are_found(alloc: Global) -> Result<bool, Fail> {
     let places = places(alloc)?;
     for (place, path) in rising(alloc)?.iter().enumerate() {
@@ -174,7 +174,7 @@ const SPELLED: &[(&[&str], &str)] = &[
     (&["é"], "é"),
 ];
 
-// Whether each path is spelled so, and read from it.
+// Returns whether each path has this term text, and is read from it.
 fn are_spelled(alloc: Global) -> Result<bool, Fail> {
     for (parts, text) in SPELLED {
         if !has_term_text(alloc, *parts, *text)? || !is_read(alloc, *parts, *text)? {

@@ -47,7 +47,7 @@ fn note(alloc: Global, parts: &mut Vec<Word>, part: Option<&str>) -> Result<(), 
     Ok(())
 }
 
-/// The components right below the path in a document's labels, each once.
+/// Returns the components directly below the path in a document's labels, each once.
 fn parts_of(alloc: Global, doc: &Document, path: &Path) -> Result<Vec<Word>, NoMemory>
     ensures each { IfOk result (λ v. (q : List ℕ) → count_by (bytes_eq q) v.items ≡ (if has doc.now (path.now ++ q ∷ []) then 1 else 0)) }
     ensures few { IfOk result (λ v. length v.items ≤ 256) }
@@ -59,7 +59,7 @@ fn parts_of(alloc: Global, doc: &Document, path: &Path) -> Result<Vec<Word>, NoM
     Ok(parts)
 }
 
-/// The components right below the path, once for each document that has them.
+/// Returns the components directly below the path, once for each document that has them.
 fn parts_below(alloc: Global, docs: &[Document], path: &Path) -> Result<Vec<Word>, NoMemory>
     ensures each { IfOk result (λ v. (q : List ℕ) → count_by (bytes_eq q) v.items ≡ count docs.now (path.now ++ q ∷ [])) }
     ensures few { IfOk result (λ v. length v.items ≤ 256 * length docs.now) }
@@ -104,14 +104,14 @@ fn listing(alloc: Global, parts: Vec<Word>) -> Result<Vec<Child>, NoMemory>
     ensures few { IfOk result (λ v. length v.items ≤ length parts.items) }
 {
     let counts = tally(alloc, parts)?;
-    // Its clause says that the keys are in order.
+    // By its contract, the keys are in order.
     let _ = counts.len();
     let mut children = children_of(alloc, counts)?;
     children.sort()?;
     Ok(children)
 }
 
-/// The value of a path whose children's counts have this sum.
+/// Returns the value of a path whose children's counts have this sum.
 fn value_for(flags: DimFlags, docs: &[Document], path: &Path, sum: usize) -> i64
     requires sum { sum < 2 ^ 32 }
     requires docs { length docs.now < 2 ^ 24 }
@@ -126,10 +126,11 @@ fn value_for(flags: DimFlags, docs: &[Document], path: &Path, sum: usize) -> i64
     }
 }
 
-/// The `n` children of a path that the most documents have, as the definition says it: `dim_flags` are those of the path's dimension. There is
-/// no result where no document has a label below the path.
+/// Returns the `n` children of a path that the most documents have, as the definition says. `dim_flags` are those of
+/// the path's dimension. It returns `None` if no document has a label below the path.
 ///
-/// It goes over all labels of all documents, and takes memory for each child and for each pair of a document and a child of it.
+/// It visits all labels of all documents, and allocates memory for each child and for each pair of a document and a
+/// child of it. Errors: out of memory.
 pub fn plain_top(
     alloc: Global,
     dim_flags: DimFlags,

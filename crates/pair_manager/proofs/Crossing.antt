@@ -3,8 +3,7 @@ use denote.RattleType.{RattleType}
 use denote.Param.Send.{IsSend, IsSync, sendable}
 use Rattle.std.proofs.Crossing.{crosses as owned}
 use Rattle.chronicle.proofs.Crossing.{crosses as tokens}
-use Rattle.taxo_list.specs.contracts.view.TaxoView as labels
-use Rattle.taxo_cache.proofs.Crossing.{path_send, path_sync}
+use Rattle.taxo_list.proofs.Crossing.{view_send, view_sync}
 use Rattle.taxo_cache.specs.declared.name.Name.{Ghosts}
 use Rattle.taxo_writer.proofs.Crossing.{writer_send, writer_sync}
 use Rattle.index_state.proofs.Crossing.{segment_send, segment_sync, config_send, config_sync, state_send as index_send}
@@ -14,13 +13,7 @@ use Rattle.pair_manager.specs.contracts.pair.Pair as pair
 use Rattle.pair_manager.specs.contracts.pass.Pass as pass
 use Rattle.pair_manager.specs.contracts.state.PairState as state
 
-labels_send : IsSend labels.the_row
-labels_send = search (sendable, owned, path_send) depth 40
-
-labels_sync : IsSync labels.the_row
-labels_sync = search (sendable, owned, path_sync) depth 40
-
-ruleset parts = (labels_send, labels_sync, segment_send, segment_sync, config_send, config_sync)
+ruleset parts = (view_send, view_sync, segment_send, segment_sync, config_send, config_sync)
 
 pub pair_send : IsSend pair.the_row
 pair_send = search (sendable, owned, tokens, parts) depth 20

@@ -1,7 +1,7 @@
 ghost use Rattle.std.specs.Prelude.{◌≡◌};
 ghost use Rattle.seg_decoding.specs.Opening.{first_difference};
 
-/// The first place where two lists of bytes differ; where one is longer, its first byte more.
+/// Returns the first place where two lists of bytes differ, or `None`. If one is longer, that is its first byte more.
 pub(crate) fn first_difference(left: &[u8], right: &[u8]) -> Option<u64>
     ensures { result ≡ first_difference left.now right.now }
 {

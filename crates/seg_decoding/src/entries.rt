@@ -1,5 +1,5 @@
-//! The documents that a segment's records stand for, with their ordinals found anew.
-ghost use Rattle.std.specs.Prelude.{◌≡◌, ◌<◌, ◌≤◌, ◌+◌, ◌*◌, ◌^◌, ◌++◌, ◌&&◌, nat_lt, ℕ, List, Some, All, IfOk, OnOk, length, map, slice_get};
+//! The documents of a segment's records, with their ordinals computed again.
+ghost use Rattle.std.specs.Prelude.{◌≡◌, ◌<◌, ◌≤◌, ◌+◌, ◌*◌, ◌^◌, ◌++◌, ◌&&◌, nat_lt, ℕ, List, Some, All, IfOk, length, map, slice_get};
 ghost use Rattle.facet_names.specs.Labels.{IsLabelList};
 ghost use Rattle.facet_model.specs.CountedPaths.{counted_ordinals};
 ghost use Rattle.facet_model.specs.Stored.{AreLabelsAt};
@@ -22,7 +22,7 @@ use seg_file::{Entry, Ords, Segment};
 use std::alloc::Global;
 use taxo_list::{Labelled, Taxonomy};
 
-/// These ordinals, in their order.
+/// Returns the ordinals as a vector, in order. Errors: out of memory.
 pub fn ordinals_of(alloc: Global, mut leaves: Ords<'_>) -> Result<Vec<u32>, NoMemory>
     ensures { IfOk result (λ v. v.items ≡ leaves.entry) }
 {
@@ -33,14 +33,14 @@ pub fn ordinals_of(alloc: Global, mut leaves: Ords<'_>) -> Result<Vec<u32>, NoMe
     Ok(ordinals)
 }
 
-/// Whether it is the ordinal of a label after the root, below `needs`.
+/// Returns whether this is the ordinal of a label after the root, below `needs`.
 pub(crate) fn is_leaf(needs: u32, leaf: u32) -> bool
     ensures { result ≡ (nat_lt 0 leaf && nat_lt leaf needs) }
 {
     0 < leaf && leaf < needs
 }
 
-// Each of the leaves, the first of which stands at a place, is from 1 to `needs` - 1.
+// Checks that each of the leaves is from 1 to `needs` - 1. The first leaf is at the place `at`.
 fn check_leaves(needs: u32, leaves: &[u32], at: u64) -> Result<(), StoredFault>
     requires few { length leaves.now ≤ 256 }
     requires at { at < 2 ^ 63 }
@@ -56,33 +56,32 @@ fn check_leaves(needs: u32, leaves: &[u32], at: u64) -> Result<(), StoredFault>
     Ok(())
 }
 
-/// The labels at these ordinals, each with memory of its own.
+/// Copies the labels at these ordinals. Errors: out of memory.
 pub fn labels_at<L: Labelled>(
     alloc: Global,
     labels: &L,
     ordinals: &[u32],
 ) -> Result<Vec<Path>, NoMemory>
     requires { All (IsLeaf (length (L.labels labels.now))) ordinals.now }
-    ensures labels { IfOk result (λ v. AreLabelsAt (L.labels labels.now) ordinals.now v.items) }
-    ensures list { IsLabelList (L.labels labels.now) }
+    ensures { IfOk result (λ v. AreLabelsAt (L.labels labels.now) ordinals.now v.items) }
 {
-    let paths = labels.paths();
     let mut copies = Vec::with_capacity(alloc, ordinals.len())?;
     for ord in ordinals {
-        let path = paths[*ord as usize - 1].dup(alloc)?;
+        let path = labels.path_of(*ord).dup(alloc)?;
         copies.push(path)?;
     }
     Ok(copies)
 }
 
-// A record is within the limits of a document, so that nothing but memory can be wanting.
+// A record is within the limits of a document, so the only fault is out of memory.
 fn no_memory(fault: DocShape) -> NoMemory
     requires { fault ≡ Memory }
 {
     NoMemory
 }
 
-/// The document that a segment has at a place, whose labels are those at its leaves. It copies the id, the text and the labels.
+/// Returns the document of a segment at a place. Its labels are those at its leaves. It copies the id, the text and the
+/// labels. Errors: out of memory.
 pub fn document_of<L: Labelled>(
     alloc: Global,
     labels: &L,
@@ -95,7 +94,6 @@ pub fn document_of<L: Labelled>(
     requires within { All (IsLeaf (length (L.labels labels.now))) leaves.now }
     ensures doc { IfOk result (λ d. d ≡ doc_in (L.labels labels.now) (record_of segment.now doc)) }
     ensures labels { IfOk result (λ d. AreLabelsAt (L.labels labels.now) leaves.now d.labels) }
-    ensures list { IsLabelList (L.labels labels.now) }
 {
     let paths = labels_at(alloc, labels, leaves)?;
     match Document::new(alloc, segment.id(doc), segment.text(doc), paths) {
@@ -104,7 +102,7 @@ pub fn document_of<L: Labelled>(
     }
 }
 
-/// The document with its leaves, and with the ordinals that are counted for it.
+/// Returns the document with its leaves and the ordinals that are counted for it. Errors: out of memory.
 pub(crate) fn entry_of(
     alloc: Global,
     config: &FacetsConfig,
@@ -131,7 +129,7 @@ pub(crate) fn entry_of(
     })
 }
 
-// The document of a record that begins at a place, with its ordinals found anew, where it fits.
+// Returns the document of a record that begins at a place, with its ordinals computed again, if it fits.
 fn entry_at(
     alloc: Global,
     config: &FacetsConfig,
@@ -141,6 +139,7 @@ fn entry_at(
     doc: u32,
     at: u64,
 ) -> Result<Entry, StoredFault>
+    requires list { IsLabelList labels.now }
     requires needs { needs ≤ length labels.now }
     requires there { doc < length segment.now.records }
     requires fits { IsRecord (record_of segment.now doc) }
@@ -148,7 +147,6 @@ fn entry_at(
     ensures fits { Gives (λ _. tt) result (document_fits config.now labels.now needs at (record_of segment.now doc)) }
     ensures doc { IfOk result (λ e. e.doc ≡ doc_in labels.now (record_of segment.now doc)) }
     ensures stored { IfOk result (λ e. stored_of e ≡ counted_anew config.now labels.now (record_of segment.now doc)) }
-    ensures list { OnOk result (IsLabelList labels.now) }
 {
     let leaves = ordinals_of(alloc, segment.leaves(doc))?;
     check_leaves(needs, &leaves, leaves_place(segment, doc, at))?;
@@ -161,7 +159,8 @@ fn entry_at(
     Ok(entry)
 }
 
-/// The documents of a segment, in order, with their ordinals found anew, where each fits.
+/// Returns the documents of a segment, in order, with their ordinals computed again. Errors: the first document that
+/// does not fit; out of memory.
 pub(crate) fn entries_of(
     alloc: Global,
     config: &FacetsConfig,
@@ -169,11 +168,11 @@ pub(crate) fn entries_of(
     needs: u32,
     segment: &Segment,
 ) -> Result<Vec<Entry>, StoredFault>
-    requires { needs ≤ length labels.now }
+    requires list { IsLabelList labels.now }
+    requires needs { needs ≤ length labels.now }
     ensures fits { Gives (λ _. tt) result (documents_fit config.now labels.now needs 12 segment.now.records) }
     ensures docs { IfOk result (λ v. docs_of v.items ≡ map (doc_in labels.now) segment.now.records) }
     ensures stored { IfOk result (λ v. map stored_of v.items ≡ map (counted_anew config.now labels.now) segment.now.records) }
-    ensures list { OnOk result (IsLabelList labels.now) }
 {
     let docs = segment.docs();
     let mut entries = Vec::with_capacity(alloc, docs as usize)?;

@@ -1,4 +1,4 @@
-//! What is known of a label before the documents that have it are looked at.
+//! What is known of a label before the documents that have it are checked.
 ghost use Rattle.std.specs.Prelude.{◌≡◌, ◌≤◌, ◌<◌, ℕ, [], ◌∷◌, length, All, IfOk, OnOk};
 ghost use Rattle.facet_names.specs.Labels.{IsLabelList, prefixes};
 ghost use Rattle.facet_model.specs.CountedPaths.{counted_ordinals};
@@ -21,15 +21,15 @@ use taxo_list::{Labelled, Taxonomy};
 pub struct LabelFacts {
     /// Its ordinal.
     pub ord: u32,
-    /// Its dimension may stand more than once in a document.
+    /// Whether its dimension may occur more than once in a document.
     pub multi_valued: bool,
-    /// What is counted for a document that has it alone.
+    /// What is counted for a document that has only this label.
     pub counted: Counted,
-    /// Where the terms of its prefixes stand among the segment's.
+    /// The indexes of the terms of its prefixes among the segment's.
     pub terms: Vec<usize>,
 }
 
-/// Where a term stands among the segment's, if it is stored.
+/// Returns the index of a term among the segment's. Errors: `Differs` if it is not stored.
 pub(crate) fn find_term(segment: &Segment, term: &str) -> Result<usize, Unlike>
     ensures there { IfOk result (λ at. at < length segment.now.terms) }
     ensures is { IfOk result (λ at. (term_of segment.now.terms at).0 ≡ term.now) }
@@ -44,7 +44,7 @@ pub(crate) fn find_term(segment: &Segment, term: &str) -> Result<usize, Unlike>
     Ok(at)
 }
 
-// Where the terms of a label's prefixes stand. The text of each goes on from the one before it.
+// Returns the indexes of the terms of a label's prefixes. The text of each continues the one before it.
 fn find_prefixes(alloc: Global, segment: &Segment, label: &Path) -> Result<Vec<usize>, Unlike>
     ensures there { IfOk result (λ v. All (λ at. at < length segment.now.terms) v.items) }
     ensures texts { IfOk result (λ v. texts_at segment.now.terms v.items ≡ path_terms (prefixes label.now)) }
@@ -60,14 +60,15 @@ fn find_prefixes(alloc: Global, segment: &Segment, label: &Path) -> Result<Vec<u
     Ok(terms)
 }
 
-// What is counted for a document that has the label alone.
+// Returns what is counted for a document that has only this label.
 fn counted_alone(
     alloc: Global,
     config: &FacetsConfig,
     labels: &Taxonomy,
     ord: u32,
 ) -> Result<Counted, Unlike>
-    requires { IsLeaf (length labels.now) ord }
+    requires list { IsLabelList labels.now }
+    requires leaf { IsLeaf (length labels.now) ord }
     ensures { IfOk result (λ c. c ≡ counted_ordinals labels.now config.now (label_of labels.now ord ∷ [])) }
 {
     let mut leaves = Vec::with_capacity(alloc, 1)?;
@@ -78,7 +79,8 @@ fn counted_alone(
     Ok(entry.counted)
 }
 
-/// What is known of a label of which a document is accepted, whose terms are stored.
+/// Returns what is known of a label. Errors: `Differs` if no document with it is accepted, or if a term of it is not
+/// stored; out of memory.
 pub(crate) fn facts_of(
     alloc: Global,
     config: &FacetsConfig,
@@ -87,6 +89,7 @@ pub(crate) fn facts_of(
     segment: &Segment,
     ord: u32,
 ) -> Result<LabelFacts, Unlike>
+    requires list { IsLabelList labels.now }
     requires needs { needs ≤ length labels.now }
     requires leaf { IsLeaf needs ord }
     ensures facts { IfOk result (λ f. AreFacts config.now labels.now needs segment.now.terms f) }

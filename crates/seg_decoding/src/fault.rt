@@ -5,12 +5,12 @@ use facet_names::NoMemory;
 use seg_grammar::SegFault;
 use std::alloc::{AllocError, AllocFailed};
 
-/// Why bytes are no segment of a store.
+/// Why bytes are not a segment of a store.
 #[derive(Clone, Copy, Debug, PartialEq, Eq)]
 pub enum StoredFault {
-    /// The first fault stands at this place, in bytes from the first one of all.
+    /// The first fault is at this place, in bytes from 0.
     Malformed { at: u64 },
-    /// An allocation was refused.
+    /// Out of memory.
     NoMemory,
 }
 

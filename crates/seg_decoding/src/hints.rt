@@ -6,13 +6,13 @@ use crate::unlike::Unlike;
 use seg_file::Segment;
 use std::alloc::Global;
 
-/// Where terms were found, by a hash of their text. Two terms with one hash put each other out.
+/// Where terms were found, by a hash of their text. Two terms with one hash replace each other.
 #[derive(Drop)]
 pub struct TermHints {
     places: Vec<usize>,
 }
 
-// FNV-1a.
+// FNV-1a
 fn hash(text: &[u8]) -> usize {
     let mut hash: usize = 0xcbf2_9ce4_8422_2325;
     for byte in text {
@@ -22,14 +22,15 @@ fn hash(text: &[u8]) -> usize {
 }
 
 impl TermHints {
-    /// No term was found. It takes 8 bytes for each of so many terms.
+    /// Returns hints without a term. It takes 8 bytes for each of `terms` terms. Errors: out of memory.
     pub fn new(alloc: Global, terms: usize) -> Result<TermHints, Unlike> {
         let mut places = Vec::new(alloc);
         places.resize(terms, 0)?;
         Ok(TermHints { places })
     }
 
-    /// Where a term stands among the segment's, if it is stored. It bisects only where the term was not found before.
+    /// Returns the index of a term among the segment's. A term that was found before takes one comparison, and others a
+    /// binary search. Errors: `Differs` if it is not stored.
     pub fn find(&mut self, segment: &Segment, term: &str) -> Result<usize, Unlike>
         ensures there { IfOk result (λ at. at < length segment.now.terms) }
         ensures is { IfOk result (λ at. (term_of segment.now.terms at).0 ≡ term.now) }

@@ -1,5 +1,5 @@
-//! What documents stored segments stand for, and opening a segment that was stored: it is answered exactly where its bytes are what is written for its
-//! documents.
+//! The documents that stored segments represent, and opening a stored segment: it is opened exactly if its bytes are
+//! those that are written for its documents.
 #![tactic(auto)]
 
 mod difference;

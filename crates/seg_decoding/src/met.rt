@@ -1,5 +1,6 @@
 ghost use Rattle.std.specs.Prelude.{◌≡◌, ◌≤◌, ◌<◌, length, IfOk, OnOk};
 ghost use Rattle.std.specs.List.{AllByRecursion};
+ghost use Rattle.facet_names.specs.Labels.{IsLabelList};
 ghost use Rattle.seg_decoding.specs.Answers.{IsLeaf};
 ghost use Rattle.seg_decoding.specs.Facts.{AreFacts, HasFacts};
 
@@ -11,16 +12,18 @@ use seg_file::Segment;
 use std::alloc::Global;
 use taxo_list::Taxonomy;
 
-/// The labels that were met, with what is known of each. It takes 8 bytes for each label that there is, and about 150 for each that was met.
+/// The labels that occurred so far, with what is known of each. It takes 8 bytes for each label that there is, and
+/// about 150 for each that occurred.
 #[derive(Drop)]
 pub struct MetLabels {
-    /// By ordinal, where the facts of a label stand that was met.
+    /// By ordinal, the place of the label's facts, if it occurred.
     pub places: Vec<usize>,
+    /// What is known of each label that occurred.
     pub facts: Vec<LabelFacts>,
 }
 
 impl MetLabels {
-    /// No label was met, of so many.
+    /// Returns that none of `labels` labels occurred. Errors: out of memory.
     pub fn new(alloc: Global, labels: usize) -> Result<MetLabels, Unlike>
         ensures size { IfOk result (λ m. length m.places.items ≡ labels) }
         ensures none { IfOk result (λ m. length m.facts.items ≡ 0) }
@@ -33,7 +36,8 @@ impl MetLabels {
         })
     }
 
-    /// Where the facts of a label stand. They are found out where it is met first.
+    /// Returns the place of a label's facts. They are computed when the label first occurs. Errors: those of
+    /// `facts_of`; `Differs` if there is no such label.
     pub fn meet(
         &mut self,
         alloc: Global,
@@ -43,6 +47,7 @@ impl MetLabels {
         segment: &Segment,
         ord: u32,
     ) -> Result<usize, Unlike>
+        requires list { IsLabelList labels.now }
         requires needs { needs ≤ length labels.now }
         requires size { needs ≤ length self.old.places.items }
         requires met { AllByRecursion (AreFacts config.now labels.now needs segment.now.terms) self.old.facts.items }

@@ -1,4 +1,5 @@
 ghost use Rattle.std.specs.Prelude.{◌≡◌, ◌≤◌, ◌<◌, Ok, All, IfOk, IfErr, length, map};
+ghost use Rattle.facet_names.specs.Labels.{IsLabelList};
 ghost use Rattle.facet_model.specs.Stored.{IsSegmentOf};
 ghost use Rattle.seg_grammar.specs.Spelling.{IsSegment, seg_bytes};
 ghost use Rattle.seg_decoding.specs.Answers.{Fails, Gives, IsLeaf};
@@ -18,7 +19,7 @@ use std::alloc::Global;
 use std::hash::RandomState;
 use taxo_list::{Labelled, Taxonomy};
 
-// The first bytes are those of a segment that has so many documents.
+// Checks that the first bytes are those of a segment with this number of documents.
 fn check_head(bytes: &[u8], documents: u32) -> Result<(), StoredFault>
     ensures { Gives (λ _. tt) result (head_fits documents bytes.now) }
 {
@@ -42,7 +43,7 @@ fn check_head(bytes: &[u8], documents: u32) -> Result<(), StoredFault>
     Ok(())
 }
 
-// The segment that the bytes are, if it has so many documents.
+// Opens the segment in the bytes, if it has this number of documents.
 #[tactic(auto, unfolding(crate::specs::Opening::opened))]
 fn opened(alloc: Global, documents: u32, bytes: Vec<u8>) -> Result<Segment, StoredFault>
     ensures read { Gives (λ s. s) result (opened documents bytes.items) }
@@ -53,7 +54,7 @@ fn opened(alloc: Global, documents: u32, bytes: Vec<u8>) -> Result<Segment, Stor
     Ok(segment)
 }
 
-// Makes the documents and the segment anew, to find the first byte that differs.
+// Makes the documents and the segment again, to find the first byte that differs.
 fn compare_anew(
     alloc: Global,
     keys: RandomState,
@@ -62,6 +63,7 @@ fn compare_anew(
     needs: u32,
     segment: &Segment,
 ) -> Result<(), StoredFault>
+    requires list { IsLabelList labels.now }
     requires needs { needs ≤ length labels.now }
     requires some { 0 < length segment.now.records }
     requires few { length segment.now.records ≤ 1000000 }
@@ -76,7 +78,7 @@ fn compare_anew(
     }
 }
 
-// The bytes of the segment are what is written for its documents.
+// Checks that the bytes of the segment are those that are written for its documents.
 fn check_documents(
     alloc: Global,
     keys: RandomState,
@@ -98,17 +100,19 @@ fn check_documents(
     }
 }
 
-/// Opens a segment of 1 to 1,000,000 documents that was stored, under a list of labels of which it needs the first `needs`. It is answered exactly where
-/// the bytes are what is written for its documents: the leaves are ordinals of labels, the config accepts each document, and the ordinals that are
-/// counted and the terms are those of the documents.
+/// Opens a stored segment of 1 to 1,000,000 documents, and checks it. It needs the first `needs` labels of the list.
+/// The bytes have to be exactly those that are written for its documents: the leaves are ordinals of labels, the config
+/// accepts each document, and the counted ordinals and the terms are those of the documents. `keys` are hash keys; no
+/// result depends on them.
 ///
-/// Else the place of the first fault is told. The number of documents is looked at before all that stands behind it, then the form of the bytes, then
-/// each document: a leaf that is none of the labels is told where it stands, a document that is not accepted where it begins. In the end each byte is
-/// compared. Beside a refused allocation it answers that there is no memory where the documents have 2^32 terms or more.
+/// Costs: it reads a valid segment once, and makes no document. While it works that takes 8 bytes for each label that
+/// there is, 16 for each term, and about 150 for each label that a document has. It keeps the bytes, and what
+/// `Segment::open` keeps with them.
 ///
-/// A segment that is answered is read once, and no document is made: in between that takes 8 bytes for each label that there is, 16 for each term, and
-/// some 150 for each label that a document has. For another one the documents and the segment are made anew, to find the first fault, which takes the time
-/// and memory of adding them all. It keeps the given bytes and their index, 16 bytes a document and 8 a term.
+/// Errors: the place of the first fault. The number of documents is checked before everything after it, then the form
+/// of the bytes, then each document: a leaf that is not a label is reported where it is, a rejected document where it
+/// begins. At the end every byte is compared. To find the fault the documents and the segment are made again, in the
+/// time and memory of adding them all. Out of memory, also for 2^32 terms or more.
 pub fn open_stored(
     alloc: Global,
     keys: RandomState,

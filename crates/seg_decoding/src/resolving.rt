@@ -1,4 +1,4 @@
-//! The ordinals of labels that stand in a list of labels.
+//! The ordinals of labels in a list.
 ghost use Rattle.std.specs.Prelude.{◌≡◌, Some, IsTrue, All, IfOk, OnOk, map, slice_get};
 ghost use Rattle.std.specs.List.{list_all};
 ghost use Rattle.facet_names.specs.Labels.{prefixes, stands};
@@ -10,7 +10,7 @@ use facet_names::{NoMemory, Path};
 use std::alloc::Global;
 use taxo_list::Taxonomy;
 
-// The ordinals of a path's prefixes, the dimension's first.
+// Returns the ordinals of a path's prefixes, the dimension's first.
 fn resolve(alloc: Global, labels: &Taxonomy, path: &Path) -> Result<Resolved, NoMemory>
     requires { IsTrue (list_all (stands labels.now) (prefixes path.now)) }
     ensures ordinals { IfOk result (λ r. map (slice_get labels.now) r ≡ map Some (prefixes path.now)) }
@@ -25,7 +25,7 @@ fn resolve(alloc: Global, labels: &Taxonomy, path: &Path) -> Result<Resolved, No
     Ok(Resolved::new(ords))
 }
 
-/// The ordinals of the prefixes of each path.
+/// Returns the ordinals of the prefixes of each path. Errors: out of memory.
 pub(crate) fn resolve_all(
     alloc: Global,
     labels: &Taxonomy,

@@ -1,4 +1,4 @@
-//! Where the parts of a record stand.
+//! Where the parts of a record are.
 ghost use Rattle.std.specs.Prelude.{◌≡◌, ◌≤◌, ◌<◌, ◌+◌, ◌^◌, length};
 ghost use Rattle.facet_codec.specs.Spelling.{vint};
 ghost use Rattle.seg_grammar.specs.Lookups.{record_of};
@@ -7,7 +7,7 @@ ghost use Rattle.seg_decoding.specs.Opening.{leaves_place};
 
 use seg_file::Segment;
 
-// How many bytes a count takes, seven bits a byte.
+// Returns how many bytes a count takes, seven bits per byte.
 fn count_size(n: usize) -> u64
     requires { n < 2097152 }
     ensures size { result ≡ length (vint n) }
@@ -22,7 +22,7 @@ fn count_size(n: usize) -> u64
     }
 }
 
-/// Where the first leaf of a record stands that begins at a place.
+/// Returns the place of the first leaf of a record that begins at `at`.
 pub(crate) fn leaves_place(segment: &Segment, doc: u32, at: u64) -> u64
     requires there { doc < length segment.now.records }
     requires fits { IsRecord (record_of segment.now doc) }
@@ -37,7 +37,7 @@ pub(crate) fn leaves_place(segment: &Segment, doc: u32, at: u64) -> u64
     at + before + count_size(leaves)
 }
 
-/// Where the record after one begins that begins at a place.
+/// Returns the place of the record after the one that begins at `at`.
 pub(crate) fn next_record(segment: &Segment, doc: u32, at: u64) -> u64
     requires there { doc < length segment.now.records }
     requires fits { IsRecord (record_of segment.now doc) }

@@ -2,11 +2,11 @@ use facet_model::DocShape;
 use facet_names::NoMemory;
 use std::alloc::{AllocError, AllocFailed};
 
-/// Why a segment is not seen to be its documents' own.
+/// Why a segment is not known to be that of its documents.
 pub enum Unlike {
-    /// It is not, as far as was looked.
+    /// It differs, or the check ended early.
     Differs,
-    /// An allocation was refused.
+    /// Out of memory.
     NoMemory,
 }
 

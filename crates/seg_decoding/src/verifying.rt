@@ -1,4 +1,4 @@
-//! Whether a stored segment is what is written for its documents, seen in one pass and without making a document.
+//! Checks that a stored segment is what is written for its documents, in one pass and without making a document.
 ghost use Rattle.std.specs.Prelude.{◌≡◌, ◌≤◌, ◌<◌, ◌++◌, ◌||◌, ℕ, List, [], ◌∷◌, true, not, length, map, All, OnOk, IfOk};
 ghost use Rattle.std.specs.List.{AllByRecursion, list_any};
 ghost use Rattle.std.specs.Str.{bytes_eq};
@@ -23,10 +23,12 @@ use seg_file::{Ords, Segment};
 use std::alloc::Global;
 use taxo_list::{Labelled, Taxonomy};
 
-/// What was found out of a segment so far.
+/// What is known of a segment so far.
 #[derive(Drop)]
 pub struct Verifier {
+    /// The labels that occurred so far.
     pub met: MetLabels,
+    /// The places that were passed so far.
     pub walk: Walk,
     /// The leaves of one document.
     pub leaves: Vec<u32>,
@@ -34,7 +36,7 @@ pub struct Verifier {
     pub counted: Vec<u32>,
 }
 
-// One of the labels has the dimension.
+// Returns whether one of the labels has the dimension.
 fn has_dimension(labels: &Taxonomy, leaves: &[u32], dim: &str) -> bool
     requires { All (IsLeaf (length labels.now)) leaves.now }
     ensures { result ≡ list_any (λ l. bytes_eq (dim_of l) dim.now) (labels_of labels.now leaves.now) }
@@ -47,7 +49,7 @@ fn has_dimension(labels: &Taxonomy, leaves: &[u32], dim: &str) -> bool
     false
 }
 
-// The label may come after the others of a document: either its dimension may repeat, or none of them has it.
+// Returns whether the label may follow the others of a document: its dimension may repeat, or none of them has it.
 fn may_follow(labels: &Taxonomy, leaves: &[u32], facts: &LabelFacts) -> bool
     requires leaves { All (IsLeaf (length labels.now)) leaves.now }
     requires leaf { IsLeaf (length labels.now) facts.now.ord }
@@ -60,7 +62,8 @@ fn may_follow(labels: &Taxonomy, leaves: &[u32], facts: &LabelFacts) -> bool
     !has_dimension(labels, leaves, labels.path_of(facts.ord).dim())
 }
 
-// Adds a label to those of a document, with the ordinals that are counted for it, and passes the document's place under the label's terms.
+// Adds a label to those of a document, with the ordinals that are counted for it, and passes the document's place under
+// the label's terms.
 fn note_label(
     segment: &Segment,
     doc: u32,
@@ -80,7 +83,7 @@ fn note_label(
     walk.pass_terms(segment, &facts.terms, doc)
 }
 
-// The numbers are those of the slice.
+// Returns whether the numbers are those of the slice.
 fn are_same(mut stored: Ords<'_>, ords: &[u32]) -> bool
     ensures { result ≡ true → stored.entry ≡ ords.now }
 {
@@ -94,7 +97,7 @@ fn are_same(mut stored: Ords<'_>, ords: &[u32]) -> bool
     at == ords.len()
 }
 
-// The ordinals that are stored as counted for a document are these, each once.
+// Checks that the ordinals stored as counted for a document are these, each once.
 fn check_counted(segment: &Segment, doc: u32, ords: &mut Vec<u32>) -> Result<(), Unlike>
     requires { doc < length segment.now.records }
     ensures { OnOk result ((ord : ℕ) → is_in ord (record_of segment.now doc).counted ≡ is_in ord ords.old.items) }
@@ -109,7 +112,8 @@ fn check_counted(segment: &Segment, doc: u32, ords: &mut Vec<u32>) -> Result<(),
 }
 
 impl Verifier {
-    // One label more of a document: it may stand behind those before it, and the document's place is passed under its terms.
+    // Checks one more label of a document: it may follow those before it, and the document's place is passed under its
+    // terms.
     fn check_label(
         &mut self,
         alloc: Global,
@@ -120,6 +124,7 @@ impl Verifier {
         doc: u32,
         leaf: u32,
     ) -> Result<(), Unlike>
+        requires list { IsLabelList labels.now }
         requires needs { needs ≤ length labels.now }
         requires ready { IsReady config.now labels.now needs segment.now.terms self.old }
         requires fit { AllByRecursion (IsLeaf needs) self.old.leaves.items }
@@ -145,7 +150,7 @@ impl Verifier {
         )
     }
 
-    // The labels of a document are accepted, and its place is passed under their terms.
+    // Checks that the labels of a document are accepted, and passes its place under their terms.
     fn check_labels(
         &mut self,
         alloc: Global,
@@ -156,6 +161,7 @@ impl Verifier {
         doc: u32,
     ) -> Result<(), Unlike>
         requires there { doc < length segment.now.records }
+        requires list { IsLabelList labels.now }
         requires needs { needs ≤ length labels.now }
         requires ready { IsReady config.now labels.now needs segment.now.terms self.old }
         ensures ready { OnOk result (IsReady config.now labels.now needs segment.now.terms self.new) }
@@ -173,7 +179,7 @@ impl Verifier {
         Ok(())
     }
 
-    // The record is right, and its place is passed under each of its document's terms.
+    // Checks that the record is right, and passes its place under each of its document's terms.
     fn check_document(
         &mut self,
         alloc: Global,
@@ -185,6 +191,7 @@ impl Verifier {
     ) -> Result<(), Unlike>
         requires there { doc < length segment.now.records }
         requires fits { IsRecord (record_of segment.now doc) }
+        requires list { IsLabelList labels.now }
         requires needs { needs ≤ length labels.now }
         requires ready { IsReady config.now labels.now needs segment.now.terms self.old }
         ensures ready { OnOk result (IsReady config.now labels.now needs segment.now.terms self.new) }
@@ -198,14 +205,16 @@ impl Verifier {
     }
 }
 
-// Room for all labels is little beside the documents.
+// Returns whether memory for all labels is little compared with the documents.
 fn has_many_documents(labels: u32, docs: u32) -> bool {
     labels as u64 <= 64 * (docs as u64 + 64)
 }
 
-/// It is Ok only where each record is right, and the terms and places that are stored are exactly those of the documents. It makes no document, and looks
-/// each label up once: what is known of it then serves each document that has it. Where there are many labels and few documents it looks at nothing, since
-/// then it would save nothing.
+/// Checks that each record is right, and that the stored terms and places are exactly those of the documents. It makes
+/// no document, and looks each label up once for all documents that have it. With many labels and few documents it
+/// returns `Differs` without a check, since one would save nothing.
+///
+/// Errors: `Differs`; out of memory.
 pub(crate) fn verify(
     alloc: Global,
     config: &FacetsConfig,
@@ -216,7 +225,7 @@ pub(crate) fn verify(
     requires { needs ≤ length labels.now }
     ensures right { OnOk result (AllByRecursion (IsRight config.now labels.now needs) segment.now.records) }
     ensures theirs { OnOk result (AreTheirs (map (doc_in labels.now) segment.now.records) segment.now.terms) }
-    ensures list { OnOk result (IsLabelList labels.now) }
+    ensures list { IsLabelList labels.now }
 {
     let all_labels = labels.size();
     if !has_many_documents(all_labels, segment.docs()) {

@@ -17,12 +17,15 @@ use std::alloc::Global;
 /// How many places of each term were passed, where words were found, and a buffer for the text of a term.
 #[derive(Drop)]
 pub struct Walk {
+    /// How many places of each term were passed.
     pub next: Vec<usize>,
+    /// Where words were found.
     pub hints: TermHints,
+    /// A buffer for the text of a term.
     pub term: String,
 }
 
-// Passes the document's place under the term at an index, where it is the next one, or was passed last.
+// Passes the document's place under the term at an index, if it is the next one, or was passed last.
 fn pass(segment: &Segment, next: &mut Vec<usize>, term: usize, doc: u32) -> Result<(), Unlike>
     requires there { term < length segment.now.terms }
     requires size { length next.old.items ≡ length segment.now.terms }
@@ -41,7 +44,7 @@ fn pass(segment: &Segment, next: &mut Vec<usize>, term: usize, doc: u32) -> Resu
 }
 
 impl Walk {
-    /// No place was passed, of so many terms.
+    /// Returns a walk over `terms` terms before the first place. Errors: out of memory.
     pub fn new(alloc: Global, terms: usize) -> Result<Walk, Unlike>
         ensures size { IfOk result (λ w. length w.next.items ≡ terms) }
         ensures none { IfOk result (λ w. (at : ℕ) → slice_index_or w.next.items at 0 ≡ 0) }
@@ -57,7 +60,7 @@ impl Walk {
         })
     }
 
-    /// Each place of each term was passed.
+    /// Checks that each place of each term was passed. Errors: `Differs`.
     pub fn check_end(&self, segment: &Segment) -> Result<(), Unlike>
         requires { length self.now.next.items ≡ length segment.now.terms }
         ensures { OnOk result ((at : ℕ) → at < length segment.now.terms → slice_index_or self.now.next.items at 0 ≡ length (term_of segment.now.terms at).1) }
@@ -70,7 +73,7 @@ impl Walk {
         Ok(())
     }
 
-    // A piece that has no byte is no word.
+    // An empty piece is not a word.
     fn pass_word(&mut self, segment: &Segment, word: &[u8], doc: u32) -> Result<(), Unlike>
         requires utf8 { IsUtf8 word.now }
         requires size { length self.old.next.items ≡ length segment.now.terms }
@@ -84,7 +87,7 @@ impl Walk {
         pass(segment, &mut self.next, term, doc)
     }
 
-    // The text has small letters alone.
+    // The text is lowered.
     fn pass_words(&mut self, segment: &Segment, text: &str, doc: u32) -> Result<(), Unlike>
         requires { length self.old.next.items ≡ length segment.now.terms }
         ensures { OnOk result (Passes segment.now.terms doc (piece_terms (slice_split is_blank text.now)) self.old.next.items self.new.next.items) }
@@ -98,7 +101,8 @@ impl Walk {
         self.pass_word(segment, rest, doc)
     }
 
-    /// Passes the document's place under the words of a text. It takes memory for a copy of the text in small letters, which it gives back.
+    /// Passes the document's place under the words of a text. It allocates a lowered copy of the text, which it drops.
+    /// Errors: `Differs` if a word is not stored with this place next; out of memory.
     pub fn pass_text(
         &mut self,
         alloc: Global,
@@ -114,7 +118,7 @@ impl Walk {
         self.pass_words(segment, lowered.as_str(), doc)
     }
 
-    /// Passes the document's place under the terms at these indexes.
+    /// Passes the document's place under the terms at these indexes. Errors: `Differs`.
     pub fn pass_terms(&mut self, segment: &Segment, terms: &[usize], doc: u32) -> Result<(), Unlike>
         requires there { All (λ at. at < length segment.now.terms) terms.now }
         requires size { length self.old.next.items ≡ length segment.now.terms }

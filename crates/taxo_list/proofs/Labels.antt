@@ -1,16 +1,15 @@
 -- Labels behind the root, as they are stored.
-use Rattle.std.proofs.Common.{◌≡◌, ℕ, ◌+◌, ◌<◌, ◌++◌, if◌then◌else◌, List, [], ◌∷◌, length, take, get_or, slice_get, Some, sym, ap, ◌∙◌}
-use Rattle.std.proofs.lemmas.List.{take_more}
+use Rattle.std.proofs.Common.{◌≡◌, ℕ, is_some, position, arith, ◌<◌, List, [], ◌∷◌, length, slice_get, Some, ap, ◌∙◌}
 use Rattle.std.proofs.lemmas.Option.{slice_get-get_or}
-use Rattle.indexmap.specs.IndexSet.{insert_key}
 use Rattle.facet_names.specs.Paths.{path_eq}
-use Rattle.facet_names.specs.Labels.{IsLabelList}
-use Rattle.facet_names.proofs.LabelLists.{fresh_after_root, root_first, some_label}
+use Rattle.facet_names.specs.Labels.{IsLabelList, stands}
+use Rattle.facet_names.proofs.LabelLists.{root_first, some_label, is_some-position}
 pub use Rattle.facet_names.proofs.LabelLists.{same_path, none_at, place_of, place_at, label_at, some_label, root_first, parent_before, parent_at_front, one_more_label, stands_by_place, parent_is_above, root_above, root_stands, goes_further, is_some-position, path_has_part}
 
--- to insert the next of them into a copy of the first ones makes a copy of one more
-pub inserted_next : (labels : List (List (List ℕ))) → IsLabelList ([] ∷ labels) → (i : ℕ) (d : List (List ℕ)) → i < length labels → insert_key path_eq (take i labels) (get_or labels i d) ≡ take (i + 1) labels
-inserted_next labels is i d lt = ap (λ b. if b then take i labels else take i labels ++ get_or labels i d ∷ []) (fresh_after_root labels is i d lt) ∙ sym (take_more labels i d lt)
+-- a path that is not the root is among all where it is among them
+pub stands_behind : (labels : List (List (List ℕ))) (path : List (List ℕ)) → 0 < length path → is_some (position (path_eq path) labels) ≡ stands ([] ∷ labels) path
+stands_behind labels [] some = absurd (omega (arith, some))
+stands_behind labels (part ∷ path) some = is_some-position (path_eq (part ∷ path)) labels []
 
 -- the first is the root
 pub root_is : (labels : List (List (List ℕ))) → IsLabelList labels → slice_get labels 0 ≡ Some []

@@ -2,3 +2,7 @@ pub mod Labels
 pub mod Linked
 pub mod Walked
 mod Added
+pub mod More
+mod Front
+mod Grown
+pub mod Crossing

@@ -57,7 +57,7 @@ module _ (labels : List (List (List ℕ))) where
   -- ---- lists of dimensions
 
   -- one ordinal more
-  dims_more : (n : ℕ) → dims_below labels (n + 1) ≡ dims_below labels n ++ cond (is_dim labels n) (n ∷ []) []
+  pub dims_more : (n : ℕ) → dims_below labels (n + 1) ≡ dims_below labels n ++ cond (is_dim labels n) (n ∷ []) []
   dims_more n =
       let from : 0 + n ≡ n = omega arith in
       ap (filter (is_dim labels)) (sym (map-id (range_with_len 0 (n + 1)))) ∙ filter_of_map_range_with_len_more (is_dim labels) (λ i. i) 0 n n from

@@ -1,128 +1,157 @@
-ghost use Rattle.std.specs.Prelude.{◌≡◌, ◌<◌, ◌≤◌, ℕ, [], negsuc, length, take, slice_index_or, IfOk, OnOk, OnErr};
+ghost use Rattle.std.specs.Prelude.{◌≡◌, ◌<◌, ◌≤◌, ◌++◌, ◌∷◌, ℕ, [], negsuc, length, take, slice_index_or, IfOk, OnOk, OnErr};
 ghost use Rattle.taxo_list.specs.ArrayLists.{arrays_of, AreOfPrefix};
-ghost use Rattle.taxo_list.specs.Links.{arrays_by, AreParents, AreLinked};
+ghost use Rattle.taxo_list.specs.Links.{arrays_by, AreParents};
 
 use crate::view::TaxoView;
 use facet_names::NoMemory;
+use shared_list::Shared;
 use std::alloc::Global;
 use std::marker::Model;
 
-/// The parents, children and siblings of labels by ordinal, as Lucene's `ParallelTaxonomyArrays`: three arrays of `i32`, so 12 bytes a
-/// label. The child of a label is its child that was added last, and the sibling of a label is the child of the same parent that was
-/// added last before it. So the children of a label are its child, that one's sibling and so on, until -1.
+/// The parents, children and siblings of labels by ordinal, as Lucene's `ParallelTaxonomyArrays`: three arrays of
+/// `i32`, 12 bytes per label.
+///
+/// The child of a label is the child that was added last. The sibling of a label is the child of the same parent that
+/// was added last before it. So the children of a label are its child, that one's sibling and so on, until -1.
+///
+/// Arrays that grow from others share with them all that did not change.
 #[derive(Debug, Drop)]
 pub struct Arrays {
-    parents: Vec<i32>,
-    children: Vec<i32>,
-    siblings: Vec<i32>,
+    parents: Shared<i32>,
+    children: Shared<i32>,
+    siblings: Shared<i32>,
 }
 
 impl Model for Arrays {
-    ghost use Rattle.std.specs.Prelude.{◌≡◌, length};
+    ghost use Rattle.std.specs.Prelude.{◌≤◌, length};
     ghost use Rattle.taxo_list.specs.ArrayLists.{ArrayLists};
 
     ghost Value = { ArrayLists };
 
-    ghost view = { λ a. record { parents = a.parents.items; children = a.children.items; siblings = a.siblings.items } };
+    ghost view = { λ a. record { parents = a.parents; children = a.children; siblings = a.siblings } };
 
-    ghost invariant = { λ a. (length a.children.items ≡ length a.parents.items) × (length a.siblings.items ≡ length a.parents.items) };
-}
-
-// Enters the ordinals from `from` on as children and siblings.
-fn link(parents: &[i32], from: usize, children: &mut [i32], siblings: &mut [i32])
-    requires few { length parents.now ≤ 1000000 }
-    requires start { from ≤ length parents.now }
-    requires parents { AreParents parents.now }
-    requires linked { AreLinked parents.now from children.old siblings.old }
-    ensures { AreLinked parents.now (length parents.now) children.new siblings.new }
-{
-    for ord in from..parents.len() {
-        let parent = parents[ord];
-        if parent >= 0 {
-            siblings[ord] = children[parent as usize];
-            children[parent as usize] = ord as i32;
-        }
-    }
+    ghost invariant = { λ a. (length a.parents ≤ length a.children) × (length a.parents ≤ length a.siblings) };
 }
 
 impl Arrays {
-    // The arrays of no label.
+    // Returns the arrays of no label.
     pub(crate) fn new(alloc: Global) -> Arrays
         ensures { result ≡ arrays_by [] }
     {
         Arrays {
-            parents: Vec::new(alloc),
-            children: Vec::new(alloc),
-            siblings: Vec::new(alloc),
+            parents: Shared::new(alloc),
+            children: Shared::new(alloc),
+            siblings: Shared::new(alloc),
         }
     }
 
-    // Goes on to the arrays of all these parents, of which the first are in them.
-    pub(crate) fn grow(&mut self, parents: &[i32]) -> Result<(), NoMemory>
-        requires few { length parents.now ≤ 1000000 }
-        requires parents { AreParents parents.now }
-        requires prefix { (n : ℕ) × (n ≤ length parents.now) × (self.old ≡ arrays_by (take n parents.now)) }
-        ensures ok { OnOk result (self.new ≡ arrays_by parents.now) }
-        ensures err { OnErr result (self.new ≡ self.old) }
+    // Returns the same arrays, which share their pieces with these.
+    fn share(&self) -> Result<Arrays, NoMemory>
+        ensures { IfOk result (λ a. a ≡ self.now) }
     {
-        let from = self.parents.len();
-        let more = parents.len() - from;
-        self.parents.reserve(more)?;
-        self.children.reserve(more)?;
-        self.siblings.reserve(more)?;
-        self.parents.extend_from_slice(&parents[from..])?;
-        self.children.resize(parents.len(), -1)?;
-        self.siblings.resize(parents.len(), -1)?;
-        link(parents, from, &mut self.children, &mut self.siblings);
+        Ok(Arrays {
+            parents: self.parents.share()?,
+            children: self.children.share()?,
+            siblings: self.siblings.share()?,
+        })
+    }
+
+    // Adds one more label, given its parent. It becomes the child of the parent, and the parent's last child becomes
+    // its sibling. No other entry changes.
+    fn enter(&mut self, parent: i32) -> Result<(), NoMemory>
+        requires few { length self.old.parents < 1000000 }
+        requires parent { AreParents (self.old.parents ++ parent ∷ []) }
+        requires linked { self.old ≡ arrays_by self.old.parents }
+        ensures { OnOk result (self.new ≡ arrays_by (self.old.parents ++ parent ∷ [])) }
+    {
+        let ord = self.parents.len() as i32;
+        self.children.push(-1)?;
+        if parent < 0 {
+            self.siblings.push(-1)?;
+        } else {
+            self.siblings.push(self.children.get(parent as usize))?;
+            self.children.set(parent as usize, ord)?;
+        }
+        self.parents.push(parent)?;
         Ok(())
     }
 
-    // The parents of all labels.
-    pub(crate) fn parents(&self) -> &[i32]
+    // Returns the arrays of all these parents. The first of them are in these arrays already. Pieces in which nothing
+    // changes are shared.
+    pub(crate) fn grown(&self, parents: &[i32]) -> Result<Arrays, NoMemory>
+        requires few { length parents.now ≤ 1000000 }
+        requires parents { AreParents parents.now }
+        requires prefix { (n : ℕ) × (n ≤ length parents.now) × (self.now ≡ arrays_by (take n parents.now)) }
+        ensures { IfOk result (λ a. a ≡ arrays_by parents.now) }
+    {
+        let mut grown = self.share()?;
+        for ord in self.parents.len()..parents.len() {
+            grown.enter(parents[ord])?;
+        }
+        Ok(grown)
+    }
+
+    // Does the same as `grown`, for parents in a shared list.
+    fn grown_to(&self, parents: &Shared<i32>) -> Result<Arrays, NoMemory>
+        requires few { length parents.now ≤ 1000000 }
+        requires parents { AreParents parents.now }
+        requires prefix { (n : ℕ) × (n ≤ length parents.now) × (self.now ≡ arrays_by (take n parents.now)) }
+        ensures { IfOk result (λ a. a ≡ arrays_by parents.now) }
+    {
+        let mut grown = self.share()?;
+        for ord in self.parents.len()..parents.len() {
+            grown.enter(parents.get(ord))?;
+        }
+        Ok(grown)
+    }
+
+    // Returns the parents of all labels.
+    pub(crate) fn parents(&self) -> &Shared<i32>
         ensures { result.now ≡ self.now.parents }
     {
         &self.parents
     }
 
-    /// The arrays of a view, made by one walk over its labels.
+    /// Makes the arrays of a view, in one pass over its labels. Errors: out of memory.
     pub fn from_scratch(alloc: Global, view: &TaxoView) -> Result<Arrays, NoMemory>
         ensures { IfOk result (λ a. a ≡ arrays_of view.now) }
     {
-        let mut arrays = Arrays::new(alloc);
-        arrays.grow(view.parents())?;
-        Ok(arrays)
+        Arrays::new(alloc).grown_to(view.parents())
     }
 
-    /// Goes on to the arrays of a view, whose first labels these are the arrays of. It walks over the new labels alone.
+    /// Extends the arrays of the first labels of a view to all its labels. It visits only the new labels. Errors: out
+    /// of memory.
     pub fn extend(&mut self, view: &TaxoView) -> Result<(), NoMemory>
         requires { AreOfPrefix self.old view.now }
         ensures ok { OnOk result (self.new ≡ arrays_of view.now) }
         ensures err { OnErr result (self.new ≡ self.old) }
     {
-        self.grow(view.parents())
+        *self = self.grown_to(view.parents())?;
+        Ok(())
     }
 
-    /// The ordinal of the parent, and -1 at the root.
+    /// Returns the ordinal of the parent, or -1 for the root, in constant time.
     pub fn parent(&self, ord: u32) -> i32
         requires { ord < length self.now.parents }
         ensures { result ≡ slice_index_or self.now.parents ord (negsuc 0) }
     {
-        self.parents[ord as usize]
+        self.parents.get(ord as usize)
     }
 
-    /// The ordinal of the child that was added last, and -1 where there is none.
+    /// Returns the ordinal of the child that was added last, or -1, in constant time.
     pub fn child(&self, ord: u32) -> i32
         requires { ord < length self.now.parents }
         ensures { result ≡ slice_index_or self.now.children ord (negsuc 0) }
     {
-        self.children[ord as usize]
+        self.children.get(ord as usize)
     }
 
-    /// The ordinal of the child of the same parent that was added last before this one, and -1 where there is none.
+    /// Returns the ordinal of the child of the same parent that was added last before this one, or -1, in constant
+    /// time.
     pub fn sibling(&self, ord: u32) -> i32
         requires { ord < length self.now.parents }
         ensures { result ≡ slice_index_or self.now.siblings ord (negsuc 0) }
     {
-        self.siblings[ord as usize]
+        self.siblings.get(ord as usize)
     }
 }

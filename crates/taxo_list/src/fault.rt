@@ -6,9 +6,9 @@ use std::alloc::{AllocError, AllocFailed};
 /// Why a label was not added.
 #[derive(Clone, Copy, Debug, PartialEq, Eq)]
 pub enum TaxoFault {
-    /// The list has this many entries, at least the limit.
+    /// The list has `size` entries, at least the limit.
     LabelsFull { size: u64 },
-    /// An allocation was refused.
+    /// Out of memory.
     NoMemory,
 }
 

@@ -1,24 +1,26 @@
-ghost use Rattle.std.specs.Prelude.{◌≡◌, ◌≢◌, ◌≤◌, ◌<◌, [], ◌∷◌, Some, Err, false, length, is_some, IsTrue, IsOk, IfOk, IfErr, OnOk, OnErr};
+ghost use Rattle.std.specs.Prelude.{◌≡◌, ◌≢◌, ◌≤◌, ◌<◌, ◌+◌, ◌-◌, [], ◌∷◌, Some, Err, false, length, is_some, slice_get, IsTrue, IsOk, IfOk, IfErr, OnOk, OnErr};
+ghost use mathlib.Core.List.{IsPrefix};
 ghost use Rattle.facet_names.specs.Labels.{GoesOn, IsLabelList, above, place, stands, with_label};
 
 use crate::fault::TaxoFault;
 use crate::labelled::Labelled;
-use crate::stored::ordinal_in;
 use crate::view::TaxoView;
 use facet_names::{NoMemory, Path};
 use indexmap::IndexSet;
+use label_pieces::Steps;
 use std::alloc::Global;
 use std::hash::RandomState;
-use std::marker::Model;
+use std::marker::{Brand, Model};
+use std::sync::ledger::{Blank, Ledger};
 
-/// The list of labels, as Lucene's `DirectoryTaxonomyWriter` keeps it. A label's ordinal is its place in the list. The root has ordinal 0,
-/// every other label stands after its parent, and no label stands twice.
+/// The list of labels, as Lucene's `DirectoryTaxonomyWriter` keeps it. A label's ordinal is its place in the list. The
+/// root has ordinal 0, every other label comes after its parent, and no label occurs twice.
 #[derive(Drop)]
 pub struct Taxonomy {
     alloc: Global,
-    // Without the root, so that an ordinal is one more than a label's index.
+    // without the root, so that an ordinal is one more than a label's index
     labels: IndexSet<Path, RandomState>,
-    // With the root.
+    // with the root
     parents: Vec<i32>,
 }
 
@@ -36,15 +38,20 @@ impl Model for Taxonomy {
 impl Labelled for Taxonomy {
     ghost labels = { λ t. t };
 
-    fn paths(&self) -> &[Path] {
-        self.labels.as_slice()
+    fn size(&self) -> u32 {
+        self.labels.len() as u32 + 1
+    }
+
+    fn path_of(&self, ord: u32) -> &Path {
+        &self.labels.as_slice()[ord as usize - 1]
     }
 }
 
 impl Taxonomy {
     ghost use Rattle.taxo_list.specs.declared.fault.TaxoFault.TheVariants.{LabelsFull, NoMemory as Memory};
 
-    /// The list of the root alone. Its look-ups hash labels with `keys`, on which no answer depends.
+    /// Returns a list of only the root. `keys` are the hash keys of labels; no result depends on them. Errors: out of
+    /// memory.
     pub fn new(alloc: Global, keys: RandomState) -> Result<Taxonomy, NoMemory>
         ensures { IfOk result (λ t. t ≡ [] ∷ []) }
     {
@@ -58,15 +65,30 @@ impl Taxonomy {
         })
     }
 
-    /// The ordinal of a path, where the path is in the list. It takes no memory.
+    /// Returns the paths after the root. The ordinal of a path is one more than its place among them. It allocates
+    /// nothing.
+    pub fn paths(&self) -> &[Path]
+        ensures paths { self.now ≡ [] ∷ result.now }
+        ensures list { IsLabelList self.now }
+        ensures few { length self.now ≤ 1000000 }
+    {
+        self.labels.as_slice()
+    }
+
+    /// Returns the ordinal of a path, or `None` if the list does not have it. It takes one look-up in a hash table, and
+    /// allocates nothing.
     pub fn find(&self, path: &Path) -> Option<u32>
         ensures ordinal { result ≡ place self.now path.now }
         ensures there { is_some result ≡ stands self.now path.now }
     {
-        ordinal_in(&self.labels, path)
+        path.has_components();
+        match self.labels.get_index_of(path) {
+            Some(index) => Some(index as u32 + 1),
+            None => None,
+        }
     }
 
-    // The ordinal of the parent of a path.
+    // Returns the ordinal of the parent of a path.
     fn parent_of(&self, path: &Path) -> Result<u32, NoMemory>
         requires { IsTrue (stands self.now (above path.now)) }
         ensures { IfOk result (λ ord. place self.now (above path.now) ≡ Some ord) }
@@ -77,7 +99,7 @@ impl Taxonomy {
         }
     }
 
-    // Puts a label that is not there at the end, under the parent at an ordinal.
+    // Adds a new label at the end, under the parent at an ordinal.
     fn put_last(&mut self, label: Path, parent: u32) -> Result<u32, TaxoFault>
         requires new { stands self.old label ≡ false }
         requires room { length self.old < 1000000 }
@@ -97,9 +119,11 @@ impl Taxonomy {
         Ok(ord)
     }
 
-    /// The ordinal of a path, which is added at the end where it is not there. Its parent must be there, or the path has one component.
+    /// Returns the ordinal of a path, and adds the path at the end if it is missing. The list has its parent, or the
+    /// path has one component.
     ///
-    /// It takes memory only where the path is new, and after a refusal the list is as before.
+    /// It allocates only for a new path. Errors: `LabelsFull` if the path is missing and the list has `limit` entries
+    /// or more; out of memory. Then the list is as before.
     pub fn add(&mut self, path: &Path, limit: u32) -> Result<u32, TaxoFault>
         requires limit { limit ≤ 1000000 }
         requires parent { IsTrue (stands self.old (above path.now)) }
@@ -125,8 +149,8 @@ impl Taxonomy {
         self.put_last(label, parent)
     }
 
-    /// As [`add`](Taxonomy::add), of a path whose parent stands at a known ordinal. The path itself is kept, so none is copied, and the parent is not looked
-    /// for.
+    /// Adds a path as [`add`](Taxonomy::add) does, given the ordinal of its parent. It takes the path without copying
+    /// it, and does not look the parent up.
     pub fn add_under(&mut self, path: Path, parent: u32, limit: u32) -> Result<u32, TaxoFault>
         requires limit { limit ≤ 1000000 }
         requires parent { place self.old (above path) ≡ Some parent }
@@ -151,10 +175,50 @@ impl Taxonomy {
         }
     }
 
-    /// A view of the list as it stands. It copies every label, so it takes time and memory in proportion to the whole list.
+    /// Returns a view of the list. It copies every label, so it takes time and memory proportional to the whole list.
+    /// Given a view of the first labels, [`view_after`](Taxonomy::view_after) copies less. Errors: out of memory.
     pub fn view(&self) -> Result<TaxoView, NoMemory>
         ensures { IfOk result (λ v. v ≡ self.now) }
     {
-        TaxoView::of(self.alloc, &self.labels, &self.parents)
+        let root = TaxoView::of_root(self.alloc, *self.labels.hasher())?;
+        self.view_after(&root)
+    }
+
+    /// Returns a view of the list, given a view of its first labels, as [`view_from`](Taxonomy::view_from) does. It
+    /// counts no steps. Errors: out of memory.
+    pub fn view_after(&self, last: &TaxoView) -> Result<TaxoView, NoMemory>
+        requires last { IsPrefix last.now self.now }
+        ensures { IfOk result (λ v. v ≡ self.now) }
+    {
+        self.uncounted::<Brand>(last, Blank::new(1))
+    }
+
+    // Does the same as `view_from`, with a counter of its own.
+    fn uncounted<L: Ledger>(&self, last: &TaxoView, blank: Blank) -> Result<TaxoView, NoMemory>
+        requires last { IsPrefix last.now self.now }
+        requires name { blank.name ≡ L.name }
+        requires parts { blank.parts ≡ L.parts }
+        requires some { 0 < blank.parts }
+        ensures { IfOk result (λ v. v ≡ self.now) }
+    {
+        let mut steps = Steps::<L>::new(blank);
+        self.view_from(last, &mut steps)
+    }
+
+    /// Returns a view of the list, given a view of its first labels. The two share everything except what is new. It
+    /// copies each new label, and at most 4,095 others: on average 8 per new label if labels are added one by one. Each
+    /// copy of a label counts as a step.
+    ///
+    /// Errors: out of memory.
+    pub fn view_from<L: Ledger>(
+        &self,
+        last: &TaxoView,
+        steps: &mut Steps<L>,
+    ) -> Result<TaxoView, NoMemory>
+        requires last { IsPrefix last.now self.now }
+        ensures view { IfOk result (λ v. v ≡ self.now) }
+        ensures steps { steps.new ≤ steps.old + (length self.now - length last.now) + 4095 }
+    {
+        last.grown(self.labels.as_slice(), &self.parents, steps)
     }
 }

@@ -1,4 +1,5 @@
-ghost use Rattle.std.specs.Prelude.{◌≡◌, ◌<◌, ◌≤◌, [], ◌∷◌, All, length, is_some, IfOk};
+ghost use Rattle.std.specs.Prelude.{◌≡◌, ◌<◌, ◌≤◌, ◌+◌, ◌-◌, [], ◌∷◌, All, Some, length, is_some, slice_get, IfOk};
+ghost use mathlib.Core.List.{IsPrefix};
 ghost use Rattle.facet_names.specs.Labels.{IsLabelList, place, stands};
 ghost use Rattle.taxo_list.specs.ArrayLists.{arrays_of};
 ghost use Rattle.taxo_list.specs.DimLists.{dims_of, IsDimNumber};
@@ -6,20 +7,23 @@ ghost use Rattle.taxo_list.specs.DimLists.{dims_of, IsDimNumber};
 use crate::arrays::Arrays;
 use crate::dims::Dims;
 use crate::labelled::Labelled;
-use crate::stored::{copied, ordinal_in};
 use facet_names::{NoMemory, Path};
-use indexmap::IndexSet;
+use label_pieces::{LabelPieces, Steps};
+use shared_list::Shared;
 use std::alloc::Global;
 use std::hash::RandomState;
 use std::marker::Model;
+use std::sync::ledger::Ledger;
 
-/// The list of labels as it stood when the view was made, as Lucene's `TaxonomyReader`. It owns a copy of the labels, their arrays,
-/// and the number of each label's dimension.
+/// The list of labels as it was when the view was made, as Lucene's `TaxonomyReader`. It has the labels, their arrays,
+/// and the number of each label's dimension. It shares them with the views that it was made from, and with those that
+/// are made from it.
 ///
-/// It never changes, so threads may share it. No call of it takes memory.
+/// It never changes, so threads may share it. No call allocates.
 #[derive(Drop)]
 pub struct TaxoView {
-    labels: IndexSet<Path, RandomState>,
+    // without the root, so that an ordinal is one more than a label's index
+    labels: LabelPieces,
     arrays: Arrays,
     dims: Dims,
 }
@@ -30,44 +34,59 @@ impl Model for TaxoView {
 
     ghost Value = { List (List (List ℕ)) };
 
-    ghost view = { λ v. [] ∷ v.labels.keys };
+    ghost view = { λ v. [] ∷ v.labels };
 
-    ghost invariant = { λ v. IsView v.labels.keys v.arrays v.dims };
+    ghost invariant = { λ v. IsView v.labels v.arrays v.dims };
 }
 
 impl Labelled for TaxoView {
     ghost labels = { λ v. v };
 
-    fn paths(&self) -> &[Path] {
-        self.labels.as_slice()
+    fn size(&self) -> u32 {
+        self.labels.len() as u32 + 1
+    }
+
+    fn path_of(&self, ord: u32) -> &Path {
+        self.labels.path_at(ord as usize - 1)
     }
 }
 
 impl TaxoView {
-    // The view of these labels, whose parents these are.
-    pub(crate) fn of(
-        alloc: Global,
-        labels: &IndexSet<Path, RandomState>,
-        parents: &[i32],
-    ) -> Result<TaxoView, NoMemory>
-        requires list { IsLabelList ([] ∷ labels.now.keys) }
-        requires few { length labels.now.keys < 1000000 }
-        requires parents { parents.now ≡ (arrays_of ([] ∷ labels.now.keys)).parents }
-        ensures { IfOk result (λ v. v ≡ [] ∷ labels.now.keys) }
+    // Returns the view of only the root.
+    pub(crate) fn of_root(alloc: Global, keys: RandomState) -> Result<TaxoView, NoMemory>
+        ensures { IfOk result (λ v. v ≡ [] ∷ []) }
     {
-        let labels = copied(alloc, labels)?;
-        let mut arrays = Arrays::new(alloc);
-        arrays.grow(parents)?;
-        let dims = Dims::of(alloc, parents)?;
         Ok(TaxoView {
-            labels,
-            arrays,
-            dims,
+            labels: LabelPieces::new(alloc, keys),
+            arrays: Arrays::new(alloc).grown(&[-1])?,
+            dims: Dims::of_root(alloc)?,
         })
     }
 
-    // The parents of all labels.
-    pub(crate) fn parents(&self) -> &[i32]
+    // Returns the view of all labels, given without the root. The first of them are those of this view. The parents are
+    // those of all labels.
+    pub(crate) fn grown<L: Ledger>(
+        &self,
+        paths: &[Path],
+        parents: &[i32],
+        steps: &mut Steps<L>,
+    ) -> Result<TaxoView, NoMemory>
+        requires prefix { IsPrefix self.now ([] ∷ paths.now) }
+        requires list { IsLabelList ([] ∷ paths.now) }
+        requires few { length paths.now < 1000000 }
+        requires parents { parents.now ≡ (arrays_of ([] ∷ paths.now)).parents }
+        ensures view { IfOk result (λ v. v ≡ [] ∷ paths.now) }
+        ensures steps { steps.new ≤ steps.old + (length ([] ∷ paths.now) - length self.now) + 4095 }
+    {
+        Ok(TaxoView {
+            labels: self.labels.grown(paths, steps)?,
+            arrays: self.arrays.grown(parents)?,
+            dims: self.dims.grown(parents)?,
+        })
+    }
+
+    // Returns the parents of all labels.
+    pub(crate) fn parents(&self) -> &Shared<i32>
         ensures parents { result.now ≡ (arrays_of self.now).parents }
         ensures list { IsLabelList self.now }
         ensures few { length self.now ≤ 1000000 }
@@ -75,16 +94,21 @@ impl TaxoView {
         self.arrays.parents()
     }
 
-    /// The ordinal of a path, where the path is in the view. By one look-up in a hash table.
+    /// Returns the ordinal of a path, or `None` if the view does not have it. It takes one look-up in a hash table for
+    /// each 4,096 labels before it, and about 10 more among the newest labels.
     pub fn ordinal_of(&self, path: &Path) -> Option<u32>
         ensures ordinal { result ≡ place self.now path.now }
         ensures there { is_some result ≡ stands self.now path.now }
         ensures some { 0 < length path.now }
     {
-        ordinal_in(&self.labels, path)
+        path.has_components();
+        match self.labels.find(path) {
+            Some(index) => Some(index as u32 + 1),
+            None => None,
+        }
     }
 
-    /// The parents, children and siblings of the labels.
+    /// Returns the parents, children and siblings of the labels.
     pub fn arrays(&self) -> &Arrays
         ensures arrays { result.now ≡ arrays_of self.now }
         ensures list { IsLabelList self.now }
@@ -92,7 +116,7 @@ impl TaxoView {
         &self.arrays
     }
 
-    /// The ordinals of the labels of one component, each a dimension alone, rising.
+    /// Returns the ordinals of the labels of one component, the dimensions, rising.
     pub fn dims(&self) -> &[u32]
         ensures dims { result.now ≡ dims_of self.now }
         ensures each { All (λ ord. (0 < ord) × (ord < length self.now)) result.now }
@@ -100,7 +124,7 @@ impl TaxoView {
         self.dims.ords()
     }
 
-    /// The place among [`dims`](TaxoView::dims) of the dimension of a label.
+    /// Returns the place of a label's dimension among [`dims`](TaxoView::dims), in constant time.
     pub fn dim_number(&self, ord: u32) -> u32
         requires some { 0 < ord }
         requires within { ord < length self.now }

@@ -1,5 +1,5 @@
-//! The writer of labels: paths to ordinals, for sessions on any threads. A path that was resolved before is answered from a cache, without the turn of the
-//! labels.
+//! The writer of labels: paths to ordinals, for sessions on any threads. A path that was resolved before is found in a
+//! cache, without the lock of the labels.
 #![tactic(auto)]
 
 mod viewing;

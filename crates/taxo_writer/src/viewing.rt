@@ -1,4 +1,4 @@
-//! Views of labels that are shared while no label is new.
+//! Views that share what they have in common with the last one.
 ghost use Rattle.std.specs.Prelude.{◌≡◌, IfOk};
 ghost use Rattle.std.specs.Arc.{arc_value};
 ghost use mathlib.Core.List.{IsPrefix};
@@ -9,7 +9,10 @@ use std::alloc::Global;
 use std::sync::Arc;
 use taxo_list::{Labelled, TaxoView, Taxonomy};
 
-/// The view of these labels: the last one, with one owner more, where it has them all, and else a new one, for which every label is copied.
+/// Returns the view of these labels. Without a new label it is the last view, with one owner more. Otherwise it is a
+/// new view that shares its labels with the last one: the new labels are copied, and at most 4,095 others.
+///
+/// Errors: out of memory.
 pub fn renewed(
     alloc: Global,
     labels: &Taxonomy,
@@ -22,6 +25,6 @@ pub fn renewed(
     if labels.size() == last.size() {
         return Ok(Arc::try_clone(last)?);
     }
-    let view = labels.view()?;
+    let view = labels.view_after(last)?;
     Ok(Arc::new(alloc, view)?)
 }

@@ -1,4 +1,4 @@
-ghost use Rattle.std.specs.Prelude.{◌≡◌, ◌≢◌, ◌≤◌, ◌<◌, ◌-◌, ◌^◌, ◌⊎◌, ℕ, [], true, false, length, take, map, slice_get, flat_map, Some, IfOk, IfErr, OnOk};
+ghost use Rattle.std.specs.Prelude.{◌≡◌, ◌≢◌, ◌≤◌, ◌<◌, ◌+◌, ◌-◌, ◌^◌, ◌⊎◌, ℕ, [], true, false, length, take, map, slice_get, flat_map, Some, IfOk, IfErr, OnOk};
 ghost use Rattle.std.specs.Arc.{arc_value};
 ghost use mathlib.Core.List.{IsPrefix};
 ghost use Rattle.chronicle.specs.History.{longer};
@@ -15,19 +15,22 @@ use crate::viewing::renewed;
 use chronicle::{Chronicle, Token};
 use facet_model::Resolved;
 use facet_names::{NoMemory, Path};
+use label_pieces::Steps;
 use std::alloc::Global;
 use std::hash::RandomState;
 use std::marker::Model;
+use std::sync::ledger::Ledger;
 use std::sync::{Arc, Wait};
 use taxo_adding::{LabelList, add_behind_each, add_each};
 use taxo_cache::{Looked, Memos, Name, Stripes};
 use taxo_list::{TaxoFault, TaxoView, Taxonomy};
 
-/// Gives ordinals to labels, for callers on any threads, each with a token of its own; as Lucene's `DirectoryTaxonomyWriter` with its cache of labels.
-/// Contracts see the identity of its labels chronicle, and how many labels there may be.
+/// Gives ordinals to labels, for callers on any threads, each with its own token. It corresponds to Lucene's
+/// `DirectoryTaxonomyWriter` with its cache of labels. Contracts see the identity of its labels chronicle, and how many
+/// labels there may be.
 ///
-/// A path whose prefixes are all in the cache is resolved without the turn of the labels, and one that the token used lately by one look-up in a memo of its
-/// own, whatever its length. What a call says is the same with and without.
+/// A path whose prefixes are all in the cache is resolved without the lock of the labels. One that the token used
+/// recently takes one look-up in a memo, whatever its length. No result depends on the cache.
 #[derive(Drop)]
 pub struct TaxoWriter<N: Name> {
     alloc: Global,
@@ -48,7 +51,7 @@ impl<N: Name> Model for TaxoWriter<N> {
     ghost invariant = { λ w. (w.labels ≡ N.labels) × (w.limit ≤ 1000000) };
 }
 
-// How many paths a memo has room for, where the cache has room for as many.
+// the greatest capacity of a memo, in paths
 const LATELY: u32 = 256;
 
 // The ordinals of each path's first prefixes that are in the cache, and whether all are.
@@ -58,7 +61,7 @@ struct Found {
     whole: bool,
 }
 
-// Whether so many ordinals are all of so many, and it was so before.
+// Returns whether all of a path's ordinals are known, and those of the paths before it.
 fn is_whole(before: bool, known: usize, all: usize) -> bool
     ensures { result ≡ true → (before ≡ true) × (known ≡ all) }
 {
@@ -66,8 +69,11 @@ fn is_whole(before: bool, known: usize, all: usize) -> bool
 }
 
 impl<N: Name> TaxoWriter<N> {
-    /// A writer over these labels, with a cache of so many stripes, each with room for `cache` paths, and as many memos, each with room for at most 256. The
-    /// limit counts the root too. Where there are more labels than that, they stay, and there is room for none.
+    /// Makes a writer over these labels, with a cache of `stripes` stripes of `cache` paths each, and as many memos of
+    /// at most 256 paths each. `limit` counts the root too. If there are more labels already, they stay, and none can
+    /// be added.
+    ///
+    /// Errors: out of memory.
     pub fn open(
         alloc: Global,
         keys: RandomState,
@@ -96,7 +102,8 @@ impl<N: Name> TaxoWriter<N> {
         })
     }
 
-    // The ordinal of so many first components of the path, where the cache has it. The whole path is looked up as it is, and a shorter one as a copy.
+    // Returns the ordinal of the first `len` components of the path, if the cache has it. It copies a shorter path for
+    // the look-up.
     fn look_at<R: Wait>(
         &self,
         rt: &R,
@@ -120,7 +127,7 @@ impl<N: Name> TaxoWriter<N> {
         Ok(self.cache.look(rt, &self.labels, token, &prefix))
     }
 
-    // The ordinals of the path's first prefixes, as far as the stripes have them.
+    // Returns the ordinals of the path's first prefixes, as far as the stripes have them.
     fn find_shared<R: Wait>(
         &self,
         rt: &R,
@@ -145,7 +152,7 @@ impl<N: Name> TaxoWriter<N> {
         Ok(ords)
     }
 
-    // The same, from the token's memo where that has the path.
+    // Does the same, from the token's memo if that has the path.
     fn find_known<R: Wait>(
         &self,
         rt: &R,
@@ -171,7 +178,7 @@ impl<N: Name> TaxoWriter<N> {
         Ok(ords)
     }
 
-    // Takes the labels' turn and gives it back. In between it adds the prefixes that are missing.
+    // Takes the lock of the labels, adds the missing prefixes, and releases it.
     fn add_missing<R: Wait>(
         &self,
         rt: &R,
@@ -203,7 +210,7 @@ impl<N: Name> TaxoWriter<N> {
         added
     }
 
-    // Keeps the ordinal of so many first components of the path, where there is memory.
+    // Stores the ordinal of the first `len` components of the path, if there is memory.
     fn remember_at<R: Wait>(
         &self,
         rt: &R,
@@ -226,7 +233,7 @@ impl<N: Name> TaxoWriter<N> {
         }
     }
 
-    // Keeps the ordinals of the path's prefixes from a place on, where there is memory.
+    // Stores the ordinals of the path's prefixes from a place on, if there is memory.
     fn remember_from<R: Wait>(
         &self,
         rt: &R,
@@ -245,12 +252,14 @@ impl<N: Name> TaxoWriter<N> {
         }
     }
 
-    /// The ordinals of a path's prefixes, the dimension's first. Prefixes that are missing are added, the shortest first, and those that were added before a
-    /// refusal stay.
+    /// Returns the ordinals of a path's prefixes, the dimension's first. It adds missing prefixes, the shortest first.
     ///
-    /// It looks for the path in the token's memo, and then into the cache for one prefix after the other. Where these have them all it takes no turn, and else
-    /// it waits for the labels' turn once. For a path that is not in the memo it takes memory for a copy of each shorter prefix. No lock of the cache is held
-    /// while it waits for the turn.
+    /// Locks: that of a memo, then those of stripes, one at a time. If a prefix is missing there, that of the labels,
+    /// once; no lock of the cache is held then. It looks the path up in the token's memo first, and then one prefix
+    /// after the other in the stripes. A path that is not in the memo needs a copy of each shorter prefix.
+    ///
+    /// Errors: `LabelsFull` if a prefix is missing and the list is full; out of memory. Prefixes that were added before
+    /// stay.
     pub fn resolve<R: Wait>(
         &self,
         rt: &R,
@@ -279,7 +288,7 @@ impl<N: Name> TaxoWriter<N> {
         Ok(Resolved::new(ords))
     }
 
-    // The ordinals of each path's first prefixes, as far as the cache has them.
+    // Returns the ordinals of each path's first prefixes, as far as the cache has them.
     fn find_each<R: Wait>(
         &self,
         rt: &R,
@@ -305,7 +314,7 @@ impl<N: Name> TaxoWriter<N> {
         Ok(Found { each, whole })
     }
 
-    // Takes the labels' turn once and gives it back. In between it adds the prefixes that are missing, path by path.
+    // Takes the lock of the labels once, adds the missing prefixes, path by path, and releases it.
     fn add_missing_each<R: Wait>(
         &self,
         rt: &R,
@@ -341,7 +350,7 @@ impl<N: Name> TaxoWriter<N> {
         added
     }
 
-    // Keeps the ordinals of the prefixes of each path behind those that were found, where there is memory.
+    // Stores the ordinals of each path's prefixes after those that were found, if there is memory.
     fn remember_each<R: Wait>(
         &self,
         rt: &R,
@@ -362,11 +371,13 @@ impl<N: Name> TaxoWriter<N> {
         }
     }
 
-    /// The ordinals of the prefixes of each path, path by path, as [`resolve`](TaxoWriter::resolve). Labels that were added before a refusal stay; so each
-    /// label that was added has all prefixes of the paths before its own as labels before it.
+    /// Returns the ordinals of the prefixes of each path, path by path, as [`resolve`](TaxoWriter::resolve) does.
     ///
-    /// It looks for all paths in the token's memo and in the cache first. Where these have them all it takes no turn, and else it waits for the labels' turn
-    /// once, whatever is missing of how many paths.
+    /// Locks: those of the cache, for all paths first. If a prefix is missing there, that of the labels, once for all
+    /// paths.
+    ///
+    /// Errors: those of `resolve`. Labels that were added before stay. So for each added label, all prefixes of the
+    /// paths before its own are earlier labels.
     pub fn resolve_each<R: Wait>(
         &self,
         rt: &R,
@@ -396,8 +407,10 @@ impl<N: Name> TaxoWriter<N> {
         Ok(resolved)
     }
 
-    /// The view of exactly what the token has then seen. It waits for the labels' turn, and copies every label in it: time and memory go with the whole
-    /// list.
+    /// Returns the view of exactly what the token has then seen. It copies every label, so it takes time and memory
+    /// proportional to the whole list.
+    ///
+    /// Locks: that of the labels, while it copies. Errors: out of memory.
     pub fn snapshot<R: Wait>(&self, rt: &R, token: &mut Token<Path>) -> Result<TaxoView, NoMemory>
         requires own { token.old.identity ≡ self.now.labels }
         requires idle { MayTake token.old }
@@ -413,8 +426,39 @@ impl<N: Name> TaxoWriter<N> {
         view
     }
 
-    /// The view of exactly what the token has then seen: the last one, shared, where no label is new, and else a new one. It waits for the labels' turn, and
-    /// copies every label in it where one is new. As Lucene's `openIfChanged` of a taxonomy reader.
+    /// Returns the view of exactly what the token has then seen, as [`snapshot`](TaxoWriter::snapshot) does, given an
+    /// earlier view. The two share the labels that the earlier one has. It copies each new label, and at most 4,095
+    /// others: on average 8 per new label if a view is taken after each. Each copy of a label counts as a step.
+    ///
+    /// Locks: that of the labels, while it copies. Errors: out of memory.
+    pub fn snapshot_from<L: Ledger, R: Wait>(
+        &self,
+        rt: &R,
+        token: &mut Token<Path>,
+        last: &TaxoView,
+        steps: &mut Steps<L>,
+    ) -> Result<TaxoView, NoMemory>
+        requires own { token.old.identity ≡ self.now.labels }
+        requires idle { MayTake token.old }
+        requires last { IsPrefix last.now (labels_of token.old.seen) }
+        ensures token { SameToken token.old token.new × (token.new.holds_turn ≡ false) }
+        ensures more { SeesOn token.old token.new }
+        ensures labels { SeesLabels token.new }
+        ensures view { IfOk result (λ v. v ≡ labels_of token.new.seen) }
+        ensures steps { steps.new ≤ steps.old + (length (labels_of token.new.seen) - length last.now) + 4095 }
+        ensures counted { IsCounted token.new }
+    {
+        let list = self.labels.take(rt, token).into_list();
+        let view = list.view_from(last, steps);
+        self.labels.give(token, LabelList::new(list));
+        view
+    }
+
+    /// Returns the view of exactly what the token has then seen: the last one, shared, if no label is new, and
+    /// otherwise a new one, which shares the labels of the last one. It copies the new labels, and at most 4,095
+    /// others. It corresponds to Lucene's `openIfChanged` of a taxonomy reader.
+    ///
+    /// Locks: that of the labels, while it copies. Errors: out of memory.
     pub fn renew<R: Wait>(
         &self,
         rt: &R,
@@ -436,7 +480,7 @@ impl<N: Name> TaxoWriter<N> {
         view
     }
 
-    /// The list of exactly what the token has then seen. It takes the labels' turn for good.
+    /// Takes the lock of the labels for good, and returns the list of exactly what the token has then seen.
     pub fn end<R: Wait>(&self, rt: &R, token: &mut Token<Path>) -> Taxonomy
         requires own { token.old.identity ≡ self.now.labels }
         requires idle { MayTake token.old }
@@ -449,14 +493,14 @@ impl<N: Name> TaxoWriter<N> {
         self.labels.end(rt, token).into_list()
     }
 
-    /// The labels chronicle.
+    /// Returns the labels chronicle.
     pub fn labels(&self) -> &Chronicle<LabelList>
         ensures { result.now ≡ self.now.labels }
     {
         &self.labels
     }
 
-    /// Another token of the labels that may enter, as [`Chronicle::token`].
+    /// Makes another token of the labels that may enter, as [`Chronicle::token`].
     pub fn token(&self, first: &mut Token<Path>) -> Token<Path>
         requires own { first.old.identity ≡ self.now.labels }
         requires first { (first.old.is_note ≡ false) × (first.old.number ≡ 0) }
@@ -469,7 +513,7 @@ impl<N: Name> TaxoWriter<N> {
         self.labels.token(first)
     }
 
-    /// A copy of what the token has seen of the labels, as [`Chronicle::note`].
+    /// Copies what the token has seen of the labels, as [`Chronicle::note`].
     pub fn note(&self, of: &mut Token<Path>) -> Token<Path>
         requires own { of.old.identity ≡ self.now.labels }
         ensures of { of.new ≡ of.old }
@@ -479,7 +523,7 @@ impl<N: Name> TaxoWriter<N> {
         self.labels.note(of)
     }
 
-    /// Tells `into` what `from` has seen of the labels, as [`Chronicle::meet`].
+    /// Shows `into` what `from` has seen of the labels, as [`Chronicle::meet`].
     pub fn meet(&self, into: &mut Token<Path>, from: Token<Path>)
         requires own { (into.old.identity ≡ self.now.labels) × (from.identity ≡ self.now.labels) }
         requires idle { (into.old.holds_turn ≡ false) × (from.holds_turn ≡ false) }

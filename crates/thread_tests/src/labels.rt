@@ -18,7 +18,7 @@ use std::time::{Clock, Duration};
 use taxo_cache::Name;
 use taxo_writer::{LabelList, TaxoWriter};
 
-// The ordinal of the first path, where they are resolved as an add resolves the labels of its document.
+// Returns the ordinal of the first path, which is resolved as an add resolves the labels of its document.
 fn ordinal_of<N: Name, R: Wait>(
     rt: &R,
     writer: &TaxoWriter<N>,
@@ -35,7 +35,8 @@ fn ordinal_of<N: Name, R: Wait>(
     resolved.first()?.prefixes().last().copied()
 }
 
-// The ordinals of two paths and of the first one again, each in a list of its own, with so many stripes of so much room.
+// Returns the ordinals of two paths and of the first one again, each resolved in a list of its own, with this many
+// stripes of this capacity.
 fn ordinals_of<N: Name, R: Wait>(
     rt: &R,
     alloc: Global,
@@ -64,7 +65,7 @@ fn ordinals_of<N: Name, R: Wait>(
     Some((before, beside, after))
 }
 
-// Whether the flag is up at one of 10,000 looks, a millisecond apart.
+// Returns whether the flag is set at one of 10,000 checks, a millisecond apart.
 fn comes_up<R: Clock>(rt: &R, flag: &AtomicBool) -> bool {
     for _ in 0..10_000u32 {
         if flag.load(Ordering::SeqCst) {
@@ -75,7 +76,7 @@ fn comes_up<R: Clock>(rt: &R, flag: &AtomicBool) -> bool {
     false
 }
 
-// Gives the turn back once the flag is up, or after all looks. Whether it was up.
+// Releases the lock once the flag is set, or after all checks. Returns whether it was set.
 fn hold<N: Name, R: Clock>(
     rt: &R,
     writer: &TaxoWriter<N>,
@@ -93,7 +94,7 @@ fn hold<N: Name, R: Clock>(
     was_up
 }
 
-// The path's ordinal; the flag goes up.
+// Returns the path's ordinal, and sets the flag.
 fn resolve_again<N: Name, R: Wait>(
     rt: &R,
     writer: &TaxoWriter<N>,
@@ -109,7 +110,8 @@ fn resolve_again<N: Name, R: Wait>(
     ordinal
 }
 
-// The ordinal of a path that was resolved before, where another thread answers it while this one holds the labels' turn.
+// Returns the ordinal of a path that was resolved before, if another thread resolves it while this one holds the lock
+// of the labels.
 fn known_beside<N: Name + Send + Sync, R: Threads + Wait + Clock + Sync>(
     rt: &R,
     alloc: Global,
@@ -153,7 +155,8 @@ fn while_held<R: Threads + Wait + Clock + Sync>(rt: &R, alloc: Global) -> Option
     known_beside::<Brand, R>(rt, alloc, opened, &paths)
 }
 
-// Whether a label keeps its ordinal, with much room in the cache and with little, and needs no turn once it is known.
+// Returns whether a label keeps its ordinal, with a large cache and with a small one, and needs no lock once it is
+// known.
 fn keeps_its_ordinal<R: Threads + Wait + Clock + Sync>(rt: &R, alloc: Global) -> bool {
     let much = in_room_for(rt, alloc, (16, 4096));
     let little = in_room_for(rt, alloc, (1, 1));

@@ -15,7 +15,7 @@ use std::thread::{Threads, join};
 use std::time::{Clock, Duration};
 use taxo_cache::Name;
 
-// What the lease gives, where it gives the same at each of 50 looks, a millisecond apart.
+// Returns what the lease has, if it has the same at each of 50 checks, a millisecond apart.
 fn read_on<R: Clock>(rt: &R, alloc: Global, lease: &Lease) -> Option<Reading> {
     let first = read(alloc, lease)?;
     for _ in 0..50u32 {
@@ -39,7 +39,7 @@ fn read_in_both<R: Threads + Clock + Sync>(
     )
 }
 
-// What a lease gives after the pass published, where it gave two other threads the same meanwhile.
+// Returns what a lease has after the pass published, if two other threads read the same meanwhile.
 fn read_beside<N: Name, R: Threads + Wait + Clock + Sync>(
     rt: &R,
     alloc: Global,
@@ -67,7 +67,7 @@ fn read_beside<N: Name, R: Threads + Wait + Clock + Sync>(
     }
 }
 
-// What a lease of three documents gives after 20 more were published, and what the last pair then has.
+// Returns what a lease of three documents has after 20 more were published, and what the last pair has then.
 fn held_beside<N: Name, R: Threads + Wait + Clock + Sync>(
     rt: &R,
     alloc: Global,

@@ -1,4 +1,4 @@
-//! Tests of what threads do: turns of a chronicle, the writer of labels with its cache, and published pairs.
+//! Tests of threads: the lock of a chronicle, the writer of labels with its cache and its views, and published pairs.
 #![tactic(auto)]
 
 #[cfg(test)]
@@ -9,3 +9,5 @@ mod leases;
 mod pairs;
 #[cfg(test)]
 mod turns;
+#[cfg(test)]
+mod views;

@@ -2,7 +2,6 @@
 ghost use Rattle.std.specs.Prelude.{◌≡◌, IfSome};
 ghost use Rattle.pair_manager.specs.Passes.{IsOf};
 
-use facet_names::Path;
 use pair_fixture::{Begun, Opened, bare_entry, begin, label_of, name_of, open_labels};
 use pair_manager::{Lease, Manager, Pass, release};
 use seg_file::Segment;
@@ -13,9 +12,9 @@ use std::sync::{Arc, Wait};
 use std::test::Fail;
 use std::thread::{Threads, join};
 use taxo_cache::Name;
-use taxo_list::Labelled;
+use taxo_list::{Labelled, TaxoView};
 
-// The document's place, where it and its label could be added.
+// Returns the document's place, if it and its label could be added.
 fn add<N: Name, R: Wait>(
     rt: &R,
     alloc: Global,
@@ -36,7 +35,8 @@ fn add<N: Name, R: Wait>(
     manager.append(rt, pass, session, entry).ok()
 }
 
-// Adds a document and its label and refreshes, so often. The pass, where each place was at or above the refresh before it and below the refresh after it.
+// Adds a document with its label and refreshes, repeatedly. Returns the pass, if each place was at or above the refresh
+// before it and below the refresh after it.
 pub(crate) fn add_and_refresh<N: Name, R: Wait>(
     rt: &R,
     alloc: Global,
@@ -60,7 +60,8 @@ pub(crate) fn add_and_refresh<N: Name, R: Wait>(
     Some(pass)
 }
 
-// What a pair says of itself, and how many documents and labels of sessions 1 and 2 it has in the order in which they were added.
+// The numbers of a pair, and how many documents and labels of sessions 1 and 2 it has in the order in which they were
+// added.
 #[derive(Drop, Clone, Copy, Debug, PartialEq, Eq)]
 pub(crate) struct Reading {
     pub(crate) operations: u64,
@@ -69,7 +70,7 @@ pub(crate) struct Reading {
     pub(crate) named: (u32, u32),
 }
 
-// The number of the session's next document, after those of the segment.
+// Returns the number of the session's next document, after those of the segment.
 fn next_behind(alloc: Global, segment: &Segment, session: u32, first: u32) -> Option<u32> {
     let mut next = first;
     for doc in 0..segment.docs() {
@@ -88,10 +89,10 @@ fn documents_of(alloc: Global, segments: &[Arc<Segment>], session: u32) -> Optio
     Some(next)
 }
 
-fn labels_of(alloc: Global, paths: &[Path], session: u32) -> Option<u32> {
+fn labels_of(alloc: Global, view: &TaxoView, session: u32) -> Option<u32> {
     let mut next = 0;
-    for path in paths {
-        if *path == label_of(alloc, session, next).ok()? {
+    for ord in 1..view.size() {
+        if *view.path_of(ord) == label_of(alloc, session, next).ok()? {
             next = next.saturating_add(1);
         }
     }
@@ -100,20 +101,20 @@ fn labels_of(alloc: Global, paths: &[Path], session: u32) -> Option<u32> {
 
 pub(crate) fn read(alloc: Global, lease: &Lease) -> Option<Reading> {
     let pair = lease.pair();
-    let segments = pair.segments();
-    let paths = pair.view().paths();
+    let segments = pair.segments().to_vec().ok()?;
+    let view = pair.view();
     Some(Reading {
         operations: pair.operations(),
-        labels: pair.view().size(),
+        labels: view.size(),
         documents: (
-            documents_of(alloc, segments, 1)?,
-            documents_of(alloc, segments, 2)?,
+            documents_of(alloc, &segments, 1)?,
+            documents_of(alloc, &segments, 2)?,
         ),
-        named: (labels_of(alloc, paths, 1)?, labels_of(alloc, paths, 2)?),
+        named: (labels_of(alloc, view, 1)?, labels_of(alloc, view, 2)?),
     })
 }
 
-// What the last pair has.
+// Returns what the last pair has.
 pub(crate) fn acquired<N: Name, R: Wait>(
     rt: &R,
     alloc: Global,
@@ -128,7 +129,7 @@ pub(crate) fn acquired<N: Name, R: Wait>(
     reading
 }
 
-// What the last pair has, after two threads added and refreshed 20 times each.
+// Returns what the last pair has after two threads added and refreshed 20 times each.
 fn last_of_both<N: Name + Send + Sync, R: Threads + Wait + Sync>(
     rt: &R,
     alloc: Global,

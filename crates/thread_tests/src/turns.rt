@@ -8,7 +8,7 @@ use std::sync::Wait;
 use std::test::Fail;
 use std::thread::{Threads, join};
 
-// A list of numbers, which stands for the numbers that were entered.
+// A list of numbers, which represents the numbers that were entered.
 #[derive(Drop)]
 struct Log {
     items: Vec<u64>,
@@ -51,7 +51,7 @@ fn enter_one<R: Wait>(
     }
 }
 
-// Each number in a turn of its own. The token's own entries are then just these, in order.
+// Enters each number while holding the lock for it alone. The token's own entries are then exactly these, in order.
 fn enter_all<R: Wait>(
     rt: &R,
     log: &Chronicle<Log>,
@@ -77,7 +77,7 @@ fn numbers_from(alloc: Global, start: u64) -> Result<Vec<u64>, AllocError>
     Ok(numbers)
 }
 
-// Each list in a thread of its own, by one of two tokens, which the first one then meets.
+// Enters each list in a thread of its own, with one of two tokens, which the first one then meets.
 fn enter_both<R: Threads + Wait + Sync>(
     rt: &R,
     log: &Chronicle<Log>,
@@ -108,7 +108,7 @@ fn enter_both<R: Threads + Wait + Sync>(
     Ok(())
 }
 
-// Whether these are the numbers of both lists, those of each list in order.
+// Returns whether these are the numbers of both lists, those of each list in order.
 fn has_both(items: &[u64], low: &[u64], high: &[u64]) -> bool {
     let mut lows = items.iter().filter(|&&n| n < 1000);
     let mut highs = items.iter().filter(|&&n| n >= 1000);
@@ -117,7 +117,7 @@ fn has_both(items: &[u64], low: &[u64], high: &[u64]) -> bool {
         && high.iter().all(|n| highs.next() == Some(n))
 }
 
-// Whether a log has what two threads entered, and its tokens are numbered in order.
+// Returns whether a log has what two threads entered, and its tokens are numbered in order.
 fn two_threads<R: Threads + Wait + Sync>(
     rt: &R,
     alloc: Global,

@@ -30,12 +30,8 @@ loop-doc-preserved c =
       fit = ap (λ (at : ℕ). documents_fit config known c.args.needs at (drop (i + 1) rs)) c.next_record-at.ensures.place ∙ documents_more config known c.args.needs rs i c.loop-doc.at no_record lt c.in_ok-entry.ensures.fits ∙ c.loop-doc.invariant.fit;
       docs = one_more (λ e. e.doc) (doc_in known) c.loop-doc.entries.items c.push.new.self.items c.in_ok-entry.entry rs i no_record lt c.in_ok-push.ensures.items c.in_ok-entry.ensures.doc c.loop-doc.invariant.docs;
       stored = one_more stored_of (counted_anew config known) c.loop-doc.entries.items c.push.new.self.items c.in_ok-entry.entry rs i no_record lt c.in_ok-push.ensures.items c.in_ok-entry.ensures.stored c.loop-doc.invariant.stored;
-      list = λ _. c.in_ok-entry.ensures.list;
       near = omega (arith, c.next_record-at.ensures.near, c.loop-doc.invariant.near);
     }
 
 pub returns-clause-fits : goal.returns-clause-fits
 returns-clause-fits c = sym c.loop-doc.invariant.fit ∙ documents_end c.args.config.now c.args.labels.now c.args.needs c.args.segment.now.records c.loop-doc.doc c.loop-doc.at (omega (arith, c.loop-doc-test.false, c.docs-docs.ensures.number))
-
-pub returns-clause-list : goal.returns-clause-list
-returns-clause-list c = c.loop-doc.invariant.list (omega (arith, c.loop-doc-test.false, c.docs-docs.ensures.number, c.docs-docs.ensures.is.some))

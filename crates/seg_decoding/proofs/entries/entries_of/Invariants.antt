@@ -1,5 +1,4 @@
-use Rattle.std.proofs.Common.{◌≡◌, ◌≤◌, ◌<◌, ◌+◌, ◌*◌, map, take, drop}
-use Rattle.facet_names.specs.Labels.{IsLabelList}
+use Rattle.std.proofs.Common.{◌≡◌, ◌≤◌, ◌+◌, ◌*◌, map, take, drop}
 use Rattle.seg_terms.specs.Entries.{stored_of}
 use Rattle.seg_documents.specs.Decoding.{doc_in}
 use Rattle.seg_documents.specs.Entries.{docs_of}
@@ -11,6 +10,5 @@ invariant-loop-doc l = record {
   fit : documents_fit l.config l.labels l.needs l.at (drop l.doc l.segment.records) ≡ documents_fit l.config l.labels l.needs 12 l.segment.records;
   docs : docs_of l.entries.items ≡ map (doc_in l.labels) (take l.doc l.segment.records);
   stored : map stored_of l.entries.items ≡ map (counted_anew l.config l.labels) (take l.doc l.segment.records);
-  list : 0 < l.doc → IsLabelList l.labels;
   near : l.at ≤ 12 + 100000 * l.doc;
 }

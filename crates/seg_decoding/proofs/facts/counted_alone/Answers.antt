@@ -11,4 +11,4 @@ returns c =
     let known = c.args.labels.now in
     let leaves : c.deref.result.now ≡ c.args.ord ∷ [] = c.deref.ensures.value ∙ c.in_ok-push.ensures.items ∙ ap (λ (xs : List ℕ). xs ++ c.args.ord ∷ []) c.in_ok-leaves.ensures.items in
     ap (λ (x : Stored). x.counted) c.in_ok-entry.ensures.stored
-    ∙ ap (counted_ordinals known c.args.config.now) (ap (λ (d : Doc). d.labels) c.in_ok-document.ensures.ok ∙ sym (labels_at known c.deref.result.now c.in_ok-paths.paths.items c.in_ok-paths.ensures.labels) ∙ ap (map (label_of known)) leaves)
+    ∙ ap (counted_ordinals known c.args.config.now) (ap (λ (d : Doc). d.labels) c.in_ok-document.ensures.ok ∙ sym (labels_at known c.deref.result.now c.in_ok-paths.paths.items c.in_ok-paths.ensures) ∙ ap (map (label_of known)) leaves)

@@ -13,7 +13,7 @@ returns-in-Ok-clause-ok c documents bytes read found =
     let theirs = c.in-Ok.ensures.theirs in
     record {
       stored = verified_opens config known needs documents bytes s found right theirs read;
-      decodes = verified_decodes config known needs documents bytes s found right theirs read c.in-Ok.ensures.list c.requires.needs;
+      decodes = verified_decodes config known needs documents bytes s found right theirs read c.verify.ensures.list c.requires.needs;
       leaves = leaves_low config known needs s.records (right_fits config known needs documents bytes s found right theirs);
     }
 

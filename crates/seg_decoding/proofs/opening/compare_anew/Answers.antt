@@ -43,6 +43,6 @@ returns-clause-ok c documents bytes read found =
     let none = (λ i. first_difference (sym c.bytes.ensures.bytes i) (sym c.bytes-2.ensures.bytes i)) ∙ sym c.in-None.ensures in
     record {
       stored = agrees config known needs documents bytes s read made found c.in_ok-entries.ensures.fits built own none;
-      decodes = decodes config known needs documents bytes s read made found c.in_ok-entries.ensures.fits built own none c.in_ok-entries.ensures.list c.requires.needs;
+      decodes = decodes config known needs documents bytes s read made found c.in_ok-entries.ensures.fits built own none c.requires.list c.requires.needs;
       leaves = leaves_low config known needs s.records c.in_ok-entries.ensures.fits;
     }

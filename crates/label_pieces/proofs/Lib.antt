@@ -1,0 +1,4 @@
+mod Places
+pub mod Differ
+mod Growing
+mod Sizes
