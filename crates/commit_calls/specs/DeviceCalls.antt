@@ -1,4 +1,4 @@
--- The device calls of a plan in their order, and a run that ended at one of them.
+-- The disk calls of a plan in their order, and calls that ended early.
 use Rattle.std.specs.Prelude.{◌≡◌, ◌⊎◌, ◌+◌, ◌*◌, ◌++◌, ◌∷◌, [], ℕ, List, length, map, Option, Some, None}
 use Rattle.std.specs.List.{flat_map}
 use Rattle.facet_disk.specs.declared.disk.Disk.{Ghosts}
@@ -14,11 +14,11 @@ use Rattle.commit_calls.specs.declared.plan.Write.{Write}
 use Rattle.commit_calls.specs.declared.plan.Plan.{Plan}
 use Rattle.commit_calls.specs.Held.{file}
 
--- the device failed, and the count of its failures rose
+-- an I/O error happened, and the count of failures rose
 abbrev pub IsFailure : ℕ → ℕ → DiskFault → Type 0
 IsFailure before now e = (e ≡ Failed) × Rose before now
 
--- a call of a disk that may change something
+-- a disk call that may change something
 pub data Call : Type 0 where
   put : FileName → List ℕ → Call
   sync : FileName → Call
@@ -26,7 +26,7 @@ pub data Call : Type 0 where
   sync_names : Dir → Call
   remove : FileName → Call
 
--- what is told after a call
+-- what the disk reads after a call
 abbrev pub told_by : Call → Told → Told
 told_by (put name bytes) s = put_in s name bytes
 told_by (sync name) s = synced_in s name
@@ -34,12 +34,12 @@ told_by (rename from to) s = renamed_in s from to
 told_by (sync_names dir) s = s
 told_by (remove name) s = removed_in s name
 
--- what is told after these calls
+-- what the disk reads after these calls
 abbrev pub told_by_all : List Call → Told → Told
 told_by_all [] s = s
 told_by_all (call ∷ calls) s = told_by_all calls (told_by call s)
 
--- what may be told after a call that failed: a file may have been put or half put, a rename or removal may have happened
+-- what may be read after a failed call: a file may be written or half written, a rename or removal may have happened
 abbrev pub IsFailed : Call → Told → Option Told → Type 0
 IsFailed (put name bytes) s now = (now ≡ Some s) ⊎ (now ≡ Some (half_put_in s name)) ⊎ ((any : List ℕ) × (now ≡ Some (put_in s name any)))
 IsFailed (sync name) s now = now ≡ Some s
@@ -47,20 +47,21 @@ IsFailed (rename from to) s now = (now ≡ Some s) ⊎ (now ≡ Some (renamed_in
 IsFailed (sync_names dir) s now = now ≡ Some s
 IsFailed (remove name) s now = (now ≡ Some s) ⊎ (now ≡ Some (removed_in s name))
 
--- those of a file: it is put, and then synced
+-- the calls of a file: it is written, and then synced
 abbrev pub file_calls : FileName → List ℕ → List Call
 file_calls name bytes = put name bytes ∷ sync name ∷ []
 
--- those of a part: its pending file becomes its commit file, and then its directory's names are synced. One that is left out has none.
+-- the calls of a part: its pending file becomes its commit file, then the directory's names are synced; none if it is
+-- left out
 abbrev pub part_calls : Dir → Option ℕ → List Call
 part_calls dir None = []
 part_calls dir (Some n) = rename (file dir Pending n) (file dir Commit n) ∷ sync_names dir ∷ []
 
--- those of the files of a plan
+-- the calls of the files of a plan
 abbrev pub files_calls : List Write → List Call
 files_calls = flat_map (λ w. file_calls w.name w.bytes.items)
 
--- those of a plan: its files, the taxonomy's part, the index's, and its strays
+-- the calls of a plan: its files, the taxonomy's part, the index's, and its strays
 abbrev pub calls_of : Plan → List Call
 calls_of p = files_calls p.writes.items ++ (part_calls Taxonomy p.taxonomy ++ (part_calls Index p.index ++ map remove p.strays.items))
 
@@ -73,7 +74,7 @@ part_count (Some n) = 2
 abbrev pub call_count : Plan → ℕ
 call_count p = 2 * length p.writes.items + part_count p.taxonomy + part_count p.index + length p.strays.items
 
--- Of these calls some were made and did not fail, the next one failed, and none was made after it.
+-- The first of these calls succeeded, the next one failed, and none was made after it.
 pub record StopsAt {D : Type 0} (disk : Ghosts D) (calls : List Call) (old new : D) : Type 0 where
   pub made : List Call
   pub failed : Call

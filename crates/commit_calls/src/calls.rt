@@ -16,7 +16,7 @@ use crate::fault::CutShort;
 use crate::plan::{Plan, Write};
 use facet_disk::{Dir, Disk, DiskFault, FileName, Kind};
 
-// Makes a file and syncs it: two calls.
+// Writes a file and syncs it: two calls.
 fn write_file<D: Disk>(disk: &mut D, name: FileName, bytes: &[u8]) -> Result<(), DiskFault>
     ensures passes { Passes D.Disk (PutOf name) disk.old disk.new }
     ensures durable { OnOk result ((s : Told) → D.told disk.old ≡ Some s → (c : Image) → D.may_leave disk.new c → c name ≡ Some bytes.now) }
@@ -34,7 +34,7 @@ fn write_file<D: Disk>(disk: &mut D, name: FileName, bytes: &[u8]) -> Result<(),
     Ok(())
 }
 
-// Makes files in order, each synced before the next.
+// Writes files in order. Each is synced before the next is written.
 fn write_files<D: Disk>(disk: &mut D, files: &[Write]) -> Result<(), DiskFault>
     ensures passes { (from to : ℕ) → Rises from to files.now → Passes D.Disk (Beside from to) disk.old disk.new }
     ensures durable { OnOk result ((s : Told) (from to : ℕ) → Rises from to files.now → D.told disk.old ≡ Some s
@@ -55,7 +55,7 @@ fn write_files<D: Disk>(disk: &mut D, files: &[Write]) -> Result<(), DiskFault>
     Ok(())
 }
 
-// Makes a pending file the newest commit file of its directory, for good: two calls, or none where this part is left out.
+// Makes a pending file the newest commit file of its directory, durably: two calls, or none if this part is left out.
 fn publish<D: Disk>(disk: &mut D, dir: Dir, part: Option<u64>) -> Result<(), DiskFault>
     ensures passes { Passes D.Disk (IsPublished dir part) disk.old disk.new }
     ensures done { OnOk result ((s : Told) → D.told disk.old ≡ Some s → IfSome part (λ n. s.unsynced (file dir Pending n) ≡ false)
@@ -106,46 +106,51 @@ fn clear<D: Disk>(disk: &mut D, names: &[FileName]) -> Result<(), DiskFault>
     Ok(())
 }
 
-/// Makes the device calls of a commit.
+/// Makes the disk calls of a commit.
 ///
-/// It puts and syncs each file. Then it renames the taxonomy's pending file to its commit file and syncs the names of that directory, and
-/// after that the same for the index. Last it removes the strays. At the first call that fails it ends, and makes no call after it.
+/// It writes and syncs each file. Then it renames the taxonomy's pending file to its commit file and syncs the names of
+/// that directory, and after that does the same for the index. Last it removes the strays. It ends at the first call
+/// that fails, and makes no call after it.
 ///
-/// It makes two calls for each file, two for each part that is not left out and one for each stray. It takes no memory of its own.
-pub fn carry_out<D: Disk>(disk: &mut D, plan: &Plan) -> Result<(), CutShort>
+/// Costs: two calls for each file, two for each part that is not left out and one for each stray. It allocates nothing
+/// itself.
+///
+/// Errors: `CutShort` if a disk call failed; the disk counts the fault.
+pub fn execute_plan<D: Disk>(disk: &mut D, plan: &Plan) -> Result<(), CutShort>
     requires plan { IsPlan plan.now }
 
-    // Of a disk that tells its files and stands for one pair of taxonomy and index, and of a plan that leads from this pair to another:
+    // The following holds for a disk whose files are known and represent one pair of taxonomy and index, and a plan
+    // from this pair to another.
 
-    // At each moment of it every image stands for the pair before, the pair after, or the old index under the new taxonomy; whatever the
-    // result.
+    // At each moment, every image represents the pair before, the pair after, or the old index under the new taxonomy,
+    // whatever the result.
     ensures any_moment { WhereItLeads D.Disk plan.now disk.old (λ t i t' i'. LeavesOnly D.Disk disk.old disk.new (IsOneOfThree plan.now.to t i t' i')) }
 
-    // And so does every image at its end.
+    // So does every image at the end.
     ensures now { WhereItLeads D.Disk plan.now disk.old (λ t i t' i'. Within (IsOneOfThree plan.now.to t i t' i') (D.may_leave disk.new)) }
 
-    // After Ok every image stands for the pair after.
+    // After `Ok` every image represents the pair after.
     ensures done { OnOk result (WhereItLeads D.Disk plan.now disk.old (λ t i t' i'. IsAt D.may_leave plan.now.to t' i' disk.new)) }
 
-    // After Ok a read gives what the plan makes of the files, and their numbers stay below its end.
+    // After `Ok` the disk reads what the plan makes of the files, and their numbers stay below its end.
     ensures told { OnOk result ((s : Told) → D.told disk.old ≡ Some s → D.told disk.new ≡ Some (carried_told plan.now s)) }
     ensures names { OnOk result ((s u : Told) → D.told disk.old ≡ Some s → D.told disk.new ≡ Some u → Below plan.now.from s.files → Below plan.now.to u.files) }
 
-    // Wherever it ends, it has removed strays in their order, and none before all else is done.
+    // Wherever it ends, the removed strays are the first ones, and none was removed before all else was done.
     ensures cut_short { OnErr result ((s : Told) → D.told disk.old ≡ Some s → IsCutShort plan.now s (D.told disk.new)) }
 
     ensures cause { OnErr result (Rose (D.faults disk.old) (D.faults disk.new)) }
     ensures still { OnOk result (D.faults disk.new ≡ D.faults disk.old) }
 
-    // Where the plan fits the files, no call of it is bound to be refused, and it ends early only where the device failed.
+    // If the plan fits the files, every call is allowed, so it ends early only if an I/O error happened.
     ensures failed { (s : Told) → D.told disk.old ≡ Some s → Fits plan.now s.files → OnErr result (Rose (D.failures disk.old) (D.failures disk.new)) }
     ensures unfailed { OnOk result (D.failures disk.new ≡ D.failures disk.old) }
     ensures later { D.faults disk.old ≤ D.faults disk.new }
 
-    // After Ok it has made as many calls as the plan has.
+    // After `Ok` it has made as many calls as the plan has.
     ensures calls { OnOk result (D.moment disk.new ≡ D.moment disk.old + call_count plan.now) }
 
-    // Otherwise some of the plan's calls were made in their order, the next one failed, and none was made after it.
+    // Otherwise the first calls of the plan were made, the next one failed, and none was made after it.
     ensures stopped { OnErr result (StopsAt D.Disk (calls_of plan.now) disk.old disk.new) }
 {
     write_files(disk, &plan.writes)?;

@@ -1,4 +1,4 @@
--- What a commit promises.
+-- What a commit guarantees.
 use Rattle.std.specs.Prelude.{◌≡◌, ◌⊎◌, ℕ, List, Ok}
 use Rattle.facet_disk.specs.Images.{Image}
 use Rattle.facet_model.specs.Flags.{Config}

@@ -20,7 +20,7 @@ ghost use Rattle.commit_plan.specs.Drafts.{committed_after};
 ghost use Rattle.commit_store.specs.Promised.{IsHere, OfBoth, PassesThree, LeavesThree, Acknowledges, Settles, TellsCommit, AreAmong, HasNamed, StaysListed, CutsShort, ClosesAt, FailsDevice, last_of, IsSpentAt, IsRefusedAt};
 
 use crate::opening::{NotOpened, Opened};
-use commit_calls::carry_out;
+use commit_calls::execute_plan;
 use commit_plan::{CommitFault, CommitState, plan_commit, state_of};
 use facet_config::FacetsConfig;
 use facet_disk::Disk;
@@ -32,13 +32,14 @@ use std::sync::Arc;
 use store_opening::{OpenFault, Read, read_store};
 use taxo_list::TaxoView;
 
-/// A disk to which commits go. After a fault of the disk it takes no more.
+/// A disk that commits are written to, with what is known of its newest commits. After a commit ended with a failed
+/// disk call it accepts no more commits.
 #[derive(Drop)]
 pub struct Committer<D: Disk> {
     disk: D,
     config: FacetsConfig,
     state: CommitState,
-    // the count of faults with which a commit ended
+    // the disk's count of faults when a commit failed
     closed: Option<u64>,
     alloc: Global,
 }
@@ -55,38 +56,44 @@ impl<D: Disk> Model for Committer<D> {
 }
 
 impl<D: Disk> Committer<D> {
-    /// Opens a disk, and writes nothing: it reads the store of the disk, with the costs of that.
+    /// Opens a disk: reads the store that it holds, and writes nothing. For the costs see `store_opening::read_store`.
+    /// `keys` are hash keys; no result depends on them.
+    ///
+    /// Errors: the first fault of the files, `Disk` if a call of the disk failed, or out of memory. Each comes with the
+    /// disk.
     pub fn open(
         alloc: Global,
         keys: RandomState,
         mut disk: D,
         config: FacetsConfig,
     ) -> Result<Opened<D>, NotOpened<D>>
-        // The labels and the segments are those of the files that the disk reads, or the first fault is told.
+        // The labels and the segments are those of the files that the disk reads, or the error is the first fault of
+        // these files.
         ensures ok { IfOk result (λ o. (s : Told) → D.told disk ≡ Some s → HasFiles config o.labels (map arc_value o.segments.items) s.files) }
         ensures err { IfErr result (λ n. n.fault ≢ NoRoom → n.fault ≢ FaultOfDisk → (s : Told) → D.told disk ≡ Some s → files config s.files ≡ Err n.fault) }
         ensures fault { IfErr result (λ n. n.fault ≡ FaultOfDisk → Rose (D.faults disk) (D.faults n.disk)) }
         ensures failed { IfErr result (λ n. n.fault ≡ FaultOfDisk → (s : Told) → D.told disk ≡ Some s → Rose (D.failures disk) (D.failures n.disk)) }
         ensures sound { IfErr result (λ n. IsSound n.fault) }
 
-        // The disk is as it was.
+        // Nothing on the disk changed.
         ensures quiet { IfOk result (λ o. IsQuiet D.Disk disk o.committer.disk) }
         ensures not_opened { IfErr result (λ n. IsQuiet D.Disk disk n.disk) }
         ensures still { IfOk result (λ o. D.faults o.committer.disk ≡ D.faults disk) }
         ensures still_not_opened { IfErr result (λ n. n.fault ≢ FaultOfDisk → D.faults n.disk ≡ D.faults disk) }
         ensures unfailed { IfOk result (λ o. D.failures o.committer.disk ≡ D.failures disk) }
 
-        // What is known of the newest commits are these labels and segments.
+        // The committer knows these labels and segments as those of the newest commits.
         ensures kept { IfOk result (λ o. (segments_in o.committer.state.kept ≡ map arc_value o.segments.items) × (o.committer.state.labels ≡ length o.labels)) }
 
-        // Whatever the disk tells, these are a label list, and segments of their documents, which are at most 1,000,000.
+        // Whatever the disk returns, the labels are a label list, and the segments have their documents, at most
+        // 1,000,000.
         ensures list { IfOk result (λ o. IsLabelList o.labels) }
         ensures decodes { IfOk result (λ o. Decodes o.labels config (map arc_value o.segments.items) (docs_in o.labels (map arc_value o.segments.items))) }
         ensures few { IfOk result (λ o. length (docs_in o.labels (map arc_value o.segments.items)) ≤ 1000000) }
         ensures own { IfOk result (λ o. AllByRecursion IsOwn (map arc_value o.segments.items)) }
         ensures some { IfOk result (λ o. docs_in o.labels (map arc_value o.segments.items) ≡ [] → map arc_value o.segments.items ≡ []) }
 
-        // Commits go on from it.
+        // Commits continue from it.
         ensures unclosed { IfOk result (λ o. (o.committer.closed ≡ None) × (o.committer.config ≡ config)) }
         ensures next { IfOk result (λ o. (s : Told) → D.told disk ≡ Some s → o.committer.state.next ≡ next_after (greatest_number s.files)) }
         ensures fresh { IfOk result (λ o. (s : Told) → D.told disk ≡ Some s → Below o.committer.state.next s.files) }
@@ -124,51 +131,65 @@ impl<D: Disk> Committer<D> {
         })
     }
 
-    /// Commits labels and segments.
+    /// Commits labels and segments. After `Ok` the commit is durable.
     ///
-    /// It puts and syncs a file for the labels that are new and one for each segment that is new, and for each of the two directories a commit file. Then
-    /// it renames the taxonomy's and after that the index's. Last it removes each file that is neither a newest commit nor named by one: the taxonomy's first,
-    /// segments before pending files before commit files, by rising number. A directory of which nothing is new is left out; so is the index where no
-    /// segments are given; strays are removed all the same. It takes all memory before its first call of the disk.
+    /// - It writes and syncs a file for the new labels, one for each new segment, and a pending commit file for each of
+    ///   the two directories.
+    /// - Then it renames the commit file of the taxonomy, and after that the one of the index, and syncs the names of
+    ///   each directory.
+    /// - Last it removes each file that is neither a newest commit nor named by one: the taxonomy's files first; in a
+    ///   directory segments before pending files before commit files; by rising numbers.
+    ///
+    /// A directory without news gets no commit file, and neither does the index if no segments are given. Strays are
+    /// removed in each case.
+    ///
+    /// It allocates all memory before its first disk call: the bytes of the new files, and the names of all files.
+    ///
+    /// Errors: `Closed` after an earlier commit failed on the disk; `Disk` if a disk call failed; `NumbersSpent` if a
+    /// file would need a number of 2^63 or more; out of memory. `NumbersSpent`, `Closed` and out of memory come before
+    /// the first disk call. After `Disk`, a crash leaves one of the states that a crash during the commit may leave.
     pub fn commit(&mut self, view: &TaxoView, segments: &[Arc<Segment>]) -> Result<(), CommitFault>
         requires few { length (records_in (map arc_value segments.now)) ≤ 1000000 }
         requires own { AllByRecursion IsOwn (map arc_value segments.now) }
         requires decodes { Decodes view.now self.old.config (map arc_value segments.now) (docs_in view.now (map arc_value segments.now)) }
 
-        // At each moment of it every image has the files of the pair before, of the old segments under the new labels, or of the pair after.
+        // At each moment, every image has the files of the pair before, of the old segments under the new labels, or of
+        // the pair after.
         ensures any_moment { self.old.closed ≡ None → PassesThree D.Disk self.old self.new view.now (map arc_value segments.now) }
 
-        // And so has every image at its end, whatever it answers.
+        // So has every image when the call ends, whatever it returns.
         ensures now { self.old.closed ≡ None → LeavesThree D.Disk self.old self.new view.now (map arc_value segments.now) }
 
-        // After Ok every image has the files of the pair after.
+        // After `Ok` every image has the files of the pair after.
         ensures acknowledged { OnOk result (Acknowledges D.Disk self.old self.new view.now (map arc_value segments.now)) }
 
-        // Then the disk is settled, as whoever opens it next may need.
+        // Then the disk is settled, which the next opening may require.
         ensures settled { OnOk result (Settles D.Disk self.old self.new view.now (map arc_value segments.now)) }
 
-        // After Ok the disk tells what it told, with the files of the commit made, its pending files renamed and its strays removed.
+        // After `Ok` the disk reads as before, with the files of the commit made, its pending files renamed and its
+        // strays removed.
         ensures told { OnOk result (TellsCommit D.Disk self.old self.new view.now (map arc_value segments.now)) }
         ensures state { OnOk result (self.new.state ≡ committed_after self.old.config self.old.state view.now (map arc_value segments.now)) }
 
-        // What is left are the newest commit files and the segments that they name, where the files before were those listed; and each of these is there,
-        // where each of those before was.
+        // If only listed files were there before, only the newest commit files and the segments that they name are
+        // left. Each of these is there if each of those before was.
         ensures cleaned { OnOk result (OfBoth D.Disk self.old.disk self.new.disk (λ s u.
             AreAmong s.files self.old.state.listed → AreAmong u.files self.new.state.listed)) }
         ensures listed { OnOk result (StaysListed D.Disk self.old self.new) }
         ensures named { OnOk result (OfBoth D.Disk self.old.disk self.new.disk (λ s u. HasNamed s.files self.old.state → HasNamed u.files self.new.state)) }
 
-        // Where a fault ends it, it has removed strays in their order alone, and none before all else was done.
+        // If a fault ends it, the strays removed so far are the first ones, and none was removed before all else was
+        // done.
         ensures cut_short { IfErr result (λ e. (count : ℕ) → e ≡ OfDisk count → CutsShort D.Disk self.old self.new view.now (map arc_value segments.now)) }
 
         ensures fresh { OnOk result (OfBoth D.Disk self.old.disk self.new.disk (λ s u. Below self.old.state.next s.files → Below self.new.state.next u.files)) }
 
-        // What is known stays where it fails.
+        // If it fails, what is known of the newest commits stays.
         ensures known { IfErr result (λ _. self.new.state ≡ self.old.state) }
         ensures refused { IfErr result (λ e. ((count : ℕ) → e ≢ OfDisk count) → self.new ≡ self.old) }
         ensures disk { IfErr result (λ e. (count : ℕ) → e ≡ OfDisk count → ClosesAt D.Disk self.old self.new count) }
 
-        // No call of it is bound to be refused, where what is known of the files is true of those that the disk tells: then the device failed.
+        // If what is known is true of the files on the disk, every call is allowed, so an error means an I/O error.
         ensures failed { IfErr result (λ e. (count : ℕ) → e ≡ OfDisk count → FailsDevice D.Disk self.old self.new) }
         ensures unfailed { OnOk result (D.failures self.new.disk ≡ D.failures self.old.disk) }
 
@@ -188,7 +209,7 @@ impl<D: Disk> Committer<D> {
             return Err(CommitFault::Closed { count });
         }
         let planned = plan_commit(self.alloc, &self.config, &self.state, view, segments)?;
-        if carry_out(&mut self.disk, &planned.plan).is_err() {
+        if execute_plan(&mut self.disk, &planned.plan).is_err() {
             let count = self.disk.fault_count();
             self.closed = Some(count);
             return Err(CommitFault::Disk { count });
@@ -197,14 +218,15 @@ impl<D: Disk> Committer<D> {
         Ok(())
     }
 
-    /// The count of faults with which a commit ended. From then on it takes no more.
+    /// Returns the disk's count of faults when a commit failed, or `None` if none failed. After such a commit every
+    /// commit returns `Closed`.
     pub fn closed(&self) -> Option<u64>
         ensures { result ≡ self.now.closed }
     {
         self.closed
     }
 
-    /// The disk.
+    /// Returns the disk.
     pub fn into_disk(self) -> D
         ensures { result ≡ self.disk }
     {

@@ -1,4 +1,4 @@
-//! Commits of labels and documents to a disk.
+//! Commits of labels and documents to a disk: opening what was committed, and committing more.
 #![tactic(auto)]
 
 mod committer;

@@ -59,7 +59,7 @@ module _ {D : Type 0} (disk : Ghosts D) (only_now : OnlyNow disk) (told settled 
     survive = survive_first disk committer.config only_now labels docs point committer.disk (still Holding (at_first is)) (λ unfailed. still (HoldsJust committer.config labels docs point) (just_first is));
   }
 
-  pub stands_opened : Stands disk told settled quiet start committer.state committer point labels docs (point ∷ []) (marked committer.disk point)
+  pub stands_opened : Stands disk told settled quiet (record { start = start; begun = committer.state; committer = committer; last = point; labels = labels; docs = docs }) (point ∷ []) (marked committer.disk point)
   stands_opened = record {
     points = record {
       before = [];

@@ -54,7 +54,7 @@ module _ {D : Type 0} (disk : Ghosts D) where
 
   module _ (told settled : Type 0) (quiet : DiskState → Type 0) (start : D) (begun : Committed) where
     abbrev pub On : CommitterView D → CommitPoint → Labels → List Doc → List CommitPoint → List (D × CommitPoint) → Type 0
-    On = Stands disk told settled quiet start begun
+    On committer last labels docs = Stands disk told settled quiet (record { start = start; begun = begun; committer = committer; last = last; labels = labels; docs = docs })
 
     -- ---- longer notes
 

@@ -19,8 +19,8 @@ use Rattle.commit_turns.specs.Recovery.{AreFirst, Holds}
 use Rattle.commit_turns.specs.Surviving.{Survive}
 use Rattle.pair_manager.specs.declared.point.CommitPoint.{CommitPoint}
 
--- Points of commits: no point but the last has failed, no failed count is above the disk's, and no number is above the last point's, nor that above what was
--- noted.
+-- Points of commits: no point but the last has failed, no failed count is above the disk's, and no number is above the
+-- last point's, nor that above what was noted.
 pub record ArePoints (faults labels operations : ℕ) (last : CommitPoint) (es : List CommitPoint) : Type 0 where
   pub before : List CommitPoint
   pub ends : es ≡ before ++ last ∷ []
@@ -35,9 +35,21 @@ pub record IsTrueOf (state : Committed) (files : Image) : Type 0 where
   pub named : HasNamed files state
   pub fresh : Below state.next files
 
+-- What the value has: the disk when opening began and what was found on it, the committer, the last point, and the
+-- labels and the documents that were noted.
+pub record CommitState (D : Type 0) : Type 0 where
+  pub start : D
+  pub begun : Committed
+  pub committer : CommitterView D
+  pub last : CommitPoint
+  pub labels : List (List (List ℕ))
+  pub docs : List Doc
+
 module _ {D : Type 0} (disk : Ghosts D) where
-  -- What was committed last is the first of the labels and the first of the documents, as many as the point says; every image now has just that.
-  pub record IsLast (committer : CommitterView D) (p : CommitPoint) (labels : List (List (List ℕ))) (docs : List Doc) : Type 0 where
+  -- What was committed last is the first of the labels and the first of the documents, as many as the point says; every
+  -- image now has just that.
+  pub record IsLast (committer : CommitterView D) (p : CommitPoint) (labels : List (List (List ℕ)))
+      (docs : List Doc) : Type 0 where
     pub known : List (List (List ℕ))
     pub segments : List Records
     pub tells : (s : Told) × (disk.told committer.disk ≡ Some s)
@@ -50,31 +62,35 @@ module _ {D : Type 0} (disk : Ghosts D) where
     pub first : AreFirst (docs_in known segments) docs
     pub count : length (docs_in known segments) ≡ p.operations
 
-  -- At each moment since opening began every image opens as the first of what was noted, no less than the opened point. Now it holds each point, and so it did
-  -- at each moment since the point was entered.
-  pub record Keeps (start : D) (committer : CommitterView D) (labels : List (List (List ℕ))) (docs : List Doc) (es : List CommitPoint) (marks : List (D × CommitPoint)) : Type 0 where
+  -- At each moment since opening began every image opens as the first of what was noted, no less than the opened point.
+  -- Now it holds each point, and so it did at each moment since the point was entered.
+  pub record Keeps (start : D) (committer : CommitterView D) (labels : List (List (List ℕ))) (docs : List Doc)
+      (es : List CommitPoint) (marks : List (D × CommitPoint)) : Type 0 where
     pub moments : LeavesOnly disk start committer.disk (Holds committer.config labels docs (first_of es))
     pub now : All (λ p. (c : Image) → disk.may_leave committer.disk c → Holds committer.config labels docs p c) es
     pub survive : Survive disk committer.config labels docs es marks committer.disk
 
-  -- While no commit has failed on the disk, what is known of the files is true of those that it tells, and the device has not failed. Where one has, the device
-  -- failed.
+  -- While no commit has failed on the disk, what is known of the files is true of those that it tells, and the device
+  -- has not failed. Where one has, the device failed.
   pub record IsFollowed (start : D) (committer : CommitterView D) : Type 0 where
-    pub told : committer.closed ≡ None → (s : Told) → disk.told committer.disk ≡ Some s → IsTrueOf committer.state s.files
+    pub told : committer.closed ≡ None → (s : Told) → disk.told committer.disk ≡ Some s
+        → IsTrueOf committer.state s.files
     pub unfailed : committer.closed ≡ None → disk.failures committer.disk ≡ disk.failures start
     pub failed : (count : ℕ) → committer.closed ≡ Some count → Rose (disk.failures start) (disk.failures committer.disk)
 
-  -- The value stands for these points, of which the first is the opened one, with the disk as it was when each was entered. A commit takes at most 1,000,003 file numbers. Where there is no other point, the
-  -- disk is as it was when opening began.
-  pub record Stands (told settled : Type 0) (quiet : DiskState → Type 0) (start : D) (begun : Committed) (committer : CommitterView D) (last : CommitPoint) (labels : List (List (List ℕ))) (docs : List Doc) (es : List CommitPoint) (marks : List (D × CommitPoint)) : Type 0 where
-    pub points : ArePoints (disk.faults committer.disk) (length labels) (length docs) last es
-    pub closed : last.failed ≡ committer.closed
-    pub counted : disk.faults start ≤ disk.faults committer.disk
-    pub exact : disk.faults committer.disk ≡ count_after (disk.faults start) last.failed
-    pub rose : (count : ℕ) → last.failed ≡ Some count → Rose (disk.faults start) count
-    pub numbers : committer.state.next + 1000003 ≤ begun.next + 1000003 * length es
-    pub tells : told → (s : Told) × (disk.told committer.disk ≡ Some s)
-    pub followed : told → IsFollowed start committer
-    pub keeps : settled → Keeps start committer labels docs es marks
-    pub committed : settled → committer.closed ≡ None → IsLast committer last labels docs
-    pub untouched : length es ≤ 1 → quiet (state_of disk committer.disk)
+  -- The value stands for these points, of which the first is the opened one, with the disk as it was when each was
+  -- entered. A commit takes at most 1,000,003 file numbers. Where there is no other point, the disk is as it was when
+  -- opening began.
+  pub record Stands (told settled : Type 0) (quiet : DiskState → Type 0) (v : CommitState D)
+      (es : List CommitPoint) (marks : List (D × CommitPoint)) : Type 0 where
+    pub points : ArePoints (disk.faults v.committer.disk) (length v.labels) (length v.docs) v.last es
+    pub closed : v.last.failed ≡ v.committer.closed
+    pub counted : disk.faults v.start ≤ disk.faults v.committer.disk
+    pub exact : disk.faults v.committer.disk ≡ count_after (disk.faults v.start) v.last.failed
+    pub rose : (count : ℕ) → v.last.failed ≡ Some count → Rose (disk.faults v.start) count
+    pub numbers : v.committer.state.next + 1000003 ≤ v.begun.next + 1000003 * length es
+    pub tells : told → (s : Told) × (disk.told v.committer.disk ≡ Some s)
+    pub followed : told → IsFollowed v.start v.committer
+    pub keeps : settled → Keeps v.start v.committer v.labels v.docs es marks
+    pub committed : settled → v.committer.closed ≡ None → IsLast v.committer v.last v.labels v.docs
+    pub untouched : length es ≤ 1 → quiet (state_of disk v.committer.disk)

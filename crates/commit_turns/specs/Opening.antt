@@ -18,21 +18,24 @@ use Rattle.commit_turns.specs.Commits.{IsTrueOf}
 
 module _ {D : Type 0} (disk : Ghosts D) where
   -- A disk was opened as these labels and these segments, and nothing was written.
-  pub record IsOpened (start : D) (committer : CommitterView D) (labels : List (List (List ℕ))) (segments : List Records) : Type 0 where
+  pub record IsOpened (start : D) (committer : CommitterView D) (labels : List (List (List ℕ)))
+      (segments : List Records) : Type 0 where
     pub quiet : IsQuiet disk start committer.disk
     pub still : disk.faults committer.disk ≡ disk.faults start
     pub unfailed : disk.failures committer.disk ≡ disk.failures start
     pub unclosed : committer.closed ≡ None
     pub has : (s : Told) → disk.told start ≡ Some s → HasFiles committer.config labels segments s.files
     pub known : (s : Told) → disk.told start ≡ Some s → IsTrueOf committer.state s.files
-    pub committed : (s : Told) → disk.told start ≡ Some s → IsSettled disk committer.config s start → IsHere disk committer.config committer labels segments
+    pub committed : (s : Told) → disk.told start ≡ Some s → IsSettled disk committer.config s start
+        → IsHere disk committer.config committer labels segments
     pub list : IsLabelList labels
     pub decodes : Decodes labels committer.config segments (docs_in labels segments)
     pub some : docs_in labels segments ≡ [] → segments ≡ []
     pub own : AllByRecursion IsOwn segments
 
   -- It was opened as these labels and these documents.
-  pub record IsOpenedAs (start : D) (committer : CommitterView D) (labels : List (List (List ℕ))) (docs : List Doc) : Type 0 where
+  pub record IsOpenedAs (start : D) (committer : CommitterView D) (labels : List (List (List ℕ)))
+      (docs : List Doc) : Type 0 where
     pub segments : List Records
     pub opened : IsOpened start committer labels segments
     pub documents : docs_in labels segments ≡ docs

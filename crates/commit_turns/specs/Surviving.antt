@@ -16,15 +16,18 @@ marks_of now points = map (λ p. (now, p)) points
 module _ {D : Type 0} (disk : Ghosts D) where
   -- of a point and the disk as it was then: where no commit failed, every image then had just what the point has
   abbrev pub HadJust : Config → List (List (List ℕ)) → List Doc → D × CommitPoint → Type 0
-  HadJust config labels docs m = m.1.failed ≡ None → (c : Image) → disk.may_leave m.0 c → HoldsJust config labels docs m.1 c
+  HadJust config labels docs m =
+      m.1.failed ≡ None → (c : Image) → disk.may_leave m.0 c → HoldsJust config labels docs m.1 c
 
   -- at each moment from then until now every image has at least what the point has
   abbrev pub HasSince : Config → List (List (List ℕ)) → List Doc → D → D × CommitPoint → Type 0
   HasSince config labels docs now m = LeavesOnly disk m.0 now (Holds config labels docs m.1)
 
-  -- Each point is marked with the disk as it was when the point was entered: the first one as it was when opening had ended, the last one as it is now. The
-  -- moments of these disks do not fall. Every image then had just what the point has, and at each moment since every image has at least that.
-  pub record Survive (config : Config) (labels : List (List (List ℕ))) (docs : List Doc) (points : List CommitPoint) (marks : List (D × CommitPoint)) (now : D) : Type 0 where
+  -- Each point is marked with the disk as it was when the point was entered: the first one as it was when opening had
+  -- ended, the last one as it is now. The moments of these disks do not fall. Every image then had just what the point
+  -- has, and at each moment since every image has at least that.
+  pub record Survive (config : Config) (labels : List (List (List ℕ))) (docs : List Doc) (points : List CommitPoint)
+      (marks : List (D × CommitPoint)) (now : D) : Type 0 where
     pub are : map (λ (m : D × CommitPoint). m.1) marks ≡ points
     pub before : List (D × CommitPoint)
     pub ends : marks ≡ before ++ (now, last_of points) ∷ []

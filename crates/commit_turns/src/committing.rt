@@ -52,14 +52,16 @@ fn take_snapshots<N: Name, R: Wait>(
 ) -> Result<Taken, NoMemory>
     requires labels { (seen_labels.old.identity ≡ manager.now.writer.labels) × MayTake seen_labels.old }
     requires operations { (seen_operations.old.identity ≡ manager.now.operations) × MayTake seen_operations.old }
-    requires noted { (noted_labels.old.identity ≡ manager.now.writer.labels) × (noted_operations.old.identity ≡ manager.now.operations) }
+    requires noted { (noted_labels.old.identity ≡ manager.now.writer.labels)
+        × (noted_operations.old.identity ≡ manager.now.operations) }
     requires list { SeesLabels seen_labels.old × SeesLabels noted_labels.old }
     requires tied { seen_operations.old.frame.identities ≡ manager.now.writer.labels ∷ [] }
     ensures noted { (noted_labels.new ≡ noted_labels.old) × (noted_operations.new ≡ noted_operations.old) }
     ensures list { SeesLabels seen_labels.new }
     ensures labels { ComesBack seen_labels.old seen_labels.new }
     ensures operations { ComesBack seen_operations.old seen_operations.new }
-    ensures goes_on { IsPrefix noted_labels.old.seen seen_labels.new.seen × IsPrefix noted_operations.old.seen seen_operations.new.seen }
+    ensures goes_on { IsPrefix noted_labels.old.seen seen_labels.new.seen
+        × IsPrefix noted_operations.old.seen seen_operations.new.seen }
     ensures view { IfOk result (λ t. t.view ≡ labels_of seen_labels.new.seen) }
     ensures own { IfOk result (λ t. AreOwn (map arc_value t.segments.items)) }
     ensures count { IfOk result (λ t. t.operations ≡ length seen_operations.new.seen) }
@@ -71,12 +73,13 @@ fn take_snapshots<N: Name, R: Wait>(
     let noted = manager.operations().note(noted_operations);
     manager.operations().meet(seen_operations, noted);
     let IndexView {
-        segments,
+        segments: shared,
         operations,
         labels: covered,
     } = manager.take_index(rt, seen_operations)?;
     manager.writer().meet(seen_labels, covered);
     let view = manager.writer().snapshot(rt, seen_labels)?;
+    let segments = shared.to_vec()?;
     Ok(Taken {
         view,
         segments,
@@ -94,16 +97,19 @@ fn commit_in_turn<D: Disk, N: Name + Start, R: Wait>(
 ) -> Result<u64, CommitFault>
     requires labels { (seen_labels.old.identity ≡ manager.now.writer.labels) × MayTake seen_labels.old }
     requires operations { (seen_operations.old.identity ≡ manager.now.operations) × MayTake seen_operations.old }
-    requires noted { (state.old.labels.identity ≡ manager.now.writer.labels) × (state.old.operations.identity ≡ manager.now.operations) }
+    requires noted { (state.old.labels.identity ≡ manager.now.writer.labels)
+        × (state.old.operations.identity ≡ manager.now.operations) }
     requires list { SeesLabels seen_labels.old }
     requires tied { seen_operations.old.frame.identities ≡ manager.now.writer.labels ∷ [] }
     requires config { config_texts state.old.committer.config ≡ seen_operations.old.frame.texts }
     ensures list { SeesLabels seen_labels.new }
     ensures labels { ComesBack seen_labels.old seen_labels.new }
     ensures operations { ComesBack seen_operations.old seen_operations.new }
-    ensures stands { StandsOn state.old state.new (entered state.old.last (length (labels_of seen_labels.new.seen)) result) }
+    ensures stands { StandsOn state.old state.new
+        (entered state.old.last (length (labels_of seen_labels.new.seen)) result) }
     ensures frame { frame_of state.new ≡ frame_of state.old }
-    ensures ok { IfOk result (λ n. (n ≡ length seen_operations.new.seen) × (state.new.last ≡ made n (length (labels_of seen_labels.new.seen)))) }
+    ensures ok { IfOk result (λ n. (n ≡ length seen_operations.new.seen)
+        × (state.new.last ≡ made n (length (labels_of seen_labels.new.seen)))) }
     ensures disk { IfErr result (λ e. (count : ℕ) → e ≡ OfDisk count
         → (state.new.last ≡ failed_after state.old.last count) × Rose (D.faults state.old.committer.disk) count) }
     ensures closed { (count : ℕ) → (state.old.committer.closed ≡ Some count) ↔ (result ≡ Err (Closed count)) }
@@ -128,8 +134,8 @@ fn commit_in_turn<D: Disk, N: Name + Start, R: Wait>(
 
 /// Makes all operations and labels that there are durable, and returns the number of operations.
 ///
-/// Locks: that of the commits, for the whole call. In it, that of the operations and then that of the labels; each is released before the disk is called, so
-/// no session's adds wait for the disk.
+/// Locks: that of the commits, for the whole call. In it, that of the operations and then that of the labels; each is
+/// released before the disk is called, so no session's adds wait for the disk.
 ///
 /// Errors: those of [`Committer::commit`], as are memory and disk calls.
 ///
@@ -148,9 +154,11 @@ pub fn commit<D: Disk, N: Name + Start, R: Wait>(
     // The operations that it covers are all that the pass has then seen.
     ensures operations { IfOk result (λ n. n ≡ length pass.new.operations.seen) }
 
-    // The disk's count rose since opening began. No number is told below the limit, nor above what so many commits may have taken.
+    // The disk's count rose since opening began. No number is told below the limit, nor above what so many commits may
+    // have taken.
     ensures disk { IfErr result (λ e. (count : ℕ) → e ≡ OfDisk count
-        → (first moment faults failures : ℕ) → HasNumbers first moment faults failures pass.old.commits.frame → Rose faults count) }
+        → (first moment faults failures : ℕ) → HasNumbers first moment faults failures pass.old.commits.frame
+        → Rose faults count) }
     ensures limit { IfErr result (λ e. (number : ℕ) → e ≡ NumbersSpent number → 2 ^ 63 ≤ number) }
     ensures spent { IfErr result (λ e. (number : ℕ) → e ≡ NumbersSpent number
         → (first moment faults failures : ℕ) → HasNumbers first moment faults failures pass.old.commits.frame

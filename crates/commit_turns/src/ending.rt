@@ -21,8 +21,8 @@ use index_state::Operation;
 use pair_manager::CommitPoint;
 use std::sync::Wait;
 
-/// Takes the lock of the commits for good, and returns the disk. The tokens of the labels and of the operations have then seen everything that any commit has
-/// begun to write. It waits for a commit in progress.
+/// Takes the lock of the commits for good, and returns the disk. The tokens of the labels and of the operations have
+/// then seen everything that any commit has begun to write. It waits for a commit in progress.
 pub fn end_commits<
     D: Disk,
     N: Start,
@@ -38,28 +38,34 @@ pub fn end_commits<
     seen_operations: &mut Token<Operation>,
     token: &mut Token<CommitPoint>,
 ) -> D
-    requires own { (seen_labels.old.identity ≡ labels.now) × (seen_operations.old.identity ≡ operations.now) × (token.old.identity ≡ commits.now) }
+    requires own { (seen_labels.old.identity ≡ labels.now) × (seen_operations.old.identity ≡ operations.now)
+        × (token.old.identity ≡ commits.now) }
     requires idle { MayTake seen_labels.old × MayTake seen_operations.old × MayTake token.old }
     requires tied { token.old.frame.identities ≡ seen_operations.old.identity ∷ seen_labels.old.identity ∷ [] }
 
-    // The disk counts at least the faults of each commit that failed on it, whose count rose since opening began, and no fewer than then: just what the last
-    // commit was told, where that failed on it, and else what it counted then.
+    // The disk counts at least the faults of each commit that failed on it, whose count rose since opening began, and
+    // no fewer than then: just what the last commit was told, where that failed on it, and else what it counted then.
     ensures counts { All (λ p. (count : ℕ) → p.failed ≡ Some count → count ≤ D.faults result) (entries token.new.seen) }
     ensures rose { (first moment faults failures : ℕ) → HasNumbers first moment faults failures token.old.frame
         → All (λ p. (count : ℕ) → p.failed ≡ Some count → Rose faults count) (entries token.new.seen) }
-    ensures later { (first moment faults failures : ℕ) → HasNumbers first moment faults failures token.old.frame → faults ≤ D.faults result }
+    ensures later { (first moment faults failures : ℕ) → HasNumbers first moment faults failures token.old.frame
+        → faults ≤ D.faults result }
     ensures exact { (first moment faults failures : ℕ) → HasNumbers first moment faults failures token.old.frame
         → D.faults result ≡ count_after faults (last_of (entries token.new.seen)).failed }
 
-    // Where the disk told its files when opening began, it still does, and its device failed exactly where a commit failed on it.
+    // Where the disk told its files when opening began, it still does, and its device failed exactly where a commit
+    // failed on it.
     ensures tells { N.told → (s : Told) × (D.told result ≡ Some s) }
-    ensures failed { (first moment faults failures : ℕ) → N.told → HasNumbers first moment faults failures token.old.frame
+    ensures failed { (first moment faults failures : ℕ) → N.told
+        → HasNumbers first moment faults failures token.old.frame
         → FailsWith D.Disk failures (last_of (entries token.new.seen)).failed result }
 
     // Where it was settled too, what was committed lasts.
-    ensures lasts { (config : Config) (first moment faults failures : ℕ) → N.settled → config_texts config ≡ token.old.frame.texts
+    ensures lasts { (config : Config) (first moment faults failures : ℕ) → N.settled
+        → config_texts config ≡ token.old.frame.texts
         → HasNumbers first moment faults failures token.old.frame
-        → Lasts D.Disk config moment (labels_of seen_labels.new.seen) (docs_of seen_operations.new.seen) (entries token.new.seen) result }
+        → Lasts D.Disk config moment (labels_of seen_labels.new.seen) (docs_of seen_operations.new.seen)
+        (entries token.new.seen) result }
 
     // Where no commit has entered a point behind the opened one, the disk is as it was when opening began.
     ensures quiet { length (entries token.new.seen) ≤ 1 → N.quiet (state_of D.Disk result) }

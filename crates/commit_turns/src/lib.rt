@@ -1,4 +1,5 @@
-//! Commits of several sessions: the value of the commits chronicle, a commit under its lock, and the end, which returns the disk.
+//! Commits of several sessions: the value of the commits chronicle, a commit under its lock, and the end, which returns
+//! the disk.
 #![tactic(auto)]
 
 mod committing;

@@ -21,7 +21,8 @@ use std::sync::Arc;
 use taxo_list::{Labelled, TaxoView};
 
 impl<D: Disk, N: Start> CommitTurn<D, N> {
-    /// Commits a view and segments, which have all that is noted. If the commit is acknowledged or fails on the disk, `last` is the point to enter.
+    /// Commits a view and segments, which have all that is noted. If the commit is acknowledged or fails on the disk,
+    /// `last` is the point to enter.
     pub(crate) fn commit_noted(
         &mut self,
         view: &TaxoView,
@@ -31,7 +32,8 @@ impl<D: Disk, N: Start> CommitTurn<D, N> {
         requires list { IsLabelList view.now }
         requires own { AreOwn (map arc_value segments.now) }
         requires few { length (records_in (map arc_value segments.now)) ≤ 1000000 }
-        requires decodes { Decodes view.now self.old.committer.config (map arc_value segments.now) (docs_of self.old.operations.seen) }
+        requires decodes { Decodes view.now self.old.committer.config (map arc_value segments.now)
+            (docs_of self.old.operations.seen) }
         requires labels { view.now ≡ labels_of self.old.labels.seen }
         requires operations { operations ≡ length self.old.operations.seen }
 
@@ -41,9 +43,11 @@ impl<D: Disk, N: Start> CommitTurn<D, N> {
         ensures notes { (self.new.labels ≡ self.old.labels) × (self.new.operations ≡ self.old.operations) }
         ensures frame { KeepsFrame self.old self.new }
         ensures ok { IfOk result (λ n. (n ≡ operations) × (self.new.last ≡ made n (length view.now))) }
-        ensures failed { IfErr result (λ e. (count : ℕ) → e ≡ OfDisk count → self.new.last ≡ failed_after self.old.last count) }
+        ensures failed { IfErr result
+            (λ e. (count : ℕ) → e ≡ OfDisk count → self.new.last ≡ failed_after self.old.last count) }
         ensures closed { (count : ℕ) → (self.old.committer.closed ≡ Some count) ↔ (result ≡ Err (Closed count)) }
-        ensures disk { IfErr result (λ e. (count : ℕ) → e ≡ OfDisk count → Rose (D.faults self.old.committer.disk) count) }
+        ensures disk { IfErr result (λ e. (count : ℕ) → e ≡ OfDisk count
+            → Rose (D.faults self.old.committer.disk) count) }
         ensures spent { IfErr result (λ e. (number : ℕ) → e ≡ NumbersSpent number
             → (2 ^ 63 ≤ number) × (number < self.old.committer.state.next + 1000003)) }
     {

@@ -34,12 +34,17 @@ use std::snapshot::Snapshot;
 use std::sync::Arc;
 use taxo_list::Taxonomy;
 
-/// A disk with an opened store: its labels and segments, the committer that continues from them, and the disk as it was when opening began.
+/// A disk with an opened store: its labels and segments, the committer that continues from them, and the disk as it was
+/// when opening began.
 #[derive(Drop)]
 pub struct Begun<D: Disk> {
+    /// The committer that continues from the store.
     pub committer: Committer<D>,
+    /// The labels of the store.
     pub labels: Taxonomy,
+    /// The segments of the store, in order.
     pub segments: Vec<Arc<Segment>>,
+    /// The disk as it was when opening began. It exists in proofs only.
     pub start: Snapshot<D>,
 }
 
@@ -54,13 +59,15 @@ pub fn begin<D: Disk>(
     ensures start { IfOk result (λ b. (b.start.value ≡ disk) × (b.committer.config ≡ config)) }
     ensures opened { IfOk result (λ b. IsOpened D.Disk disk b.committer b.labels (map arc_value b.segments.items)) }
     ensures few { IfOk result (λ b. length (docs_in b.labels (map arc_value b.segments.items)) ≤ 1000000) }
-    ensures next { IfOk result (λ b. (s : Told) → D.told disk ≡ Some s → b.committer.state.next ≡ next_after (greatest_number s.files)) }
+    ensures next { IfOk result (λ b. (s : Told) → D.told disk ≡ Some s
+        → b.committer.state.next ≡ next_after (greatest_number s.files)) }
 
     // Or the first fault of the files that the disk reads is told.
     ensures err { IfErr result (λ n. n.fault ≢ NoRoom → n.fault ≢ FaultOfDisk
         → (s : Told) → D.told disk ≡ Some s → files config s.files ≡ Err n.fault) }
     ensures fault { IfErr result (λ n. n.fault ≡ FaultOfDisk → Rose (D.faults disk) (D.faults n.disk)) }
-    ensures failed { IfErr result (λ n. n.fault ≡ FaultOfDisk → (s : Told) → D.told disk ≡ Some s → Rose (D.failures disk) (D.failures n.disk)) }
+    ensures failed { IfErr result
+        (λ n. n.fault ≡ FaultOfDisk → (s : Told) → D.told disk ≡ Some s → Rose (D.failures disk) (D.failures n.disk)) }
     ensures still { IfErr result (λ n. n.fault ≢ FaultOfDisk → D.faults n.disk ≡ D.faults disk) }
     ensures sound { IfErr result (λ n. IsSound n.fault) }
     ensures quiet { IfErr result (λ n. IsQuiet D.Disk disk n.disk) }
@@ -79,7 +86,8 @@ pub fn begin<D: Disk>(
     })
 }
 
-/// Opens the commits chronicle over a committer, whose labels and documents are what the tokens have seen. The opening point has their numbers.
+/// Opens the commits chronicle over a committer, whose labels and documents are what the tokens have seen. The opening
+/// point has their numbers.
 ///
 /// Errors: out of memory. The error is the disk.
 pub fn open_commits<D: Disk, N: Start, L: Standing<Entry = Path>, I: Standing<Entry = Operation>>(
@@ -94,13 +102,15 @@ pub fn open_commits<D: Disk, N: Start, L: Standing<Entry = Path>, I: Standing<En
 ) -> Result<(Chronicle<CommitTurn<D, N>>, Token<CommitPoint>), D>
     requires own { (seen_labels.old.identity ≡ labels.now) × (seen_operations.old.identity ≡ operations.now) }
     requires list { SeesLabels seen_labels.old }
-    requires opened { IsOpenedAs D.Disk start.value committer (labels_of seen_labels.old.seen) (docs_of seen_operations.old.seen) }
+    requires opened { IsOpenedAs D.Disk start.value committer (labels_of seen_labels.old.seen)
+        (docs_of seen_operations.old.seen) }
     requires told { N.told → (s : Told) × (D.told start.value ≡ Some s) }
     requires settled { N.settled → WasSettled D.Disk committer.config start.value }
     requires quiet { N.quiet (state_of D.Disk committer.disk) }
     requires point { opened ≡ made (length seen_operations.old.seen) (length (labels_of seen_labels.old.seen)) }
     ensures tokens { (seen_labels.new ≡ seen_labels.old) × (seen_operations.new ≡ seen_operations.old) }
-    ensures own { IfOk result (λ r. (r.1.identity ≡ r.0) × (r.1.frame ≡ begun_frame D.Disk start.value committer operations.now labels.now)) }
+    ensures own { IfOk result (λ r. (r.1.identity ≡ r.0)
+        × (r.1.frame ≡ begun_frame D.Disk start.value committer operations.now labels.now)) }
     ensures first { IfOk result (λ r. MayTake r.1 × (r.1.number ≡ 0) × (r.1.made ≡ 0)) }
     ensures seen { IfOk result (λ r. r.1.seen ≡ numbered 0 (opened ∷ [])) }
     ensures err { IfErr result (λ d. d ≡ committer.disk) }

@@ -18,16 +18,15 @@ use Rattle.facet_model.specs.Documents.{Doc}
 use Rattle.facet_model.specs.Histories.{Operation, knows}
 use Rattle.facet_names.specs.Labels.{prefixes, stands}
 use Rattle.facet_names.proofs.LabelLists.{Labels}
-use Rattle.facet_output.specs.Commands.{add}
 use Rattle.facet_output.specs.Held.{Held}
 use Rattle.facet_output.specs.Replies.{Reply, placed, refused, broken}
 use Rattle.facet_output.specs.Replying.{RightReply, IsAdded, IsResolved}
 use Rattle.facet_output.specs.Seen.{EntersNone, EachNew, EntersBehind as Behind, history_of}
 use Rattle.facet_output.specs.Steps.{IsStep, IsEntered, EntersOperation}
-use Rattle.facet_output.specs.Telling.{placed_by, stood_by}
+use Rattle.facet_output.specs.Reported.{placed_by, stood_by}
 use Rattle.facet_output.proofs.Fronts.{get_last}
 use Rattle.facet_output.proofs.TwoRan.{no_new}
-use Rattle.facet_words.specs.Commands.{Settings}
+use Rattle.facet_words.specs.Commands.{Settings, add}
 use Rattle.pair_manager.specs.declared.pass.Pass.{Pass}
 use Rattle.pair_manager.specs.Passes.{SamePass}
 use Rattle.taxo_cache.specs.Seen.{labels_of}

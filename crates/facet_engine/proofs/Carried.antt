@@ -5,7 +5,7 @@ use Rattle.std.proofs.lemmas.List.{map-append}
 use Rattle.chronicle.specs.History.{entries}
 use Rattle.pair_manager.specs.declared.pass.Pass.{Pass}
 use Rattle.pair_manager.specs.Published.{Published, publication_of, IsLast}
-use Rattle.facet_output.specs.Commands.{Command}
+use Rattle.facet_words.specs.Commands.{Command}
 use Rattle.facet_output.specs.Held.{Held, held_after, after_command, is_numbered}
 use Rattle.facet_output.specs.Replies.{Reply}
 use Rattle.facet_engine.specs.declared.session.Session.{Session}

@@ -30,7 +30,7 @@ use Rattle.facet_engine.specs.Ending.{AreUpTo, ArePublished, NamesOwn}
 use Rattle.facet_engine.specs.Notes.{noted}
 use Rattle.facet_engine.specs.Sessions.{HaveOneNumber, NamesSession}
 use Rattle.facet_engine.specs.Steps.{seen_of, point_of}
-use Rattle.facet_engine.specs.Telling.{HaveMade}
+use Rattle.facet_engine.specs.Exchange.{HaveMade}
 use Rattle.facet_engine.proofs.Seeing.{told, told_none}
 use Rattle.facet_engine.proofs.SeenPairs.{sees_self}
 

@@ -1,10 +1,9 @@
 -- A merge is a step.
 use Rattle.std.proofs.Common.{◌≡◌, inl, inr, ℕ, None, Result, Ok, Err, refl}
 use Rattle.chronicle.specs.Shown.{SeesOn}
-use Rattle.facet_words.specs.Commands.{Settings}
 use Rattle.pair_manager.specs.declared.pass.Pass.{Pass}
 use Rattle.pair_manager.specs.Passes.{SamePass}
-use Rattle.facet_output.specs.Commands.{merge}
+use Rattle.facet_words.specs.Commands.{Settings, merge}
 use Rattle.facet_output.specs.Held.{Held}
 use Rattle.facet_output.specs.Replies.{Reply, merged, refused, no_memory}
 use Rattle.facet_output.specs.Replying.{RightReply}

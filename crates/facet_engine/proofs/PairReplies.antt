@@ -8,21 +8,20 @@ use Rattle.chronicle.proofs.Prefixes.{prefix_length}
 use Rattle.facet_model.specs.Documents.{Doc}
 use Rattle.facet_model.specs.Flags.{Config}
 use Rattle.facet_model.specs.Histories.{Operation, docs}
-use Rattle.facet_words.specs.Commands.{Settings, Search}
 use Rattle.taxo_cache.specs.Seen.{labels_of}
 use Rattle.pair_manager.specs.declared.manager.Stats.{Stats}
 use Rattle.pair_manager.specs.declared.pass.Pass.{Pass}
 use Rattle.pair_manager.specs.declared.publication.Publication.{Publication}
 use Rattle.pair_manager.specs.Passes.{SamePass}
 use Rattle.pair_manager.specs.Published.{Published, publication_of, numbers, IsLast}
-use Rattle.facet_output.specs.Commands.{Command, hold, release, search, document, stats}
+use Rattle.facet_words.specs.Commands.{Settings, Search, Command, hold, release, search, document, stats}
 use Rattle.facet_output.specs.Held.{held_under}
 use Rattle.facet_output.specs.Replies.{Reply, numbered, refused, not_held, held_already, top_zero, dim_value_not_kept, no_such_document, no_memory}
 use Rattle.facet_output.specs.Replies as replies
 use Rattle.facet_output.specs.Replying.{IsRight, IsOf, IsHold, IsRelease, IsFound, IsShown, first_refused, docs_of, numbers_of as reply_of, RightReply}
 use Rattle.facet_output.specs.Seen.{EntersNone, history_of, labels_of as plain_labels}
 use Rattle.facet_output.specs.Steps.{IsStep, EntersPoints}
-use Rattle.facet_output.specs.Telling.{placed_by, refreshed_by, stood_by}
+use Rattle.facet_output.specs.Reported.{placed_by, refreshed_by, stood_by}
 use Rattle.facet_engine.specs.declared.holding.HoldFault.TheVariants as holds
 use Rattle.pair_search.specs.declared.searching.SearchAnswer.{SearchAnswer}
 use Rattle.pair_search.specs.declared.searching.SearchFault.{SearchFault}

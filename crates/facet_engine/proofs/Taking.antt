@@ -6,19 +6,18 @@ use Rattle.chronicle.specs.History.{entries}
 use Rattle.chronicle.specs.Shown.{SeesOn}
 use Rattle.facet_model.specs.Documents.{Doc}
 use Rattle.facet_model.specs.Histories.{Operation as Added, docs}
-use Rattle.facet_words.specs.Commands.{Settings}
 use Rattle.taxo_cache.specs.Seen.{labels_of}
 use Rattle.pair_manager.specs.declared.pass.Pass.{Pass}
 use Rattle.pair_manager.specs.declared.publication.Publication.{Publication}
 use Rattle.pair_manager.specs.Published.{Published, numbers, IsLast}
 use Rattle.pair_manager.specs.Passes.{SamePass}
-use Rattle.facet_output.specs.Commands.{Command}
+use Rattle.facet_words.specs.Commands.{Settings, Command}
 use Rattle.facet_output.specs.Held.{Held}
 use Rattle.facet_output.specs.Replies.{Reply}
 use Rattle.facet_output.specs.Replying.{RightReply, docs_of}
 use Rattle.facet_output.specs.Seen.{Sees, EntersNone, history_of, labels_of as plain_labels}
 use Rattle.facet_output.specs.Steps.{IsStep, IsLastPair, IsPlace, EntersOperation, EntersPair, EntersPoints}
-use Rattle.facet_output.specs.Telling.{placed_by, refreshed_by, stood_by}
+use Rattle.facet_output.specs.Reported.{placed_by, refreshed_by, stood_by}
 use Rattle.facet_output.proofs.Fronts.{get_last}
 use Rattle.facet_output.proofs.TwoRan.{no_new}
 use Rattle.facet_engine.specs.HeldPairs.{numbers_of}

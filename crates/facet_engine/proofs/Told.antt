@@ -22,7 +22,7 @@ use Rattle.facet_engine.specs.declared.notes.Notes.{Notes}
 use Rattle.facet_engine.specs.Notes.{noted}
 use Rattle.facet_engine.specs.Sessions.{HaveOneNumber}
 use Rattle.facet_engine.specs.Steps.{seen_of, point_of}
-use Rattle.facet_engine.specs.Telling.{Meets, longer_of}
+use Rattle.facet_engine.specs.Exchange.{Meets, longer_of}
 use Rattle.facet_engine.proofs.Seeing.{told, told_begins, labels_none, operations_none, pairs_none, commits_none}
 
 -- ---- the longer of two lists

@@ -1,12 +1,11 @@
 -- What each call of a session says.
 use Rattle.std.specs.Prelude.{◌≡◌, ◌<◌, ◌+◌, ◌*◌, ℕ, length, Option}
 use Rattle.commit_turns.specs.Frames.{HasNumbers}
-use Rattle.facet_output.specs.Commands.{Command}
 use Rattle.facet_output.specs.Held.{held_after}
 use Rattle.facet_output.specs.Replies.{Reply, refused, numbers_spent}
 use Rattle.facet_output.specs.Seen.{Seen}
 use Rattle.facet_output.specs.Steps.{Step, IsStep}
-use Rattle.facet_words.specs.Commands.{Settings}
+use Rattle.facet_words.specs.Commands.{Settings, Command}
 use Rattle.pair_manager.specs.declared.pass.Pass.{Pass}
 use Rattle.pair_manager.specs.Passes.{SamePass}
 use Rattle.facet_engine.specs.declared.session.Session.{Session}
@@ -20,22 +19,28 @@ SameSession old new = (new.number ≡ old.number) × SamePass old.pass new.pass
 
 -- In whatever phase and line it is called, it is this step of the session, given what that held.
 abbrev pub IsCall : Engine → Session → (ℕ → ℕ → Step) → Type 0
-IsCall engine old step = (settings : Settings) (phase line : ℕ) → HasSettings engine old.pass settings → IsStep settings (numbers_held old.held) (step phase line)
+IsCall engine old step = (settings : Settings) (phase line : ℕ) → HasSettings engine old.pass settings
+    → IsStep settings (numbers_held old.held) (step phase line)
 
 -- the session then holds what it holds after such a step
 abbrev pub HoldsAfter : Session → Session → (ℕ → ℕ → Step) → Type 0
-HoldsAfter old new step = (phase line : ℕ) → numbers_held new.held ≡ held_after (numbers_held old.held) (step phase line).answered
+HoldsAfter old new step = (phase line : ℕ)
+    → numbers_held new.held ≡ held_after (numbers_held old.held) (step phase line).answered
 
--- Where a reply tells that the file numbers are spent, so many commits may have taken them, from the first on that a commit may take.
+-- Where a reply tells that the file numbers are spent, so many commits may have taken them, from the first on that a
+-- commit may take.
 abbrev pub IsSpentWithin : ℕ → Reply → Seen → Type 0
-IsSpentWithin next reply after = (number : ℕ) → reply ≡ refused (numbers_spent number) → number < next + 1000003 * length after.commits
+IsSpentWithin next reply after =
+    (number : ℕ) → reply ≡ refused (numbers_spent number) → number < next + 1000003 * length after.commits
 
 -- the first such number is that which the chronicle of commits began with
 abbrev pub SpendsWithin : Pass → Pass → Reply → Type 0
-SpendsWithin old new reply = (next moment faults failures : ℕ) → HasNumbers next moment faults failures old.commits.frame
+SpendsWithin old new reply =
+    (next moment faults failures : ℕ) → HasNumbers next moment faults failures old.commits.frame
     → IsSpentWithin next reply (seen_of new)
 
--- A command was carried out with this reply: with the pair that it took and its place, it is a step of the same session, which then holds what it has to.
+-- A command was carried out with this reply: with the pair that it took and its place, it is a step of the same
+-- session, which then holds what it has to.
 pub record IsCarriedOut (engine : Engine) (old new : Session) (command : Command) (reply : Reply) : Type 0 where
   pub same : SameSession old new
   pub took : Option (ℕ × ℕ)

@@ -1,5 +1,6 @@
 -- The pairs that a session holds.
-use Rattle.std.specs.Prelude.{◌≢◌, ℕ, if◌then◌else◌, not, List, map, filter, filter_map, slice_get, AllPairs, Option, Some, None}
+use Rattle.std.specs.Prelude.{◌≢◌, ℕ, if◌then◌else◌, not, List, map, filter, filter_map, slice_get, AllPairs, Option}
+use Rattle.std.specs.Prelude.{Some, None}
 use Rattle.std.specs.Str.{bytes_eq}
 use Rattle.facet_output.specs.Held.{Held}
 use Rattle.pair_manager.specs.Published.{Published, publication_of, numbers}

@@ -4,7 +4,7 @@ pub mod Sessions
 pub mod Systems
 pub mod Steps
 pub mod Notes
-pub mod Telling
+pub mod Exchange
 pub mod Ending
 pub mod Opening
 pub mod Calls

@@ -3,7 +3,8 @@ use Rattle.std.specs.Prelude.{ℕ, Result, Ok, Err}
 use Rattle.commit_plan.specs.declared.fault.CommitFault.{CommitFault}
 use Rattle.commit_plan.specs.declared.fault.CommitFault.TheVariants as commits
 use Rattle.facet_config.specs.Faults.{fault_view}
-use Rattle.facet_output.specs.Replies.{Reply, placed, numbered, stats, merged, refused, broken, labels_full, docs_full, not_held, held_already, disk_failed, closed, numbers_spent, no_memory}
+use Rattle.facet_output.specs.Replies.{Reply, placed, numbered, stats, merged, refused, broken, labels_full, docs_full}
+use Rattle.facet_output.specs.Replies.{not_held, held_already, disk_failed, closed, numbers_spent, no_memory}
 use Rattle.pair_manager.specs.declared.manager.Stats.{Stats}
 use Rattle.facet_adding.specs.declared.adding.AddFault.{AddFault}
 use Rattle.facet_adding.specs.declared.adding.AddFault.TheVariants as adds

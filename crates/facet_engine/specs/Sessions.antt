@@ -7,7 +7,8 @@ use Rattle.pair_manager.specs.Published.{Published}
 
 -- each token has the session's number
 abbrev pub HaveOneNumber : ℕ → Pass → Type 0
-HaveOneNumber number pass = (pass.labels.number ≡ number) × (pass.operations.number ≡ number) × (pass.pairs.number ≡ number) × (pass.commits.number ≡ number)
+HaveOneNumber number pass = (pass.labels.number ≡ number) × (pass.operations.number ≡ number)
+    × (pass.pairs.number ≡ number) × (pass.commits.number ≡ number)
 
 -- each operation that its token has entered has the session's number
 abbrev pub NamesSession : ℕ → Pass → Type 0

@@ -3,11 +3,11 @@ use Rattle.std.specs.Prelude.{◌-◌, ℕ, List, length, map, slice_get, Option
 use Rattle.chronicle.specs.History.{entries}
 use Rattle.commit_plan.specs.declared.fault.CommitFault.{CommitFault}
 use Rattle.facet_model.specs.Documents.{Doc}
-use Rattle.facet_output.specs.Commands.{Command, add, refresh, hold, release, search, document, stats, commit, merge}
 use Rattle.facet_output.specs.Replies.{Reply, refused, no_memory}
 use Rattle.facet_output.specs.Seen.{CommitPoint, Seen}
 use Rattle.facet_output.specs.Steps.{Step}
-use Rattle.facet_words.specs.Commands.{Search}
+use Rattle.facet_words.specs.Commands.{Search, Command, add, refresh, hold, release, search, document, stats, commit}
+use Rattle.facet_words.specs.Commands.{merge}
 use Rattle.pair_manager.specs.declared.manager.Stats.{Stats}
 use Rattle.pair_manager.specs.declared.pass.Pass.{Pass}
 use Rattle.pair_manager.specs.declared.point.CommitPoint.{CommitPoint as Point}
@@ -18,7 +18,8 @@ use Rattle.pair_search.specs.declared.searching.SearchAnswer.{SearchAnswer}
 use Rattle.pair_search.specs.declared.searching.SearchFault.{SearchFault}
 use Rattle.pair_search.specs.declared.showing.DocumentFault.{DocumentFault}
 use Rattle.pair_search.specs.declared.showing.Shown.{Shown}
-use Rattle.facet_engine.specs.Replies.{add_reply, refresh_reply, hold_reply, release_reply, stats_reply, commit_reply, merge_reply}
+use Rattle.facet_engine.specs.Replies.{add_reply, refresh_reply, hold_reply, release_reply, stats_reply, commit_reply}
+use Rattle.facet_engine.specs.Replies.{merge_reply}
 use Rattle.pair_search.specs.Replies.{search_reply, document_reply}
 
 -- a point as the output's definitions have it
@@ -34,10 +35,17 @@ seen_of pass = record {
   commits = map (λ e. (e.0, point_of e.1)) pass.commits.seen;
 }
 
--- The step of the session of the pass: its command, the pair that it took, the place of the pair that it took or published, and the reply.
+-- The step of the session of the pass: its command, the pair that it took, the place of the pair that it took or
+-- published, and the reply.
 abbrev pub step_of : Command → Option (ℕ × ℕ) → Option ℕ → Reply → Pass → Pass → ℕ → ℕ → Step
 step_of command took place reply old new phase line = record {
-  answered = record { phase = phase; order = record { session = old.labels.number; line = line; command = command }; took = took; place = place; reply = reply };
+  answered = record {
+    phase = phase;
+    order = record { session = old.labels.number; line = line; command = command };
+    took = took;
+    place = place;
+    reply = reply;
+  };
   before = seen_of old;
   after = seen_of new;
 }
@@ -92,10 +100,12 @@ abbrev pub released : {E : Type 0} → List ℕ → Pass → Result ℕ E → �
 released name pass result = taking (release name) None (release_reply result) pass pass
 
 abbrev pub searched : Option (List ℕ) → Search → Pass → Pass → Result SearchAnswer SearchFault → ℕ → ℕ → Step
-searched on s old new result = taking (search on s) (pair_taken on (search_reply result) new) (search_reply result) old new
+searched on s old new result =
+    taking (search on s) (pair_taken on (search_reply result) new) (search_reply result) old new
 
 abbrev pub documented : Option (List ℕ) → ℕ → Pass → Pass → Result Shown DocumentFault → ℕ → ℕ → Step
-documented on at old new result = taking (document on at) (pair_taken on (document_reply at result) new) (document_reply at result) old new
+documented on at old new result =
+    taking (document on at) (pair_taken on (document_reply at result) new) (document_reply at result) old new
 
 abbrev pub counted : {E : Type 0} → Option (List ℕ) → Pass → Pass → Result Stats E → ℕ → ℕ → Step
 counted on old new result = taking (stats on) (pair_taken on (stats_reply result) new) (stats_reply result) old new

@@ -15,10 +15,11 @@ use taxo_cache::Name;
 impl<D: Disk, N: Name + Start> System<D, N> {
     /// Adds a document after all others and returns its place, from 0. The document is not copied.
     ///
-    /// Locks: if a label is missing from the cache, that of the labels, once for all labels; then that of the operations. It holds one at a time.
+    /// Locks: if a label is missing from the cache, that of the labels, once for all labels; then that of the
+    /// operations. It holds one at a time.
     ///
-    /// Errors: `Broken` if the config rejects the document; then nothing changes. `LabelsFull` and `DocsFull` at the limits of the settings; out of memory.
-    /// Labels that were added before the failure stay.
+    /// Errors: `Broken` if the config rejects the document; then nothing changes. `LabelsFull` and `DocsFull` at the
+    /// limits of the settings; out of memory. Labels that were added before the failure stay.
     pub fn add<R: Wait>(
         &self,
         rt: &R,

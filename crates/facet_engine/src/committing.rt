@@ -16,14 +16,17 @@ use std::sync::Wait;
 use taxo_cache::Name;
 
 impl<D: Disk, N: Name + Start> System<D, N> {
-    /// Makes all operations and labels that there are durable, and returns the number of operations. It publishes no pair.
+    /// Makes all operations and labels that there are durable, and returns the number of operations. It publishes no
+    /// pair.
     ///
-    /// Locks: that of the commits, for the whole call. In it, that of the operations and then that of the labels; both are released before the disk is
-    /// called, so adds and searches do not wait for the disk.
-    /// With `auto_merge` it first merges segments if there are too many, before it takes these locks. If memory is short for that, it merges none.
+    /// Locks: that of the commits, for the whole call. In it, that of the operations and then that of the labels; both
+    /// are released before the disk is called, so adds and searches do not wait for the disk.
+    /// With `auto_merge` it first merges segments if there are too many, before it takes these locks. If memory is
+    /// short for that, it merges none.
     ///
-    /// Errors: `Disk` if the disk failed, after which every commit fails with `Closed` until the store is reopened; `NumbersSpent` if a file number would be
-    /// 2^63 or more; out of memory. Memory and disk calls are those of `commit_store::Committer::commit`.
+    /// Errors: `Disk` if the disk failed, after which every commit fails with `Closed` until the store is reopened;
+    /// `NumbersSpent` if a file number would be 2^63 or more; out of memory. Memory and disk calls are those of
+    /// `commit_store::Committer::commit`.
     pub fn commit<R: Wait>(&self, rt: &R, session: &mut Session) -> Result<u64, CommitFault>
         requires own { BelongsTo self.now session.old.pass }
         ensures same { SameSession session.old session.new }
@@ -33,7 +36,8 @@ impl<D: Disk, N: Name + Start> System<D, N> {
 
         // A count of faults that is told is above the one at which the store's opening began.
         ensures disk { IfErr result (λ e. (count : ℕ) → e ≡ OfDisk count
-            → (next moment faults failures : ℕ) → HasNumbers next moment faults failures session.old.pass.commits.frame → Rose faults count) }
+            → (next moment faults failures : ℕ) → HasNumbers next moment faults failures session.old.pass.commits.frame
+            → Rose faults count) }
     {
         self.keep_few(rt, &mut session.pass);
         commit(rt, &self.commits, &self.manager, &mut session.pass)

@@ -16,7 +16,7 @@ ghost use Rattle.facet_engine.specs.Notes.{noted, AreOf};
 ghost use Rattle.facet_engine.specs.Sessions.{HaveOneNumber, NamesSession};
 ghost use Rattle.facet_engine.specs.Steps.{seen_of};
 ghost use Rattle.facet_engine.specs.Systems.{BelongsTo};
-ghost use Rattle.facet_engine.specs.Telling.{HaveMade};
+ghost use Rattle.facet_engine.specs.Exchange.{HaveMade};
 
 use crate::notes::Notes;
 use crate::system::System;
@@ -30,23 +30,29 @@ use taxo_list::Taxonomy;
 /// What sessions have added: the labels, and for each operation the number of its session, in order.
 #[derive(Drop)]
 pub struct Trace {
+    /// All labels, with the root.
     pub labels: Taxonomy,
+    /// The number of the session of each operation; 0 for those that were opened.
     pub sessions: Vec<u32>,
 }
 
-/// What remains of a system: its trace, its disk, and notes of all labels, operations and commits that were ever entered.
+/// What remains of a system: its trace, its disk, and notes of all labels, operations and commits that were ever
+/// entered.
 #[derive(Drop)]
 pub struct EndedSystem<D: Disk> {
+    /// The labels, and the session of each operation.
     pub trace: Trace,
+    /// The disk, which can be opened again.
     pub disk: D,
+    /// Notes of all labels, operations, pairs and commits.
     pub notes: Notes,
 }
 
 impl<D: Disk, N: Name + Start> System<D, N> {
     /// Ends the system and returns its disk. It allocates nothing and writes nothing: what was not committed is lost.
     ///
-    /// Locks: those of the commits, the operations and the labels, in this order and for good. A later call that needs one of them waits for ever, so end the
-    /// sessions first.
+    /// Locks: those of the commits, the operations and the labels, in this order and for good. A later call that needs
+    /// one of them waits for ever, so end the sessions first.
     pub fn end<R: Wait>(&self, rt: &R, first: Pass) -> EndedSystem<D>
         requires own { BelongsTo self.now first }
         requires numbers { HaveOneNumber 0 first }
@@ -57,28 +63,35 @@ impl<D: Disk, N: Name + Start> System<D, N> {
         ensures list { IsLabelList (labels_of (noted result.notes)) }
         ensures published { ArePublished (noted result.notes) }
 
-        // They show all that the pass had seen, and what sessions have entered since, none under a number that was not given.
+        // They show all that the pass had seen, and what sessions have entered since, none under a number that was not
+        // given.
         ensures own { AreOf self.now result.notes }
         ensures told { IsTold 0 (seen_of first) (noted result.notes) }
         ensures numbers { (made : ℕ) → HaveMade made first → AreUpTo made (noted result.notes) }
         ensures named { NamesSession 0 first → NamesOwn 0 result.notes }
 
-        // The disk counts at least the faults of each commit that failed on it, whose count rose since opening began, and no fewer than then: just what the
-        // last commit was told, where that failed on it, and else what it counted then.
-        ensures counts { All (λ p. (count : ℕ) → p.failed ≡ Some count → count ≤ D.faults result.disk) (entries result.notes.commits.seen) }
+        // The disk counts at least the faults of each commit that failed on it, whose count rose since opening began,
+        // and no fewer than then: just what the last commit was told, where that failed on it, and else what it counted
+        // then.
+        ensures counts { All (λ p. (count : ℕ) → p.failed ≡ Some count → count ≤ D.faults result.disk)
+            (entries result.notes.commits.seen) }
         ensures rose { (next moment faults failures : ℕ) → HasNumbers next moment faults failures first.commits.frame
             → All (λ p. (count : ℕ) → p.failed ≡ Some count → Rose faults count) (entries result.notes.commits.seen) }
-        ensures later { (next moment faults failures : ℕ) → HasNumbers next moment faults failures first.commits.frame → faults ≤ D.faults result.disk }
+        ensures later { (next moment faults failures : ℕ) → HasNumbers next moment faults failures first.commits.frame
+            → faults ≤ D.faults result.disk }
         ensures exact { (next moment faults failures : ℕ) → HasNumbers next moment faults failures first.commits.frame
             → D.faults result.disk ≡ count_after faults (last_of (entries result.notes.commits.seen)).failed }
 
-        // Where the disk told its files when opening began, it still does, and its device failed exactly where a commit failed on it.
+        // Where the disk told its files when opening began, it still does, and its device failed exactly where a commit
+        // failed on it.
         ensures tells { N.told → (s : Told) × (D.told result.disk ≡ Some s) }
-        ensures failed { (next moment faults failures : ℕ) → N.told → HasNumbers next moment faults failures first.commits.frame
+        ensures failed { (next moment faults failures : ℕ) → N.told
+            → HasNumbers next moment faults failures first.commits.frame
             → FailsWith D.Disk failures (last_of (entries result.notes.commits.seen)).failed result.disk }
 
         // Where it was settled too, what was committed lasts.
-        ensures lasts { (config : Config) (next moment faults failures : ℕ) → N.settled → config_texts config ≡ first.commits.frame.texts
+        ensures lasts { (config : Config) (next moment faults failures : ℕ) → N.settled
+            → config_texts config ≡ first.commits.frame.texts
             → HasNumbers next moment faults failures first.commits.frame
             → Lasts D.Disk config moment (labels_of (noted result.notes)) (docs_of result.notes.operations.seen)
             (entries result.notes.commits.seen) result.disk }

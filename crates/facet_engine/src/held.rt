@@ -10,11 +10,14 @@ use std::marker::Model;
 /// A pair that a session holds, with its name.
 #[derive(Drop)]
 pub struct Held {
+    /// The name, which the session chose.
     pub name: String,
+    /// A shared reference to the pair, which keeps its segments and labels in memory.
     pub lease: Lease,
 }
 
-/// The pairs that a session holds, in the order of holding. No two have the same name. A lookup compares one name after the other.
+/// The pairs that a session holds, in the order of holding. No two have the same name. A lookup compares one name after
+/// the other.
 #[derive(Drop)]
 pub struct HeldPairs {
     items: Vec<Held>,
@@ -44,7 +47,8 @@ impl HeldPairs {
 
     /// Returns the pair that is held under a name, or `None`. It compares one name after the other.
     pub fn find(&self, name: &str) -> Option<&Lease>
-        ensures { MatchOption result (pair_under self.now name.now ≡ None) (λ lease. pair_under self.now name.now ≡ Some lease.now) }
+        ensures { MatchOption result (pair_under self.now name.now ≡ None)
+            (λ lease. pair_under self.now name.now ≡ Some lease.now) }
     {
         for held in &self.items {
             if held.name.as_str() == name {
@@ -64,7 +68,8 @@ impl HeldPairs {
         Ok(())
     }
 
-    /// Releases the pair that is held under a name and returns the number of its operations, or `None`. It allocates nothing.
+    /// Releases the pair that is held under a name and returns the number of its operations, or `None`. It allocates
+    /// nothing.
     pub(crate) fn release(&mut self, name: &str) -> Option<u64>
         ensures pair { MatchOption result (pair_under self.old name.now ≡ None)
             (λ n. (p : Published) × (pair_under self.old name.now ≡ Some p) × (n ≡ length p.history.seen)) }

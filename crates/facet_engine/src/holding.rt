@@ -13,7 +13,9 @@ use taxo_cache::Name;
 /// Why a pair was not held: one is held under the name already, or out of memory.
 #[derive(Drop, Clone, Copy, Debug, PartialEq, Eq)]
 pub enum HoldFault {
+    /// The session holds a pair under the name already.
     HeldAlready,
+    /// Out of memory.
     NoMemory,
 }
 
@@ -22,8 +24,8 @@ pub enum HoldFault {
 pub struct NotHeld;
 
 impl<D: Disk, N: Name + Start> System<D, N> {
-    /// Holds the pair that was published last under a name, and returns the number of its operations. The pair does not change until it is released, and its
-    /// segments and labels stay in memory that long.
+    /// Holds the pair that was published last under a name, and returns the number of its operations. The pair does not
+    /// change until it is released, and its segments and labels stay in memory that long.
     ///
     /// Locks: that of the pairs, unless a pair is held under the name. So it waits for a refresh in progress.
     ///
@@ -31,7 +33,8 @@ impl<D: Disk, N: Name + Start> System<D, N> {
     pub fn hold<R: Wait>(&self, rt: &R, session: &mut Session, name: &str) -> Result<u64, HoldFault>
         requires own { BelongsTo self.now session.old.pass }
         ensures same { SameSession session.old session.new }
-        ensures holds { HoldsAfter session.old session.new (pair_held name.now session.old.pass session.new.pass result) }
+        ensures holds { HoldsAfter session.old session.new
+            (pair_held name.now session.old.pass session.new.pass result) }
         ensures step { IsCall self.now session.old (pair_held name.now session.old.pass session.new.pass result) }
     {
         if session.held.find(name).is_some() {
@@ -50,7 +53,8 @@ impl<D: Disk, N: Name + Start> System<D, N> {
         }
     }
 
-    /// Releases the pair that is held under a name and returns the number of its operations. It allocates nothing and takes no lock.
+    /// Releases the pair that is held under a name and returns the number of its operations. It allocates nothing and
+    /// takes no lock.
     pub fn release(&self, session: &mut Session, name: &str) -> Result<u64, NotHeld>
         requires own { BelongsTo self.now session.old.pass }
         ensures pass { session.new.pass ≡ session.old.pass }

@@ -1,12 +1,15 @@
-//! Sessions over one store: open a [`Store`], make a [`System`] of it, and call the system with a [`Session`] per thread.
+//! Sessions over one store: open a [`Store`], make a [`System`] of it, and call the system with a [`Session`] per
+//! thread.
 //!
-//! Each call of a session is one step of four histories: those of the labels, the operations, the published pairs and the commits.
+//! Each call of a session is one step of four histories: those of the labels, the operations, the published pairs and
+//! the commits.
 #![tactic(auto)]
 
 mod adding;
-mod carrying;
 mod committing;
 mod ending;
+mod exchange;
+mod executing;
 mod held;
 mod holding;
 mod merging;
@@ -18,11 +21,10 @@ mod session;
 mod showing;
 mod stats;
 mod system;
-mod telling;
 mod upkeep;
 
-pub use carrying::carry_out;
 pub use ending::{EndedSystem, Trace};
+pub use executing::execute;
 pub use facet_adding::AddFault;
 pub use held::{Held, HeldPairs};
 pub use holding::{HoldFault, NotHeld};

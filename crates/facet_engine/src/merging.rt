@@ -28,8 +28,10 @@ impl<D: Disk, N: Name + Start> System<D, N> {
     /// Merges all segments of the index into one. No document, label, reply or published pair changes, and a held pair keeps its own segments. Searches of
     /// pairs that are published afterwards visit one segment in place of many, and the next commit writes the merged one.
     ///
-    /// It waits for the turn of the operations twice: to take the segments, and to put the merged one in their place. Others can add documents while the
-    /// segments are merged. It takes memory for the merged segment beside the old ones. Returns NoMemory if an allocation fails; the segments then stay.
+    /// Locks: that of the operations, twice: to share the segments, and to put the merged one in their place. Others can add documents while the segments are
+    /// merged. The old segments and the merged one are in memory together.
+    ///
+    /// Errors: out of memory. The segments then stay, and the documents that waited may be one more.
     pub fn merge<R: Wait>(&self, rt: &R, session: &mut Session) -> Result<(), NoMemory>
         requires own { BelongsTo self.now session.old.pass }
         ensures same { SameSession session.old session.new }

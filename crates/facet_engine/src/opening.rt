@@ -1,6 +1,7 @@
 ghost use Rattle.std.specs.Prelude.{◌≡◌, ◌≢◌, ◌≤◌, ◌∷◌, [], Some, Err, IfOk, IfErr, length, map};
 ghost use Rattle.std.specs.Arc.{arc_value};
-ghost use Rattle.chronicle.specs.History.{entries};
+ghost use Rattle.chronicle.specs.History.{entries, numbered};
+ghost use Rattle.chronicle.specs.Shown.{MayTake};
 ghost use Rattle.facet_disk.specs.Calls.{Rose};
 ghost use Rattle.facet_disk.specs.Images.{Told};
 ghost use Rattle.facet_output.specs.Seen.{opened_seen};
@@ -12,23 +13,26 @@ ghost use Rattle.store_opening.specs.Newest.{next_after};
 ghost use Rattle.store_opening.specs.Quiet.{IsQuiet};
 ghost use Rattle.store_opening.specs.Settled.{IsSettled};
 ghost use Rattle.commit_turns.specs.DiskStates.{state_of};
-ghost use Rattle.commit_turns.specs.Frames.{HasNumbers};
+ghost use Rattle.commit_turns.specs.Frames.{HasNumbers, begun_frame};
 ghost use Rattle.index_state.specs.Frames.{index_frame};
 ghost use Rattle.index_state.specs.Index.{opened, docs_under, DecodeUnder, AreOwn};
 ghost use Rattle.pair_manager.specs.Passes.{IsFirst};
 ghost use Rattle.pair_manager.specs.Published.{ArePublications, pair_frame, seen_of as all_seen};
 ghost use Rattle.taxo_cache.specs.Seen.{labels_of, SeesLabels};
-ghost use Rattle.commit_turns.specs.Opening.{WasSettled};
+ghost use Rattle.commit_turns.specs.Opening.{WasSettled, IsOpenedAs};
+ghost use Rattle.commit_turns.specs.Points.{made};
+ghost use Rattle.commit_turns.specs.Seen.{docs_of};
+ghost use Rattle.seg_documents.specs.Decoding.{records_in};
 ghost use Rattle.facet_engine.specs.Opening.{IsReady, opened_of};
 ghost use Rattle.facet_engine.specs.Sessions.{HaveOneNumber, NamesSession};
 ghost use Rattle.facet_engine.specs.Steps.{seen_of};
 ghost use Rattle.facet_engine.specs.Systems.{BelongsTo, HasSettings};
-ghost use Rattle.facet_engine.specs.Telling.{HaveMade};
+ghost use Rattle.facet_engine.specs.Exchange.{HaveMade};
 
 use crate::system::System;
 use chronicle::{Chronicle, Token};
 use commit_store::{Committer, NotOpened};
-use commit_turns::{Begun, Start, begin, open_commits};
+use commit_turns::{Begun, CommitTurn, Start, begin, open_commits};
 use facet_config::FacetsConfig;
 use facet_disk::Disk;
 use facet_names::{NoMemory, Path};
@@ -106,7 +110,7 @@ impl<D: Disk> Store<D> {
     }
 }
 
-// The disk is handed back for want of memory.
+// Returns the disk, with the fault that there is no memory.
 fn without_memory<D: Disk>(disk: D) -> NotOpened<D>
     ensures { (result.fault ≡ NoRoom) × (result.disk ≡ disk) }
 {
@@ -167,6 +171,60 @@ fn open_manager<N: Name>(
     Ok((manager, config, operations, pairs))
 }
 
+// Returns the commit point of what was opened.
+fn opening_point(labels: &TaxoView, segments: &[Arc<Segment>]) -> CommitPoint
+    requires { length (records_in (map arc_value segments.now)) ≤ 1000000 }
+    ensures { result ≡ made (length (records_in (map arc_value segments.now))) (length labels.now) }
+{
+    CommitPoint {
+        operations: count_documents(segments) as u64,
+        labels: labels.size(),
+        failed: None,
+    }
+}
+
+// Opens the chronicle of the commits to what a manager publishes, with the point of what was opened.
+//
+// Errors: out of memory, with the disk.
+fn begin_commits<D: Disk, N: Name + Start>(
+    alloc: Global,
+    committer: Committer<D>,
+    start: Snapshot<D>,
+    manager: &Manager<N>,
+    labels: &mut Token<Path>,
+    operations: &mut Token<Operation>,
+    point: CommitPoint,
+) -> Result<(Chronicle<CommitTurn<D, N>>, Token<CommitPoint>), NotOpened<D>>
+    requires own { (labels.old.identity ≡ manager.now.writer.labels) × (operations.old.identity ≡ manager.now.operations) }
+    requires list { SeesLabels labels.old }
+    requires opened { IsOpenedAs D.Disk start.value committer (labels_of labels.old.seen) (docs_of operations.old.seen) }
+    requires told { N.told → (t : Told) × (D.told start.value ≡ Some t) }
+    requires settled { N.settled → WasSettled D.Disk committer.config start.value }
+    requires quiet { N.quiet (state_of D.Disk committer.disk) }
+    requires point { point ≡ made (length operations.old.seen) (length (labels_of labels.old.seen)) }
+    ensures tokens { (labels.new ≡ labels.old) × (operations.new ≡ operations.old) }
+    ensures own { IfOk result (λ r. (r.1.identity ≡ r.0)
+        × (r.1.frame ≡ begun_frame D.Disk start.value committer manager.now.operations manager.now.writer.labels)) }
+    ensures first { IfOk result (λ r. MayTake r.1 × (r.1.number ≡ 0) × (r.1.made ≡ 0)) }
+    ensures seen { IfOk result (λ r. r.1.seen ≡ numbered 0 (point ∷ [])) }
+    ensures err { IfErr result (λ n. (n.fault ≡ NoRoom) × (n.disk ≡ committer.disk)) }
+{
+    let opened = open_commits(
+        alloc,
+        committer,
+        start,
+        manager.writer().labels(),
+        manager.operations(),
+        labels,
+        operations,
+        point,
+    );
+    match opened {
+        Ok(opened) => Ok(opened),
+        Err(disk) => Err(without_memory(disk)),
+    }
+}
+
 impl<D: Disk, N: Name + Start> System<D, N> {
     /// Makes a system of a store, with its first pass, and publishes the pair of what was opened. `N` has to name the labels of the store. It allocates the
     /// cache of labels, and four bytes per document.
@@ -209,11 +267,7 @@ impl<D: Disk, N: Name + Start> System<D, N> {
             view,
             segments,
         } = store;
-        let point = CommitPoint {
-            operations: count_documents(&segments) as u64,
-            labels: view.size(),
-            failed: None,
-        };
+        let point = opening_point(&view, &segments);
         let auto_merge = settings.auto_merge;
         let (manager, config, mut operations, pairs) = match open_manager(
             alloc, keys, labels, &mut first, view, segments, settings,
@@ -221,20 +275,15 @@ impl<D: Disk, N: Name + Start> System<D, N> {
             Ok(opened) => opened,
             Err(NoMemory) => return Err(without_memory(committer.into_disk())),
         };
-        let opened = open_commits(
+        let (commits, token) = begin_commits(
             alloc,
             committer,
             start,
-            manager.writer().labels(),
-            manager.operations(),
+            &manager,
             &mut first,
             &mut operations,
             point,
-        );
-        let (commits, token) = match opened {
-            Ok(opened) => opened,
-            Err(disk) => return Err(without_memory(disk)),
-        };
+        )?;
         let system = System {
             alloc,
             config,

@@ -16,12 +16,14 @@ use std::sync::Wait;
 use taxo_cache::Name;
 
 impl<D: Disk, N: Name + Start> System<D, N> {
-    /// Searches the documents of the pair that is held under the name `on`. Without a name, it searches those of the pair that was published last.
+    /// Searches the documents of the pair that is held under the name `on`. Without a name, it searches those of the
+    /// pair that was published last.
     ///
-    /// Locks: without a name, that of the pairs, which is released before the search. So it waits for a refresh in progress, and counts without a lock.
+    /// Locks: without a name, that of the pairs, which is released before the search. So it waits for a refresh in
+    /// progress, and counts without a lock.
     ///
-    /// Errors: `NotHeld`; the first ask that is rejected, which is checked after the pair was taken; out of memory. For the costs see
-    /// `pair_search::search_pair`.
+    /// Errors: `NotHeld`; the first ask that is rejected, which is checked after the pair was taken; out of memory. For
+    /// the costs see `pair_search::search_pair`.
     pub fn search<R: Wait>(
         &self,
         rt: &R,
@@ -32,7 +34,8 @@ impl<D: Disk, N: Name + Start> System<D, N> {
         requires own { BelongsTo self.now session.old.pass }
         ensures same { SameSession session.old session.new }
         ensures held { session.new.held ≡ session.old.held }
-        ensures step { IsCall self.now session.old (searched (text_in on.entry) (search_view ask.now) session.old.pass session.new.pass result) }
+        ensures step { IsCall self.now session.old
+            (searched (text_in on.entry) (search_view ask.now) session.old.pass session.new.pass result) }
     {
         match on {
             Some(name) => match session.held.find(name) {

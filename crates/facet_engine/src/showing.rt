@@ -14,11 +14,13 @@ use std::sync::Wait;
 use taxo_cache::Name;
 
 impl<D: Disk, N: Name + Start> System<D, N> {
-    /// Returns the document at a place, from 0, of the pair that is held under the name `on`. Without a name, it takes the pair that was published last.
+    /// Returns the document at a place, from 0, of the pair that is held under the name `on`. Without a name, it takes
+    /// the pair that was published last.
     ///
     /// Locks: without a name, that of the pairs, which is released before the document is read.
     ///
-    /// Errors: `NotHeld`; `NoSuchDocument` with the number of documents, which is checked after the pair was taken; out of memory.
+    /// Errors: `NotHeld`; `NoSuchDocument` with the number of documents, which is checked after the pair was taken; out
+    /// of memory.
     pub fn document<R: Wait>(
         &self,
         rt: &R,
@@ -29,7 +31,8 @@ impl<D: Disk, N: Name + Start> System<D, N> {
         requires own { BelongsTo self.now session.old.pass }
         ensures same { SameSession session.old session.new }
         ensures held { session.new.held ≡ session.old.held }
-        ensures step { IsCall self.now session.old (documented (text_in on.entry) at session.old.pass session.new.pass result) }
+        ensures step { IsCall self.now session.old
+            (documented (text_in on.entry) at session.old.pass session.new.pass result) }
     {
         match on {
             Some(name) => match session.held.find(name) {

@@ -15,8 +15,8 @@ use taxo_cache::Name;
 use taxo_list::Labelled;
 
 impl<D: Disk, N: Name + Start> System<D, N> {
-    /// Returns the numbers of operations, of labels with the root, and of documents of the pair that is held under the name `on`. Without a name, it takes
-    /// the pair that was published last. It allocates nothing.
+    /// Returns the numbers of operations, of labels with the root, and of documents of the pair that is held under the
+    /// name `on`. Without a name, it takes the pair that was published last. It allocates nothing.
     ///
     /// Locks: without a name, that of the pairs.
     pub fn stats<R: Wait>(
@@ -28,7 +28,8 @@ impl<D: Disk, N: Name + Start> System<D, N> {
         requires own { BelongsTo self.now session.old.pass }
         ensures same { SameSession session.old session.new }
         ensures held { session.new.held ≡ session.old.held }
-        ensures step { IsCall self.now session.old (counted (text_in on.entry) session.old.pass session.new.pass result) }
+        ensures step { IsCall self.now session.old
+            (counted (text_in on.entry) session.old.pass session.new.pass result) }
     {
         match on {
             Some(name) => match session.held.find(name) {

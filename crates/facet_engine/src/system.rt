@@ -10,7 +10,8 @@ use std::marker::Model;
 use std::sync::Arc;
 use taxo_cache::Name;
 
-/// An open store that sessions on any threads share: the chronicles of labels, operations, pairs and commits, and the config of its documents.
+/// An open store that sessions on any threads share: the chronicles of labels, operations, pairs and commits, and the
+/// config of its documents.
 #[derive(Drop)]
 pub struct System<D: Disk, N: Name + Start> {
     pub(crate) alloc: Global,
@@ -27,7 +28,12 @@ impl<D: Disk, N: Name + Start> Model for System<D, N> {
 
     ghost Value = { Engine };
 
-    ghost view = { λ s. record { manager = s.manager; commits = s.commits; config = arc_value s.config; opened = s.opened } };
+    ghost view = { λ s. record {
+      manager = s.manager;
+      commits = s.commits;
+      config = arc_value s.config;
+      opened = s.opened;
+    } };
 }
 
 impl<D: Disk, N: Name + Start> System<D, N> {

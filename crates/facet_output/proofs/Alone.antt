@@ -11,8 +11,7 @@ use Rattle.facet_names.proofs.LabelLists.{fresh}
 use Rattle.facet_model.specs.Accepts.{Broken, first_broken}
 use Rattle.facet_model.specs.Documents.{Doc}
 use Rattle.facet_model.specs.Histories.{knows}
-use Rattle.facet_words.specs.Commands.{Settings}
-use Rattle.facet_words.specs.Sessions.Commands.{Command, Order, add, refresh, hold, release, search, document, stats, commit, merge}
+use Rattle.facet_words.specs.Commands.{Settings, Command, Order, add, refresh, hold, release, search, document, stats, commit, merge}
 use Rattle.facet_output.specs.Held.{Held, held_after}
 use Rattle.facet_output.specs.OneSession.{LeavesFirst, AddLeaves, Leaves, AreExactLabels, OneSessionHasItsLabels, room, is_resolved}
 use Rattle.facet_output.specs.Output.{Opened}
@@ -21,7 +20,7 @@ use Rattle.facet_output.specs.Replying.{IsAdded, IsResolved, IsRight}
 use Rattle.facet_output.specs.Seen.{Entries, Seen, Sees, IsTold, entered_by, opened_seen, labels_of, history_of}
 use Rattle.facet_output.specs.Sessions.{SessionRan, AllRan, steps_of, own_steps, is_by}
 use Rattle.facet_output.specs.Steps.{Step, IsStep, IsLastPair, IsEntered, EntersPair}
-use Rattle.facet_output.specs.Telling.{brings, says_full, refreshed, refreshed_by}
+use Rattle.facet_output.specs.Reported.{brings, says_full, refreshed, refreshed_by}
 use Rattle.facet_output.proofs.Among.{In, of_all, of_append}
 use Rattle.facet_output.proofs.Answers.{of_get_map}
 use Rattle.facet_output.proofs.Bringing.{full_added, labels_begin, opened_first}

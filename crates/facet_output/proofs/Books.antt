@@ -10,16 +10,16 @@ use Rattle.facet_model.specs.Queries as q
 use Rattle.facet_model.specs.Results.{Answer, top_answer}
 use Rattle.facet_replies.specs.LastLine.{last_line as line_of, last_data}
 use Rattle.facet_replies.specs.ReplyLines.{json_line, listed_data, hit_data, reply_data, reply_line}
-use Rattle.facet_words.specs.Commands.{Settings, Search}
-use Rattle.facet_words.specs.Sessions.Commands.{Order, add, refresh, search}
+use Rattle.facet_words.specs.Commands.{Settings, Search, Order, add, refresh, search}
 use Rattle.facet_replies.specs.Replies.{Reply, placed, numbered, found}
 use Rattle.facet_output.specs.Answered.{Answered, of_session}
 use Rattle.facet_output.specs.Replying.{RightReplies}
-use Rattle.facet_output.specs.Output.{IsOutput}
+use Rattle.facet_output.specs.Output.{IsOutput, pairs_of}
 use Rattle.facet_output.specs.OutputLines.{last_line, output_bytes}
 use Rattle.facet_model.proofs.Samples.{author, doc}
 use Rattle.facet_output.proofs.Samples.{empty_store, order, answer, answer_at, by_one, each_session, bobs_labels}
 use Rattle.facet_output.proofs.Tested.{children_so}
+use Rattle.facet_output.proofs.PairTests.{pairs_from, places_from}
 
 abbrev settings : Settings
 settings = record { config = (codes "Publish Date", record { hierarchical = true; multi_valued = false; require_dim_count = false }) ∷ []; max_docs = 1000000; max_labels = 1000000; stripes = 16; cache = 4096; auto_merge = false }
@@ -118,9 +118,9 @@ is_output = record {
   opened_pair_first = refl;
   publications = refl;
   refreshes = each_session _ refl (λ s e. rw e refl);
-  pairs = refl;
+  pairs = pairs_from answered empty_store (pairs_of published) refl;
   have_places = refl;
-  places = refl;
+  places = places_from answered labels published refl;
   one_failure = omega arith;
   closed = refl;
   last_commit = refl;

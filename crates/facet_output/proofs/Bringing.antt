@@ -7,14 +7,13 @@ use mathlib.Core.List.{IsPrefix}
 use Rattle.facet_model.specs.Accepts.{Broken, first_broken}
 use Rattle.facet_model.specs.Documents.{Doc}
 use Rattle.facet_model.specs.Histories.{Operation, knows}
-use Rattle.facet_words.specs.Commands.{Settings}
-use Rattle.facet_words.specs.Sessions.Commands.{Command, Order, add, refresh, hold, release, search, document, stats, commit, merge}
+use Rattle.facet_words.specs.Commands.{Settings, Command, Order, add, refresh, hold, release, search, document, stats, commit, merge}
 use Rattle.facet_replies.specs.Replies.{Reply, refused, no_memory}
 use Rattle.facet_output.specs.Answered.{Answered, comes_after}
 use Rattle.facet_output.specs.Held.{Held}
 use Rattle.facet_output.specs.Output.{Opened, is_brought, was_full}
 use Rattle.facet_output.specs.Replying.{IsAdded, IsResolved, IsRight}
-use Rattle.facet_output.specs.Telling.{brings, says_full, is_refused_for_labels}
+use Rattle.facet_output.specs.Reported.{brings, says_full, is_refused_for_labels}
 use Rattle.facet_output.specs.Seen.{Seen, Sees, opened_seen, labels_of, history_of}
 use Rattle.facet_output.specs.Steps.{Step, IsEntered}
 use Rattle.facet_output.specs.Sessions.{AllRan, steps_of, own_steps}

@@ -8,9 +8,8 @@ use mathlib.Core.List.{IsPrefix}
 use Rattle.facet_model.specs.Accepts.{Broken, first_broken}
 use Rattle.facet_model.specs.Documents.{Doc}
 use Rattle.facet_model.specs.Histories.{Operation, knows}
-use Rattle.facet_words.specs.Commands.{Settings}
+use Rattle.facet_words.specs.Commands.{Settings, Command, Order, add, refresh, hold, release, search, document, stats, commit, merge}
 use Rattle.facet_output.specs.Answered.{comes_after}
-use Rattle.facet_words.specs.Sessions.Commands.{Command, Order, add, refresh, hold, release, search, document, stats, commit, merge}
 use Rattle.facet_output.specs.Held.{Held}
 use Rattle.facet_output.specs.Output.{Opened, has_shown, is_entered}
 use Rattle.facet_replies.specs.Replies.{Reply, refused, no_memory}
@@ -18,7 +17,7 @@ use Rattle.facet_output.specs.Replying.{IsAdded, IsResolved, IsOf, IsRight, pair
 use Rattle.facet_output.specs.Seen.{Seen, labels_of, history_of}
 use Rattle.facet_output.specs.Sessions.{AllRan, steps_of}
 use Rattle.facet_output.specs.Steps.{Step}
-use Rattle.facet_output.specs.Telling.{brings, paths_of, add_among, stats_among, reply_among, labels_among}
+use Rattle.facet_output.specs.Reported.{brings, paths_of, add_among, stats_among, reply_among, labels_among}
 use Rattle.facet_output.proofs.Among.{In, all_in}
 use Rattle.facet_output.proofs.Answers.{answers, all_steps, any_step, of_get_map}
 use Rattle.facet_output.proofs.Bringing.{labels_begin, label_entered, opened_size}

@@ -8,19 +8,19 @@ use Rattle.std.proofs.lemmas.List.{length-drop, length-take, length-map}
 use Rattle.std.proofs.lemmas.List.Elements.{filter_map-append}
 use Rattle.facet_model.specs.Histories.{Operation}
 use Rattle.facet_model.specs.CoreStates.{is_same_pair}
-use Rattle.facet_words.specs.Commands.{Settings}
-use Rattle.facet_words.specs.Sessions.Commands.{Command, Order, add, refresh, hold, release, search, document, stats, commit, merge}
+use Rattle.facet_words.specs.Commands.{Settings, Command, Order, add, refresh, hold, release, search, document, stats, commit, merge}
 use Rattle.facet_replies.specs.Replies.{Reply, placed, numbered, found, shown, stats as numbers, merged, refused}
 use Rattle.facet_output.specs.Answered.{Answered, is_of, of_session, comes_after, may_come_after}
 use Rattle.facet_output.specs.OneSession.{after_placing, AreExact, OneSessionIsExact}
-use Rattle.facet_output.specs.Output.{Opened, IsOutput, is_fresh, has_source, is_newest, is_right_pair}
-use Rattle.facet_words.specs.Sessions.Laws.{lines_rise}
-use Rattle.facet_output.specs.Telling.{placed_by, placed_operation, shows, stood, stood_by, refreshed, refreshed_by, is_number, is_up_to, is_no_newer}
+use Rattle.facet_output.specs.Output.{Opened, IsOutput, is_fresh, has_source}
+use Rattle.facet_words.specs.ScriptOrder.{lines_rise}
+use Rattle.facet_output.specs.Reported.{placed_by, placed_operation, shows, stood, stood_by, refreshed, refreshed_by, is_number}
 use Rattle.facet_output.proofs.Among.{In, of_all, in_left, in_right, of_append, of_any}
-use Rattle.facet_output.proofs.Fresh.{stood_shown}
+use Rattle.facet_output.proofs.Fresh.{stood_shown, implied_so}
 use Rattle.facet_output.proofs.Fronts.{get_there}
 use Rattle.facet_output.proofs.Known.{after_parts}
 use Rattle.facet_output.proofs.Ordered.{Later, IsAfter, phases_rising, of_later_map, later_weaker}
+use Rattle.facet_output.proofs.PairTests.{pairs_to, is_up_to, is_no_newer, newest_test, right_pair_test}
 
 -- ---- lists
 
@@ -126,10 +126,6 @@ later_right R (z ∷ xs) ys l = later_right R xs ys l.1
 pub wanted : {X : Type 0} (p : X → Bool) (o : Option X) (x : X) → option_map_or p o true ≡ true → o ≡ Some x → p x ≡ true
 wanted p None x h e = absurd cc
 wanted p (Some y) x h e = let same : y ≡ x = ap (λ q. unwrap_or q y) e in subst (λ z. p z ≡ true) same h
-
-pub implied_so : (b c : Bool) → (not b || c) ≡ true → b ≡ true → c ≡ true
-implied_so true c h e = h
-implied_so false c h e = absurd cc
 
 pub of_number : (n : ℕ) (o : Option ℕ) → is_number n o ≡ true → o ≡ Some n
 of_number n None h = absurd cc
@@ -261,8 +257,8 @@ module _ (settings : Settings) (phases : List (List Order)) (opened : Opened) (l
   exact_pair : (done : List Answered) (a : Answered) (later : List Answered) → answered ≡ done ++ a ∷ later → (taken : ℕ) → IsTaken done taken → (pair : ℕ × ℕ) → a.took ≡ Some pair → pair.0 ≡ taken
   exact_pair done a later e taken is pair t =
       let there = in_later done a later e a (inl refl) in
-      let right = wanted (is_right_pair opened (map (λ e. e.1) published) answered a) a.took pair (of_all (λ a. option_map_or (is_right_pair opened (map (λ e. e.1) published) answered a) a.took true) answered a o.pairs there) t in
-      let p = and_parts (list_any (is_same_pair pair) (map (λ e. e.1) published) && has_source first answered a pair.0) (is_newest answered a pair) right in
+      let right = wanted (right_pair_test opened (map (λ e. e.1) published) answered a) a.took pair (of_all (λ a. option_map_or (right_pair_test opened (map (λ e. e.1) published) answered a) a.took true) answered a (pairs_to answered opened (map (λ e. e.1) published) o.pairs) there) t in
+      let p = and_parts (list_any (is_same_pair pair) (map (λ e. e.1) published) && has_source first answered a pair.0) (newest_test answered a pair) right in
       let source = (and_parts (list_any (is_same_pair pair) (map (λ e. e.1) published)) (has_source first answered a pair.0) p.0).1 in
       let low_high = ⊎_elim
       (λ opened_one. let f = eqb-true pair.0 first opened_one in let l = is.low in (let g : (first ≤ pair.0) × (pair.0 ≤ taken) = (omega arith, omega arith) in g))

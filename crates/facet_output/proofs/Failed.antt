@@ -2,16 +2,16 @@
 use Rattle.std.proofs.Common.{List, [], ◌∷◌, refl, arith, inl, inr}
 use Rattle.std.specs.Prelude.{codes, Some, None}
 use Rattle.facet_model.specs.Documents.{Doc}
-use Rattle.facet_words.specs.Commands.{Settings}
-use Rattle.facet_words.specs.Sessions.Commands.{Order, add, refresh, stats, commit}
+use Rattle.facet_words.specs.Commands.{Settings, Order, add, refresh, stats, commit}
 use Rattle.facet_replies.specs.Replies.{placed, numbered, stats as numbers, refused, labels_full, docs_full, disk_failed, closed}
 use Rattle.facet_output.specs.Answered.{Answered, of_session}
 use Rattle.facet_output.specs.Replying.{RightReplies}
-use Rattle.facet_output.specs.Output.{IsOutput}
+use Rattle.facet_output.specs.Output.{IsOutput, pairs_of}
 use Rattle.facet_model.proofs.Samples.{author, doc, bob, lisa}
 use Rattle.facet_output.proofs.Samples.{empty_store, plain_settings, order, answer, answer_at, by_one, each_session, bobs_labels}
 use Rattle.facet_output.proofs.Holding.{labels, history}
 use Rattle.facet_output.proofs.Refuted.{three_labels}
+use Rattle.facet_output.proofs.PairTests.{pairs_from, places_from}
 
 -- ---- the second of three commits fails
 
@@ -61,9 +61,9 @@ is_output = record {
   opened_pair_first = refl;
   publications = refl;
   refreshes = each_session _ refl (λ s e. rw e refl);
-  pairs = refl;
+  pairs = pairs_from answered empty_store (pairs_of ((0, (0, 1)) ∷ (1, (2, 4)) ∷ [])) refl;
   have_places = refl;
-  places = refl;
+  places = places_from answered labels ((0, (0, 1)) ∷ (1, (2, 4)) ∷ []) refl;
   one_failure = omega arith;
   closed = refl;
   last_commit = refl;
@@ -100,9 +100,9 @@ full_output = record {
   opened_pair_first = refl;
   publications = refl;
   refreshes = each_session _ refl (λ s e. rw e refl);
-  pairs = refl;
+  pairs = pairs_from full_answers empty_store (pairs_of ((0, (0, 1)) ∷ [])) refl;
   have_places = refl;
-  places = refl;
+  places = places_from full_answers bobs_labels ((0, (0, 1)) ∷ []) refl;
   one_failure = omega arith;
   closed = refl;
   last_commit = refl;

@@ -7,14 +7,13 @@ use Rattle.std.proofs.lemmas.Bool.{and_from, cases_lt, eq-eqb}
 use Rattle.std.proofs.lemmas.List.Sums.{sum_by-cons}
 use mathlib.Core.List.{IsPrefix}
 use Rattle.facet_model.specs.Histories.{Operation}
-use Rattle.facet_words.specs.Commands.{Settings}
-use Rattle.facet_words.specs.Sessions.Commands.{Command, Order, add, refresh, hold, release, search, document, stats, commit, merge}
+use Rattle.facet_words.specs.Commands.{Settings, Command, Order, add, refresh, hold, release, search, document, stats, commit, merge}
 use Rattle.facet_replies.specs.Replies.{broken, labels_full, docs_full, not_held, held_already, top_zero, dim_value_not_kept, no_such_document, disk_failed, closed, numbers_spent, no_memory, Reply, placed, numbered, found, shown, stats as numbers, merged, refused}
 use Rattle.facet_output.specs.Answered.{Answered, comes_after, may_come_after}
 use Rattle.facet_output.specs.Held.{Held}
 use Rattle.facet_output.specs.Output.{Opened, has_failure, is_last_commit}
 use Rattle.facet_output.specs.Replying.{IsCommitted, IsRight}
-use Rattle.facet_output.specs.Telling.{failed, failed_by, failed_in, closed_at, closed_by, closed_in, is_number, tells_of_failure}
+use Rattle.facet_output.specs.Reported.{failed, failed_by, failed_in, closed_at, closed_by, closed_in, is_number, tells_of_failure}
 use Rattle.facet_output.specs.Seen.{CommitPoint, Entries, Seen, failures, EntersNone, labels_of, history_of}
 use Rattle.facet_output.specs.Steps.{Step, IsStep, EntersPoint, EntersCommit, EntersPoints}
 use Rattle.facet_output.specs.Sessions.{AllRan, steps_of, own_steps, is_by}

@@ -5,12 +5,11 @@ use Rattle.std.specs.List.{list_all}
 use Rattle.std.specs.Option.{option_map_or}
 use Rattle.std.proofs.lemmas.Bool.{and_from, le-leb}
 use Rattle.std.proofs.lemmas.List.{length-map}
-use Rattle.facet_words.specs.Commands.{Settings}
-use Rattle.facet_words.specs.Sessions.Commands.{Command, Order, add, refresh, hold, release, search, document, stats, commit, merge}
+use Rattle.facet_words.specs.Commands.{Settings, Command, Order, add, refresh, hold, release, search, document, stats, commit, merge}
 use Rattle.facet_replies.specs.Replies.{broken, labels_full, docs_full, not_held, held_already, top_zero, dim_value_not_kept, no_such_document, disk_failed, closed, numbers_spent, no_memory, Reply, placed, numbered, found, shown, stats as numbers, merged, refused}
 use Rattle.facet_output.specs.Answered.{Answered, comes_after}
 use Rattle.facet_output.specs.Output.{Opened, is_fresh}
-use Rattle.facet_output.specs.Telling.{shows, stood, stood_at, stood_by}
+use Rattle.facet_output.specs.Reported.{shows, stood, stood_at, stood_by}
 use Rattle.facet_output.specs.Seen.{Seen, opened_seen, history_of}
 use Rattle.facet_output.specs.Steps.{Step}
 use Rattle.facet_output.specs.Sessions.{AllRan, steps_of}
@@ -27,6 +26,10 @@ if_some P (Some y) x is e = let same : y ≡ x = cc in subst P same is
 pub implied : (b c : Bool) → (b ≡ true → c ≡ true) → (not b || c) ≡ true
 implied true c h = h refl
 implied false c h = refl
+
+pub implied_so : (b c : Bool) → (not b || c) ≡ true → b ≡ true → c ≡ true
+implied_so true c h e = h
+implied_so false c h e = absurd cc
 
 stands_shown : (reply : Reply) (n : ℕ) → stood_at reply ≡ Some n → n ≤ shows reply
 stands_shown (placed at) n e = let f : at ≡ n = cc in omega arith

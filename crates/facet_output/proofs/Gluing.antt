@@ -10,15 +10,14 @@ use mathlib.Core.List.{IsPrefix}
 use Rattle.facet_names.specs.Labels.{IsLabelList}
 use Rattle.facet_model.specs.Documents.{Doc}
 use Rattle.facet_model.specs.Histories.{are_publications}
-use Rattle.facet_words.specs.Commands.{Settings}
+use Rattle.facet_words.specs.Commands.{Settings, Order}
 use Rattle.facet_output.specs.Answered.{by_session}
-use Rattle.facet_words.specs.Sessions.Commands.{Order}
 use Rattle.facet_output.specs.Held.{Held, held_after}
 use Rattle.facet_output.specs.Output.{Opened}
 use Rattle.facet_output.specs.Seen.{Entries, CommitPoint, Seen, Sees, IsTold, entered_by, opened_seen, labels_of, history_of}
 use Rattle.facet_output.specs.Steps.{Step}
 use Rattle.facet_output.specs.Sessions.{SessionRan, PhasesRan, RanSoFar, AllRan, held_by, steps_of, own_steps, is_by}
-use Rattle.facet_words.specs.Sessions.Laws.{lines_rise}
+use Rattle.facet_words.specs.ScriptOrder.{lines_rise}
 use Rattle.facet_output.proofs.Among.{In, all_at, in_filter, in_left, in_map, of_map}
 use Rattle.facet_output.proofs.Chain.{sees_self, sees_trans, sees_last}
 

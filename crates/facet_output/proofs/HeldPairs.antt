@@ -2,13 +2,12 @@
 use Rattle.std.proofs.Common.{◌≡◌, inl, inr, ⊎_elim, ℕ, ◌+◌, ◌≤◌, Bool, true, false, cond, List, [], ◌∷◌, length, Option, Some, None, refl, sym, subst, arith}
 use Rattle.std.specs.Prelude.{not, IfSome}
 use Rattle.std.specs.Str.{bytes_eq}
-use Rattle.facet_words.specs.Commands.{Settings}
-use Rattle.facet_words.specs.Sessions.Commands.{Command, add, refresh, hold, release, search, document, stats, commit, merge}
+use Rattle.facet_words.specs.Commands.{Settings, Command, add, refresh, hold, release, search, document, stats, commit, merge}
 use Rattle.facet_output.specs.Held.{Held, held_under, held_after, after_command, is_numbered}
 use Rattle.facet_output.specs.Replying.{pair_seen}
 use Rattle.facet_output.specs.Seen.{Seen, Sees, labels_of}
 use Rattle.facet_output.specs.Steps.{Step, IsStep, IsLastPair}
-use Rattle.facet_output.specs.Telling.{refreshed}
+use Rattle.facet_output.specs.Reported.{refreshed}
 use Rattle.facet_output.proofs.Among.{In, of_filter, of_append}
 use Rattle.facet_output.proofs.Fronts.{labels_size}
 use Rattle.chronicle.proofs.Prefixes.{prefix_length}

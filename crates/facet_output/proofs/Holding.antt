@@ -3,14 +3,14 @@ use Rattle.std.proofs.Common.{ℕ, List, [], ◌∷◌, false, refl, arith, inl}
 use Rattle.std.specs.Prelude.{codes, Some, None}
 use Rattle.facet_model.specs.Histories.{Operation}
 use Rattle.facet_model.specs.Queries.{all}
-use Rattle.facet_words.specs.Commands.{Search}
-use Rattle.facet_words.specs.Sessions.Commands.{Order, add, refresh, hold, release, search}
+use Rattle.facet_words.specs.Commands.{Search, Order, add, refresh, hold, release, search}
 use Rattle.facet_replies.specs.Replies.{Reply, placed, numbered, found, refused, not_held}
 use Rattle.facet_output.specs.Answered.{Answered, of_session}
 use Rattle.facet_output.specs.Replying.{RightReplies}
-use Rattle.facet_output.specs.Output.{IsOutput}
+use Rattle.facet_output.specs.Output.{IsOutput, pairs_of}
 use Rattle.facet_model.proofs.Samples.{author, bob, lisa}
 use Rattle.facet_output.proofs.Samples.{empty_store, plain_settings, order, answer, answer_at, by_one, each_session, one_hit}
+use Rattle.facet_output.proofs.PairTests.{pairs_from, places_from}
 
 abbrev pub everything : Search
 everything = record { query = all; drill = []; sideways = false; asks = []; hits = 10 }
@@ -84,9 +84,9 @@ is_output = record {
   opened_pair_first = refl;
   publications = refl;
   refreshes = each_session _ refl (λ s e. rw e refl);
-  pairs = refl;
+  pairs = pairs_from answered empty_store (pairs_of published) refl;
   have_places = refl;
-  places = refl;
+  places = places_from answered labels published refl;
   one_failure = omega arith;
   closed = refl;
   last_commit = refl;

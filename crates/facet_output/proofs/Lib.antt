@@ -12,6 +12,7 @@ pub mod Fresh
 pub mod Answers
 pub mod Bringing
 pub mod Placing
+pub mod PairTests
 pub mod Pairing
 pub mod Failing
 pub mod Lifting

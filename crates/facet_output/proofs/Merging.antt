@@ -4,15 +4,16 @@ use Rattle.std.specs.Prelude.{codes, Option, Some, None}
 use Rattle.std.specs.Fmt.{digits}
 use Rattle.serde_json.proofs.OnLiterals.{serde_json_on_literals}
 use Rattle.facet_model.specs.Documents.{Doc}
-use Rattle.facet_words.specs.Sessions.Commands.{Order, add, refresh, hold, search, merge}
+use Rattle.facet_words.specs.Commands.{Order, add, refresh, hold, search, merge}
 use Rattle.facet_replies.specs.ReplyLines.{json_line, reply_data, reply_line}
 use Rattle.facet_replies.specs.Replies.{Reply, placed, numbered, merged, refused, no_memory}
 use Rattle.facet_output.specs.Answered.{Answered, of_session}
 use Rattle.facet_output.specs.Replying.{RightReplies}
-use Rattle.facet_output.specs.Output.{IsOutput}
+use Rattle.facet_output.specs.Output.{IsOutput, pairs_of}
 use Rattle.facet_model.proofs.Samples.{bob, lisa}
 use Rattle.facet_output.proofs.Samples.{empty_store, plain_settings, order, answer, answer_at, by_one, each_session, one_hit}
 use Rattle.facet_output.proofs.Holding.{everything, name, labels, history, two_hits}
+use Rattle.facet_output.proofs.PairTests.{pairs_from, places_from}
 
 -- ---- merges between searches
 
@@ -78,9 +79,9 @@ is_output = record {
   opened_pair_first = refl;
   publications = refl;
   refreshes = each_session _ refl (λ s e. rw e refl);
-  pairs = refl;
+  pairs = pairs_from answered empty_store (pairs_of published) refl;
   have_places = refl;
-  places = refl;
+  places = places_from answered labels published refl;
   one_failure = omega arith;
   closed = refl;
   last_commit = refl;

@@ -4,11 +4,11 @@ use Rattle.std.specs.Prelude.{◌==◌, nat_lt, AllPairs, All, IsTrue, filter, f
 use Rattle.std.specs.List.{enumerate_from, range_with_len, list_all}
 use Rattle.std.proofs.lemmas.Bool.{eqb-true, eq-eqb, lt-ltb, or_left, or_right, and_from, and_parts, ltb-true}
 use Rattle.std.proofs.lemmas.List.Kept.{AllPairs-cons}
-use Rattle.facet_words.specs.Sessions.Commands.{Order}
+use Rattle.facet_words.specs.Commands.{Order}
 use Rattle.facet_output.specs.Answered.{comes_after, by_session, in_writing_order}
 use Rattle.facet_output.specs.Steps.{Step}
 use Rattle.facet_output.specs.Sessions.{own_steps, is_by}
-use Rattle.facet_words.specs.Sessions.Laws.{lines_rise}
+use Rattle.facet_words.specs.ScriptOrder.{lines_rise}
 use Rattle.facet_output.proofs.Among.{In, of_filter, of_append, in_map, of_map}
 
 -- ---- a relation of each with each later one, by recursion

@@ -3,13 +3,13 @@ use Rattle.std.proofs.Common.{◌≡◌, inl, inr, ⊎_elim, ℕ, eqb, true, Lis
 use Rattle.std.specs.Prelude.{filter, filter_map, is_none, not, drop, unwrap_or, Result, Ok, Err}
 use Rattle.std.specs.List.{AllZip, cons_option}
 use Rattle.std.proofs.lemmas.Bool.{eq-eqb}
-use Rattle.facet_words.specs.Sessions.Commands.{Command, add, refresh, hold, release, search, document, stats, commit, merge}
+use Rattle.facet_words.specs.Commands.{Command, add, refresh, hold, release, search, document, stats, commit, merge}
 use Rattle.facet_replies.specs.Replies.{broken, labels_full, docs_full, not_held, held_already, top_zero, dim_value_not_kept, no_such_document, disk_failed, closed, numbers_spent, no_memory, Reply, placed, numbered, found, shown, stats as numbers, merged, refused}
 use Rattle.facet_output.specs.Answered.{Answered, is_of, of_session}
 use Rattle.facet_output.specs.Commits.{HasPoints, HasItsLabels, commits_of, has_outcome, outcome, outcome_at, outcome_by, outcome_in, outcome_of}
 use Rattle.facet_output.specs.Output.{Opened, has_shown}
 use Rattle.facet_output.specs.Seen.{CommitPoint, Seen, entered_by, labels_of}
-use Rattle.facet_output.specs.Telling.{durable, durable_by, failed, failed_by, failed_in, number_in}
+use Rattle.facet_output.specs.Reported.{durable, durable_by, failed, failed_by, failed_in, number_in}
 use Rattle.facet_output.proofs.Among.{In, at_in, in_filter, of_filter, of_map}
 use Rattle.facet_output.proofs.Answers.{in_drop}
 

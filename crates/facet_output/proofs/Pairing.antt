@@ -7,11 +7,10 @@ use Rattle.std.proofs.lemmas.Bool.{and_from, and_parts, cases_lt, le-leb, lt-ltb
 use mathlib.Core.List.{IsPrefix}
 use Rattle.facet_model.specs.Histories.{never_falls, is_pair}
 use Rattle.facet_model.specs.CoreStates.{is_same_pair}
-use Rattle.facet_words.specs.Commands.{Settings}
-use Rattle.facet_words.specs.Sessions.Commands.{Order}
+use Rattle.facet_words.specs.Commands.{Settings, Order}
 use Rattle.facet_output.specs.Answered.{Answered, comes_after, may_come_after}
-use Rattle.facet_output.specs.Output.{Opened, opened_pair, has_source, is_newest, is_right_pair}
-use Rattle.facet_output.specs.Telling.{sees_no_pair, refreshed, is_number, is_up_to, is_no_newer}
+use Rattle.facet_output.specs.Output.{Opened, opened_pair, has_source}
+use Rattle.facet_output.specs.Reported.{sees_no_pair, refreshed, is_number}
 use Rattle.facet_output.specs.Seen.{Entries, Seen, labels_of, history_of}
 use Rattle.facet_output.specs.Steps.{Step, IsLastPair, EntersPair, IsPlace}
 use Rattle.facet_output.specs.Sessions.{AllRan, steps_of, own_steps, is_by}
@@ -24,6 +23,7 @@ use Rattle.facet_output.proofs.Fronts.{get_last, get_below, get_back, own_front}
 use Rattle.facet_output.proofs.Known.{facts, after_sees, after_parts, entered, own_in, in_order}
 use Rattle.std.proofs.lemmas.Option.{same_Some}
 use Rattle.chronicle.proofs.Prefixes.{prefix_length, prefix_get}
+use Rattle.facet_output.proofs.PairTests.{is_up_to, is_no_newer, newest_test, right_pair_test}
 
 -- ---- numbers that never fall
 
@@ -145,7 +145,7 @@ module _ (settings : Settings) (phases : List (List Order)) (opened : Opened) (r
           let named : is_number pair.0 (refreshed b.answered) ≡ true = subst (λ (o : Option ℕ). is_number pair.0 o ≡ true) (sym is) (eq-eqb pair.0 pair.0 refl) in
           or_right (pair.0 == length opened.docs) _ (any_step (steps_of ran) (λ b. is_number pair.0 (refreshed b) && may_come_after x.answered b) b r.1 (and_from _ _ named (may_come x b there r.1 later other)))
 
-  newest_so : (x : Step) → In x (steps_of ran) → (pair : ℕ × ℕ) → x.answered.took ≡ Some pair → is_newest (answers (steps_of ran)) x.answered pair ≡ true
+  newest_so : (x : Step) → In x (steps_of ran) → (pair : ℕ × ℕ) → x.answered.took ≡ Some pair → newest_test (answers (steps_of ran)) x.answered pair ≡ true
   newest_so x there pair e =
       let t = took_at x there pair e in
       let f = facts settings phases opened ran last all x there in
@@ -166,8 +166,8 @@ module _ (settings : Settings) (phases : List (List Order)) (opened : Opened) (r
       no_newer pair None each = refl
       no_newer pair (Some p) each = and_from _ _ (le-leb p.0 pair.0 (each p refl).0) (le-leb p.1 pair.1 (each p refl).1)
 
-  pub pairs_so : IsTrue (list_all (λ a. option_map_or (is_right_pair opened published (answers (steps_of ran)) a) a.took true) (answers (steps_of ran)))
-  pairs_so = all_some (steps_of ran) (is_right_pair opened published (answers (steps_of ran))) (λ a. a.took) (λ x there pair e.
+  pub pairs_so : IsTrue (list_all (λ a. option_map_or (right_pair_test opened published (answers (steps_of ran)) a) a.took true) (answers (steps_of ran)))
+  pairs_so = all_some (steps_of ran) (right_pair_test opened published (answers (steps_of ran))) (λ a. a.took) (λ x there pair e.
       let t = took_at x there pair e in
       let among : In pair published = at_in published t.0 pair (get_map (λ (e : ℕ × (ℕ × ℕ)). e.1) last.pairs t.0 (t.1, pair) t.2) in
       let itself : is_same_pair pair pair ≡ true = and_from _ _ (eq-eqb pair.0 pair.0 refl) (eq-eqb pair.1 pair.1 refl) in

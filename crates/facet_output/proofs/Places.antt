@@ -5,14 +5,13 @@ use Rattle.std.specs.List.{list_all}
 use Rattle.std.specs.Option.{option_map_or}
 use Rattle.std.proofs.lemmas.Bool.{and_from, le-leb, lt-ltb, eq-eqb}
 use Rattle.facet_model.specs.CoreStates.{is_same_pair}
-use Rattle.facet_words.specs.Commands.{Settings}
+use Rattle.facet_words.specs.Commands.{Settings, Order}
 use Rattle.facet_output.specs.Answered.{comes_after}
-use Rattle.facet_words.specs.Sessions.Commands.{Order}
-use Rattle.facet_output.specs.Output.{Opened, is_pair_of, is_no_further, has_shown, has_labels, is_at, has_place}
+use Rattle.facet_output.specs.Output.{Opened, is_pair_of, is_no_further, has_shown, has_labels, has_place}
 use Rattle.facet_output.specs.Seen.{Seen, labels_of}
 use Rattle.facet_output.specs.Sessions.{AllRan, steps_of}
 use Rattle.facet_output.specs.Steps.{Step, EntersPair, IsPlace}
-use Rattle.facet_output.specs.Telling.{refreshed, sees_no_pair}
+use Rattle.facet_output.specs.Reported.{refreshed, sees_no_pair}
 use Rattle.facet_output.proofs.Among.{In}
 use Rattle.facet_output.proofs.Answers.{answers, all_steps, all_some}
 use Rattle.facet_output.proofs.Entering.{shown_among}
@@ -21,6 +20,7 @@ use Rattle.facet_output.proofs.Fronts.{get_there}
 use Rattle.facet_output.proofs.Known.{facts, after_sees}
 use Rattle.facet_output.proofs.Pairing.{took_at, refreshed_at}
 use Rattle.chronicle.proofs.Prefixes.{prefix_length}
+use Rattle.facet_output.proofs.PairTests.{at_test}
 
 some_place : (none : Bool) (place : Option ℕ) (seen k : ℕ) → IsPlace none place seen → place ≡ Some k → seen ≡ k + 1
 some_place true place seen k is e = absurd cc
@@ -88,8 +88,8 @@ module _ (settings : Settings) (phases : List (List Order)) (opened : Opened) (r
           let whole = ap length enters.2.1 ∙ length-append enters.0 ((x.answered.order.session, (n, enters.1)) ∷ []) in
           lt-ltb j k (omega arith)
 
-  pub places_so : IsTrue (list_all (λ a. option_map_or (is_at (labels_of last) last.pairs (answers (steps_of ran)) a) a.place true) (answers (steps_of ran)))
-  places_so = all_some (steps_of ran) (is_at (labels_of last) last.pairs (answers (steps_of ran))) (λ a. a.place) (λ x there k e.
+  pub places_so : IsTrue (list_all (λ a. option_map_or (at_test (labels_of last) last.pairs (answers (steps_of ran)) a) a.place true) (answers (steps_of ran)))
+  places_so = all_some (steps_of ran) (at_test (labels_of last) last.pairs (answers (steps_of ran))) (λ a. a.place) (λ x there k e.
       and_from _ _ (pair_here x there k e) (all_steps (steps_of ran) (λ b. not (comes_after x.answered b) || option_map_or (is_no_further x.answered k) b.place true) (λ b among.
       implied (comes_after x.answered b.answered) _ (λ after. placed b.answered.place (is_no_further x.answered k) (λ j g. no_further x b there among after k j e g)))))
     where

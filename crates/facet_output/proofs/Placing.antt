@@ -8,13 +8,12 @@ use Rattle.std.proofs.lemmas.List.Elements.{filter-append}
 use mathlib.Core.List.{IsPrefix}
 use Rattle.facet_model.specs.Documents.{Doc}
 use Rattle.facet_model.specs.Histories.{Operation}
-use Rattle.facet_words.specs.Commands.{Settings}
-use Rattle.facet_words.specs.Sessions.Commands.{Command, Order, add, refresh, hold, release, search, document, stats, commit, merge}
+use Rattle.facet_words.specs.Commands.{Settings, Command, Order, add, refresh, hold, release, search, document, stats, commit, merge}
 use Rattle.facet_replies.specs.Replies.{Reply, placed, numbered, found, shown, stats as numbers, merged, refused}
 use Rattle.facet_output.specs.Answered.{Answered, of_session, is_of}
 use Rattle.facet_output.specs.Held.{Held, held_after}
 use Rattle.facet_output.specs.Output.{Opened, opened_operations, opened_pair}
-use Rattle.facet_output.specs.Telling.{placed_by, placed_operation, refreshed}
+use Rattle.facet_output.specs.Reported.{placed_by, placed_operation, refreshed}
 use Rattle.facet_output.specs.Seen.{Entries, Seen, IsTold, EntersNone, EntersBehind, entered_by, opened_seen, labels_of, history_of}
 use Rattle.facet_output.specs.Steps.{Step, IsStep, EntersOperation, EntersPair}
 use Rattle.facet_output.specs.Sessions.{SessionRan, AllRan, steps_of, own_steps, is_by}

@@ -2,7 +2,7 @@
 use Rattle.std.proofs.Common.{◌≡◌, ℕ, List, [], ◌∷◌, false, true, refl}
 use Rattle.std.specs.Prelude.{codes, Some, None}
 use Rattle.std.specs.List.{AllZip}
-use Rattle.facet_words.specs.Sessions.Commands.{add, refresh, commit, merge}
+use Rattle.facet_words.specs.Commands.{add, refresh, commit, merge}
 use Rattle.facet_replies.specs.Replies.{Reply, placed, numbered, merged, refused, closed, disk_failed, no_memory, numbers_spent}
 use Rattle.facet_output.specs.Answered.{Answered}
 use Rattle.facet_output.specs.Commits.{HasPoints, HasItsLabels, commits_of, committed}

@@ -1,19 +1,19 @@
 -- Outputs that are wrong, each refuted by the definitions, whatever pairs are said to have been published.
 use Rattle.std.proofs.Common.{◌≡◌, ℕ, List, [], ◌∷◌, true, false, sym, subst, ap, arith, ⊎_elim}
 use Rattle.std.specs.Prelude.{codes, Option, Some, None, IsTrue, map, ◌&&◌}
-use Rattle.facet_output.specs.Telling.{shows}
+use Rattle.facet_output.specs.Reported.{shows}
 use Rattle.std.specs.List.{list_any}
 use Rattle.facet_model.specs.CoreStates.{is_same_pair}
 use Rattle.std.proofs.lemmas.Bool.{and_parts}
 use Rattle.facet_model.specs.Documents.{Doc}
-use Rattle.facet_words.specs.Commands.{Settings}
-use Rattle.facet_words.specs.Sessions.Commands.{Order, add, refresh, search, commit, stats}
+use Rattle.facet_words.specs.Commands.{Settings, Order, add, refresh, search, commit, stats}
 use Rattle.facet_replies.specs.Replies.{Reply, placed, numbered, refused, labels_full, closed, disk_failed, stats as numbers, docs_full}
 use Rattle.facet_output.specs.Answered.{Answered}
-use Rattle.facet_output.specs.Output.{IsOutput, is_right_pair, has_source, is_newest}
+use Rattle.facet_output.specs.Output.{IsOutput, has_source, pairs_of}
 use Rattle.facet_model.proofs.Samples.{author, doc, bob, lisa}
 use Rattle.facet_output.proofs.Samples.{answer_at, empty_store, plain_settings, order, answer, by_one, one_hit, bobs_labels}
 use Rattle.facet_output.proofs.Holding.{everything, labels, history}
+use Rattle.facet_output.proofs.PairTests.{pairs_to, places_to, right_pair_test, newest_test}
 
 -- two adds
 abbrev two_adds : List (List Order)
@@ -54,15 +54,15 @@ found_early took place = answer 2 (add bob) None (placed 0) ∷ record (answer 3
 
 never_published : (published : List (ℕ × (ℕ × ℕ))) (took : Option (ℕ × ℕ)) (place : Option ℕ) → ¬ IsOutput plain_settings unseen empty_store labels (by_one bob ∷ []) published (found_early took place)
 never_published published None place o = ⊎_elim (λ impossible. impossible) (λ lacks. let e = lacks.1 in cc) (o.replies 1).1.0
-never_published published (Some pair) place o = ⊎_elim (λ right. no_source pair.0 (ap shows right.2) (source_of o.pairs)) (λ lacks. let e = lacks.1 in cc) (o.replies 1).1.0
+never_published published (Some pair) place o = ⊎_elim (λ right. no_source pair.0 (ap shows right.2) (source_of (pairs_to (found_early (Some pair) place) empty_store (pairs_of published) o.pairs))) (λ lacks. let e = lacks.1 in cc) (o.replies 1).1.0
   where
     a : Answered
     a = record (answer 3 (search None everything) (Some pair) one_hit) { place = place }
 
-    source_of : IsTrue (is_right_pair empty_store (map (λ e. e.1) published) (found_early (Some pair) place) a pair && true) → has_source 0 (found_early (Some pair) place) a pair.0 ≡ true
+    source_of : IsTrue (right_pair_test empty_store (map (λ e. e.1) published) (found_early (Some pair) place) a pair && true) → has_source 0 (found_early (Some pair) place) a pair.0 ≡ true
     source_of t =
-        let whole = and_parts (is_right_pair empty_store (map (λ e. e.1) published) (found_early (Some pair) place) a pair) true t in
-        let front = and_parts (list_any (is_same_pair pair) (map (λ e. e.1) published) && has_source 0 (found_early (Some pair) place) a pair.0) (is_newest (found_early (Some pair) place) a pair) whole.0 in
+        let whole = and_parts (right_pair_test empty_store (map (λ e. e.1) published) (found_early (Some pair) place) a pair) true t in
+        let front = and_parts (list_any (is_same_pair pair) (map (λ e. e.1) published) && has_source 0 (found_early (Some pair) place) a pair.0) (newest_test (found_early (Some pair) place) a pair) whole.0 in
         (and_parts (list_any (is_same_pair pair) (map (λ e. e.1) published)) (has_source 0 (found_early (Some pair) place) a pair.0) front.0).1
 
     no_source : (n : ℕ) → 1 ≡ n → has_source 0 (found_early (Some pair) place) a n ≡ true → ⊥
@@ -129,4 +129,4 @@ abbrev full_behind : List Answered
 full_behind = answer 2 (add bob) None (refused (docs_full 0)) ∷ answer_at 0 3 (stats None) (Some (0, 1)) (numbers (record { operations = 0; labels = 1; documents = 0 })) ∷ answer_at 1 4 refresh None (numbered 0) ∷ []
 
 labels_behind : ¬ IsOutput (record plain_settings { max_docs = 0 }) behind empty_store bobs_labels [] ((0, (0, 1)) ∷ (1, (0, 1)) ∷ []) full_behind
-labels_behind o = let e : false ≡ true = o.places in cc
+labels_behind o = let e : false ≡ true = places_to full_behind bobs_labels ((0, (0, 1)) ∷ (1, (0, 1)) ∷ []) o.places in cc

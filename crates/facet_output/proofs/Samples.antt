@@ -5,8 +5,7 @@ use Rattle.std.specs.Prelude.{codes, Option, Some, None}
 use Rattle.facet_model.specs.Documents.{Doc}
 use Rattle.facet_model.specs.Histories.{Operation}
 use Rattle.facet_model.proofs.Samples.{author}
-use Rattle.facet_words.specs.Commands.{Settings}
-use Rattle.facet_words.specs.Sessions.Commands.{Order, Command}
+use Rattle.facet_words.specs.Commands.{Settings, Order, Command}
 use Rattle.facet_replies.specs.Replies.{Reply, found}
 use Rattle.facet_output.specs.Answered.{Answered}
 use Rattle.facet_output.specs.Output.{Opened}

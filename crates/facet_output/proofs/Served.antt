@@ -1,8 +1,8 @@
 -- One session that ran alone was served on the shelf that `facet_words` speaks of.
 use Rattle.std.proofs.Common.{◌≡◌, ◌⊎◌, inl, inr, ⊎_elim, ℕ, ◌≤◌, ◌<◌, ◌^◌, Bool, true, false, List, [], ◌∷◌, ◌++◌, length, map, Option, Some, None, slice_get, refl, sym, ap, ◌∙◌, subst, arith, length-append}
-use Rattle.std.specs.Prelude.{take, drop, flat_map, filter_map, nat_lt, nat_le, option_to_list, option_map, unwrap_or, IfSome, IsTrue}
+use Rattle.std.specs.Prelude.{take, flat_map, filter_map, nat_lt, nat_le, option_to_list, option_map, unwrap_or, IfSome, IsTrue}
 use Rattle.std.specs.List.{list_all, enumerate_from, cons_option}
-use Rattle.std.proofs.lemmas.Bool.{both_ways, cases_lt, lt-ltb, le-ltb, le-leb, lt-leb}
+use Rattle.std.proofs.lemmas.Bool.{and_parts, both_ways, cases_lt, lt-ltb, le-ltb, le-leb, lt-leb}
 use Rattle.std.proofs.lemmas.List.{length-map, map-append, take-map, take_all}
 use Rattle.std.proofs.lemmas.List.Elements.{filter_map-append}
 use mathlib.Core.List.{IsPrefix}
@@ -14,14 +14,12 @@ use Rattle.facet_model.specs.Flags.{Config}
 use Rattle.facet_model.specs.Histories.{Operation, docs, knows}
 use Rattle.facet_replies.specs.ReplyLines.{reply_line}
 use Rattle.facet_words.specs.Answers as words_answers
-use Rattle.facet_words.specs.Answers.{Shelf, with_labels, hits_of, first_hits}
-use Rattle.facet_words.specs.Commands as words
-use Rattle.facet_words.specs.Commands.{Settings, Search}
+use Rattle.facet_words.specs.Answers.{Shelf, names_no_pair, with_labels, hits_of, first_hits}
+use Rattle.facet_words.specs.Commands.{Settings, Search, Command, Order, add, refresh, hold, release, search, document, stats, commit, merge}
 use Rattle.facet_output.specs.Answered.{Answered}
-use Rattle.facet_words.specs.Sessions.Commands.{Command, Order, add, refresh, search, document, stats, commit, merge}
 use Rattle.facet_output.specs.Held.{Held, held_after}
 use Rattle.facet_output.specs.OneSession.{AddLeaves, Leaves, LeavesFirst, room, is_resolved}
-use Rattle.facet_output.specs.OneShelf.{command_of, order_of, Served, OneSessionIsServed}
+use Rattle.facet_output.specs.OneShelf.{orders_of, NamesNoPair, Served, OneSessionIsServed}
 use Rattle.facet_output.specs.Output.{Opened}
 use Rattle.facet_output.specs.OutputLines.{reply_lines}
 use Rattle.facet_replies.specs.Replies.{Refusal, broken, labels_full, docs_full, no_such_document, disk_failed, closed, numbers_spent, no_memory, Reply, placed, numbered, found, shown, stats as numbers, merged, refused}
@@ -29,7 +27,7 @@ use Rattle.facet_output.specs.Replying.{IsAdded, IsResolved, IsOf, IsFound, IsSh
 use Rattle.facet_output.specs.Seen.{CommitPoint, Entries, Seen, Sees, IsTold, EntersNone, opened_seen, labels_of, history_of, failures}
 use Rattle.facet_output.specs.Sessions.{SessionRan, AllRan, steps_of, own_steps, is_by}
 use Rattle.facet_output.specs.Steps.{Step, IsStep, IsLastPair, EntersOperation, EntersPair, EntersPoint, EntersPoints, EntersCommit}
-use Rattle.facet_output.specs.Telling.{placed_by, refreshed_by, stood_by, says_full}
+use Rattle.facet_output.specs.Reported.{placed_by, refreshed_by, stood_by, says_full}
 use Rattle.facet_output.proofs.Alone.{nothing_between, own, step_leaves}
 use Rattle.facet_output.proofs.Among.{In, all_in, in_left, in_right}
 use Rattle.facet_output.proofs.Bringing.{opened_first}
@@ -132,7 +130,7 @@ all_known labels doc = all_in (λ label. list_all (stands (with_labels labels do
     (λ label there. all_in (stands (with_labels labels doc)) (prefixes label) (λ p among. all_stand (flat_map prefixes doc.labels) labels p (among_all doc.labels label p there among)))
 
 -- the reply on the shelf, and the next shelf
-record Goes (settings : Settings) (command : words.Command) (reply : Reply) (shelf : Shelf) (after : Seen) : Type 0 where
+record Goes (settings : Settings) (command : Command) (reply : Reply) (shelf : Shelf) (after : Seen) : Type 0 where
   told : Reply
   next : Shelf
   same : told ≡ reply
@@ -293,7 +291,7 @@ module _ (settings : Settings) (before after : Seen) (held : Held) (session : �
     added None leaves right = ⊎_elim (resolved leaves (knows (labels_of after) doc) refl) (λ lacks. lacks_memory leaves lacks.1) right
 
     add_goes : AddLeaves settings (labels_of before) doc (first_broken settings.config doc) reply (labels_of after)
-        → IsAdded settings (labels_of after) (history_of after) session doc (first_broken settings.config doc) reply ⊎ (IsTrue true × (reply ≡ refused no_memory)) → Goes settings (words.add doc) reply S after
+        → IsAdded settings (labels_of after) (history_of after) session doc (first_broken settings.config doc) reply ⊎ (IsTrue true × (reply ≡ refused no_memory)) → Goes settings (add doc) reply S after
     add_goes leaves right = let a = added (first_broken settings.config doc) leaves right in record { told = a.told; next = a.next; same = a.same; right = a.answer; fits = a.fits }
 
   -- ---- what enters nothing
@@ -310,10 +308,10 @@ module _ (settings : Settings) (before after : Seen) (held : Held) (session : �
 
   -- ---- refresh
 
-  refresh_goes : (took : Option (ℕ × ℕ)) (reply : Reply) → Facts settings before after held session refresh took reply → Goes settings words.refresh reply S after
+  refresh_goes : (took : Option (ℕ × ℕ)) (reply : Reply) → Facts settings before after held session refresh took reply → Goes settings refresh reply S after
   refresh_goes took reply f = ⊎_elim refreshed_so lacks f.right
     where
-      refreshed_so : Counts (history_of after) reply → Goes settings words.refresh reply S after
+      refreshed_so : Counts (history_of after) reply → Goes settings refresh reply S after
       refreshed_so c =
           let low : length before.operations ≤ c.0 = subst (λ (q : Option ℕ). IfSome q (λ n. length before.operations ≤ n)) (ap (stood_by refresh) c.2) f.fresh in
           let count = counted c.0 f.operations c.1 low in
@@ -335,7 +333,7 @@ module _ (settings : Settings) (before after : Seen) (held : Held) (session : �
             };
           }
 
-      lacks : IsTrue true × (reply ≡ refused no_memory) → Goes settings words.refresh reply S after
+      lacks : IsTrue true × (reply ≡ refused no_memory) → Goes settings refresh reply S after
       lacks l = record {
         told = refused no_memory;
         next = S;
@@ -355,13 +353,13 @@ module _ (settings : Settings) (before after : Seen) (held : Held) (session : �
 
   -- ---- search
 
-  search_goes : (s : Search) (took : Option (ℕ × ℕ)) (reply : Reply) → Facts settings before after held session (search None s) took reply → Goes settings (words.search s) reply S after
+  search_goes : (s : Search) (took : Option (ℕ × ℕ)) (reply : Reply) → Facts settings before after held session (search None s) took reply → Goes settings (search None s) reply S after
   search_goes s took reply f = ⊎_elim (seen took refl) lacks f.right
     where
       fits : Fits after S
       fits = stays f.leaves f.operations f.pairs f.commits
 
-      found_so : (o : Option (ℕ × AskFault)) → first_refused settings.config s.asks ≡ o → IsFound settings.config s o pair.0 (take pair.0 D) reply → Goes settings (words.search s) reply S after
+      found_so : (o : Option (ℕ × AskFault)) → first_refused settings.config s.asks ≡ o → IsFound settings.config s o pair.0 (take pair.0 D) reply → Goes settings (search None s) reply S after
       found_so (Some r) e is =
           let first : words_answers.first_refused settings.config s.asks ≡ Some (named r) = first_named settings.config (enumerate_from 0 s.asks) ∙ ap (option_map named) e in
           record { told = refused (named r); next = S; same = sym is; right = inl (rw first refl, refl); fits = fits }
@@ -369,7 +367,7 @@ module _ (settings : Settings) (before after : Seen) (held : Held) (session : �
           let first : words_answers.first_refused settings.config s.asks ≡ None = first_named settings.config (enumerate_from 0 s.asks) ∙ ap (option_map named) e in
           record { told = found (record { operations = pair.0; hit_count = length (hits_of (take pair.0 D) s); hits = first_hits (take pair.0 D) s; answers = is.0 }); next = S; same = sym is.2; right = inl (rw first (is.0, is.1, refl), refl); fits = fits }
 
-      seen : (t : Option (ℕ × ℕ)) → took ≡ t → IsOf (λ pair r. IsFound settings.config s (first_refused settings.config s.asks) pair.0 (docs_of (history_of after) pair) r) t None reply → Goes settings (words.search s) reply S after
+      seen : (t : Option (ℕ × ℕ)) → took ≡ t → IsOf (λ pair r. IsFound settings.config s (first_refused settings.config s.asks) pair.0 (docs_of (history_of after) pair) r) t None reply → Goes settings (search None s) reply S after
       seen None e r = absurd r
       seen (Some p) e r =
           let t = if_some (λ pair. IsLastPair after pair × (refreshed_by (search None s) reply ≡ None)) took p f.taken e in
@@ -377,22 +375,22 @@ module _ (settings : Settings) (before after : Seen) (held : Held) (session : �
           let there = subst (λ (ds : List Doc). IsFound settings.config s (first_refused settings.config s.asks) p.0 ds reply) (seen_docs p is f.operations) r in
           found_so (first_refused settings.config s.asks) refl (subst (λ (q : ℕ × ℕ). IsFound settings.config s (first_refused settings.config s.asks) q.0 (take pair.0 D) reply) is there)
 
-      lacks : IsTrue true × (reply ≡ refused no_memory) → Goes settings (words.search s) reply S after
+      lacks : IsTrue true × (reply ≡ refused no_memory) → Goes settings (search None s) reply S after
       lacks l = record { told = refused no_memory; next = S; same = sym l.1; right = inr (refl, refl); fits = fits }
 
   -- ---- document
 
-  document_goes : (at : ℕ) (took : Option (ℕ × ℕ)) (reply : Reply) → Facts settings before after held session (document None at) took reply → Goes settings (words.document at) reply S after
+  document_goes : (at : ℕ) (took : Option (ℕ × ℕ)) (reply : Reply) → Facts settings before after held session (document None at) took reply → Goes settings (document None at) reply S after
   document_goes at took reply f = ⊎_elim (seen took refl) lacks f.right
     where
       fits : Fits after S
       fits = stays f.leaves f.operations f.pairs f.commits
 
-      shown_so : (o : Option Doc) → slice_get (take pair.0 D) at ≡ o → IsShown (labels_of before) pair.0 (take pair.0 D) at o reply → Goes settings (words.document at) reply S after
+      shown_so : (o : Option Doc) → slice_get (take pair.0 D) at ≡ o → IsShown (labels_of before) pair.0 (take pair.0 D) at o reply → Goes settings (document None at) reply S after
       shown_so None e is = record { told = refused (no_such_document (length (take pair.0 D))); next = S; same = sym is; right = inl (rw e refl, refl); fits = fits }
       shown_so (Some doc) e is = record { told = shown (record { operations = pair.0; at = at; doc = doc; ordinals = is.0 }); next = S; same = sym is.2; right = inl (rw e (is.0, is.1, refl), refl); fits = fits }
 
-      seen : (t : Option (ℕ × ℕ)) → took ≡ t → IsOf (λ pair r. IsShown (labels_of after) pair.0 (docs_of (history_of after) pair) at (slice_get (docs_of (history_of after) pair) at) r) t None reply → Goes settings (words.document at) reply S after
+      seen : (t : Option (ℕ × ℕ)) → took ≡ t → IsOf (λ pair r. IsShown (labels_of after) pair.0 (docs_of (history_of after) pair) at (slice_get (docs_of (history_of after) pair) at) r) t None reply → Goes settings (document None at) reply S after
       seen None e r = absurd r
       seen (Some p) e r =
           let t = if_some (λ pair. IsLastPair after pair × (refreshed_by (document None at) reply ≡ None)) took p f.taken e in
@@ -401,15 +399,15 @@ module _ (settings : Settings) (before after : Seen) (held : Held) (session : �
           let two = subst (λ (q : ℕ × ℕ). IsShown (labels_of after) q.0 (take pair.0 D) at (slice_get (take pair.0 D) at) reply) is one in
           shown_so (slice_get (take pair.0 D) at) refl (subst (λ l. IsShown l pair.0 (take pair.0 D) at (slice_get (take pair.0 D) at) reply) f.leaves two)
 
-      lacks : IsTrue true × (reply ≡ refused no_memory) → Goes settings (words.document at) reply S after
+      lacks : IsTrue true × (reply ≡ refused no_memory) → Goes settings (document None at) reply S after
       lacks l = record { told = refused no_memory; next = S; same = sym l.1; right = inr (refl, refl); fits = fits }
 
   -- ---- stats
 
-  stats_goes : (took : Option (ℕ × ℕ)) (reply : Reply) → Facts settings before after held session (stats None) took reply → Goes settings words.stats reply S after
+  stats_goes : (took : Option (ℕ × ℕ)) (reply : Reply) → Facts settings before after held session (stats None) took reply → Goes settings (stats None) reply S after
   stats_goes took reply f = ⊎_elim (seen took refl) (λ l. absurd (both_ways false refl l.0)) f.right
     where
-      seen : (t : Option (ℕ × ℕ)) → took ≡ t → IsOf (λ pair r. r ≡ numbers_of (history_of after) pair) t None reply → Goes settings words.stats reply S after
+      seen : (t : Option (ℕ × ℕ)) → took ≡ t → IsOf (λ pair r. r ≡ numbers_of (history_of after) pair) t None reply → Goes settings (stats None) reply S after
       seen None e r = absurd r
       seen (Some p) e r =
           let t = if_some (λ pair. IsLastPair after pair × (refreshed_by (stats None) reply ≡ None)) took p f.taken e in
@@ -429,7 +427,7 @@ module _ (settings : Settings) (before after : Seen) (held : Held) (session : �
   ends_so : (o : Option ℕ) (told : Reply) (next : Shelf) → shut ≡ o → words_answers.IsCommitted S o told next → words_answers.IsCommitted S shut told next
   ends_so o told next e ends = subst (λ (o : Option ℕ). words_answers.IsCommitted S o told next) (sym e) ends
 
-  commit_goes : (took : Option (ℕ × ℕ)) (reply : Reply) → Facts settings before after held session commit took reply → Goes settings words.commit reply S after
+  commit_goes : (took : Option (ℕ × ℕ)) (reply : Reply) → Facts settings before after held session commit took reply → Goes settings commit reply S after
   commit_goes took reply f = ⊎_elim answered_so lacks f.right
     where
       fits_so : (now : Option ℕ) → failures after.commits ≡ option_to_list now → Fits after (shelf_with (labels_of before) D pair now)
@@ -456,7 +454,7 @@ module _ (settings : Settings) (before after : Seen) (held : Held) (session : �
           list_of None = refl
           list_of (Some c) = refl
 
-      durable_so : Counts (history_of after) reply → Goes settings words.commit reply S after
+      durable_so : Counts (history_of after) reply → Goes settings commit reply S after
       durable_so c =
           let low : length before.operations ≤ c.0 = subst (λ (q : Option ℕ). IfSome q (λ n. length before.operations ≤ n)) (ap (stood_by commit) c.2) f.fresh in
           let p = pointed None (enters (numbered c.0) c.2).0 in
@@ -469,51 +467,56 @@ module _ (settings : Settings) (before after : Seen) (held : Held) (session : �
             fits = fits_so shut (p.1 ∙ ap option_to_list (sym unclosed));
           }
 
-      failed_so : (c : (count : ℕ) × (reply ≡ refused (disk_failed count))) → Goes settings words.commit reply S after
+      failed_so : (c : (count : ℕ) × (reply ≡ refused (disk_failed count))) → Goes settings commit reply S after
       failed_so c =
           let p = pointed (Some c.0) (enters (refused (disk_failed c.0)) c.1) in
           let now = shelf_with (labels_of before) D pair (Some c.0) in
           record { told = refused (disk_failed c.0); next = now; same = sym c.1; right = inl (ends_so None (refused (disk_failed c.0)) now p.0 (inr (inr (c.0, refl, refl)))); fits = fits_so (Some c.0) p.1 }
 
-      told_so : (c : (count : ℕ) × (reply ≡ refused (closed count))) → Goes settings words.commit reply S after
+      told_so : (c : (count : ℕ) × (reply ≡ refused (closed count))) → Goes settings commit reply S after
       told_so c =
           let p = enters (refused (closed c.0)) c.1 in
           let known = of_one shut c.0 (sym closed_so ∙ ap failures (no_commit p.0) ∙ p.1) in
           record { told = refused (closed c.0); next = S; same = sym c.1; right = inl (ends_so (Some c.0) (refused (closed c.0)) S known (refl, refl)); fits = fits_so shut (p.1 ∙ ap option_to_list (sym known)) }
 
-      spent_so : (c : (number : ℕ) × (2 ^ 63 ≤ number) × (reply ≡ refused (numbers_spent number))) → Goes settings words.commit reply S after
+      spent_so : (c : (number : ℕ) × (2 ^ 63 ≤ number) × (reply ≡ refused (numbers_spent number))) → Goes settings commit reply S after
       spent_so c =
           let p = enters (refused (numbers_spent c.0)) c.2 in
           let unclosed = of_none shut (sym closed_so ∙ ap failures (no_commit p.0) ∙ p.1) in
           record { told = refused (numbers_spent c.0); next = S; same = sym c.2; right = inl (ends_so None (refused (numbers_spent c.0)) S unclosed (inr (inl (c.0, c.1, refl, refl)))); fits = fits_so shut (p.1 ∙ ap option_to_list (sym unclosed)) }
 
-      answered_so : IsCommitted (history_of after) reply → Goes settings words.commit reply S after
+      answered_so : IsCommitted (history_of after) reply → Goes settings commit reply S after
       answered_so c = ⊎_elim durable_so (λ c. ⊎_elim failed_so (λ c. ⊎_elim told_so spent_so c) c) c
 
-      lacks : IsTrue true × (reply ≡ refused no_memory) → Goes settings words.commit reply S after
+      lacks : IsTrue true × (reply ≡ refused no_memory) → Goes settings commit reply S after
       lacks l = record { told = refused no_memory; next = S; same = sym l.1; right = inr (refl, refl); fits = stays f.leaves f.operations f.pairs (enters (refused no_memory) l.1) }
 
   -- ---- merge
 
-  merge_goes : (took : Option (ℕ × ℕ)) (reply : Reply) → Facts settings before after held session merge took reply → Goes settings words.merge reply S after
+  merge_goes : (took : Option (ℕ × ℕ)) (reply : Reply) → Facts settings before after held session merge took reply → Goes settings merge reply S after
   merge_goes took reply f = ⊎_elim merged_so lacks f.right
     where
-      merged_so : reply ≡ merged → Goes settings words.merge reply S after
+      merged_so : reply ≡ merged → Goes settings merge reply S after
       merged_so e = record { told = merged; next = S; same = sym e; right = inl (refl, refl); fits = stays f.leaves f.operations f.pairs f.commits }
 
-      lacks : IsTrue true × (reply ≡ refused no_memory) → Goes settings words.merge reply S after
+      lacks : IsTrue true × (reply ≡ refused no_memory) → Goes settings merge reply S after
       lacks l = record { told = refused no_memory; next = S; same = sym l.1; right = inr (refl, refl); fits = stays f.leaves f.operations f.pairs f.commits }
 
   -- ---- each command
 
-  goes : (c : words.Command) (took : Option (ℕ × ℕ)) (reply : Reply) → Facts settings before after held session (command_of c) took reply → Goes settings c reply S after
-  goes (words.add doc) took reply f = add_goes doc reply (f.commits, f.pairs) f.fresh f.operations f.leaves f.right
-  goes words.refresh took reply f = refresh_goes took reply f
-  goes (words.search s) took reply f = search_goes s took reply f
-  goes (words.document at) took reply f = document_goes at took reply f
-  goes words.stats took reply f = stats_goes took reply f
-  goes words.commit took reply f = commit_goes took reply f
-  goes words.merge took reply f = merge_goes took reply f
+  goes : (c : Command) → names_no_pair c ≡ true → (took : Option (ℕ × ℕ)) (reply : Reply) → Facts settings before after held session c took reply → Goes settings c reply S after
+  goes (add doc) none took reply f = add_goes doc reply (f.commits, f.pairs) f.fresh f.operations f.leaves f.right
+  goes refresh none took reply f = refresh_goes took reply f
+  goes (hold name) none took reply f = absurd (both_ways false refl none)
+  goes (release name) none took reply f = absurd (both_ways false refl none)
+  goes (search None s) none took reply f = search_goes s took reply f
+  goes (search (Some name) s) none took reply f = absurd (both_ways false refl none)
+  goes (document None at) none took reply f = document_goes at took reply f
+  goes (document (Some name) at) none took reply f = absurd (both_ways false refl none)
+  goes (stats None) none took reply f = stats_goes took reply f
+  goes (stats (Some name)) none took reply f = absurd (both_ways false refl none)
+  goes commit none took reply f = commit_goes took reply f
+  goes merge none took reply f = merge_goes took reply f
 
 -- ---- all steps
 
@@ -550,8 +553,8 @@ module _ (settings : Settings) (phases : List (List Order)) (opened : Opened) (r
       }
 
   -- one step on a shelf of what was seen before it
-  step_goes : (held : Held) (x : Step) → In x (steps_of ran) → Sees start x.before → Sees x.after last → IsStep settings held x → (c : words.Command) → x.answered.order.command ≡ command_of c → (shelf : Shelf) → Fits x.before shelf → Goes settings c x.answered.reply shelf x.after
-  step_goes held x there since until step c is shelf fits =
+  step_goes : (held : Held) (x : Step) → In x (steps_of ran) → Sees start x.before → Sees x.after last → IsStep settings held x → names_no_pair x.answered.order.command ≡ true → (shelf : Shelf) → Fits x.before shelf → Goes settings x.answered.order.command x.answered.reply shelf x.after
+  step_goes held x there since until step named shelf fits =
       let mine = own settings phases opened ran last session all one x there in
       let facts : Facts settings x.before x.after held session x.answered.order.command x.answered.took x.answered.reply = record {
         right = subst (λ (n : ℕ). IsRight settings (labels_of x.after) (history_of x.after) held n x.answered.order.command x.answered.took x.answered.reply ⊎ (IsTrue (takes_memory x.answered.order.command) × (x.answered.reply ≡ refused no_memory))) mine step.right;
@@ -562,56 +565,50 @@ module _ (settings : Settings) (phases : List (List Order)) (opened : Opened) (r
         fresh = step.fresh;
         taken = step.took;
       } in
-      subst (λ (s : Shelf). Goes settings c x.answered.reply s x.after) (sym fits.is)
+      subst (λ (s : Shelf). Goes settings x.answered.order.command x.answered.reply s x.after) (sym fits.is)
       (goes settings x.before x.after held session
       (λ ops none begins. same_operations x.before ops since none (prefix_trans ops x.after.operations last.operations begins until.operations))
       (λ ps none begins. same_pairs x.before ps since none (prefix_trans ps x.after.pairs last.pairs begins until.pairs))
       (λ cs none begins. same_commits x.before cs since none (prefix_trans cs x.after.commits last.commits begins until.commits))
-      fits.pair fits.shut fits.ends fits.closed_so c x.answered.took x.answered.reply
-      (subst (λ (k : Command). Facts settings x.before x.after held session k x.answered.took x.answered.reply) is facts))
+      fits.pair fits.shut fits.ends fits.closed_so x.answered.order.command named x.answered.took x.answered.reply facts)
 
   -- the replies from a shelf on
-  record Rest (orders : List words.Order) (answered : List Answered) (shelf : Shelf) : Type 0 where
+  record Rest (answered : List Answered) (shelf : Shelf) : Type 0 where
     replies_to : List Reply
     end : Shelf
-    right : words_answers.RightReplies settings shelf orders replies_to end
+    right : words_answers.RightReplies settings shelf (orders_of answered) replies_to end
     labels : end.labels ≡ labels_of last
     documents : end.docs ≡ docs (history_of last)
-    lines : reply_lines answered ≡ words_answers.reply_lines orders replies_to
+    lines : reply_lines answered ≡ words_answers.reply_lines (orders_of answered) replies_to
 
-  serve : (held : Held) (seen : Seen) (xs : List Step) (orders : List words.Order) → ((x : Step) → In x xs → In x (steps_of ran)) → SessionRan settings session held seen xs last → Sees start seen
-      → map (λ (x : Step). x.answered.order) xs ≡ map order_of orders → (shelf : Shelf) → Fits seen shelf → Rest orders (map (λ (x : Step). x.answered) xs) shelf
-  serve held seen [] [] among goes_on since are shelf fits =
+  serve : (held : Held) (seen : Seen) (xs : List Step) → ((x : Step) → In x xs → In x (steps_of ran)) → SessionRan settings session held seen xs last → Sees start seen
+      → NamesNoPair (map (λ (x : Step). x.answered) xs) → (shelf : Shelf) → Fits seen shelf → Rest (map (λ (x : Step). x.answered) xs) shelf
+  serve held seen [] among goes_on since none shelf fits =
       let at_end = fits_on seen last shelf since (sees_self last) goes_on fits in
       record { replies_to = []; end = shelf; right = refl; labels = ap (λ (s : Shelf). s.labels) at_end.is; documents = ap (λ (s : Shelf). s.docs) at_end.is; lines = refl }
-  serve held seen [] (o ∷ orders) among goes_on since are shelf fits = absurd cc
-  serve held seen (x ∷ xs) [] among goes_on since are shelf fits = absurd cc
-  serve held seen (x ∷ xs) (o ∷ orders) among goes_on since are shelf fits =
+  serve held seen (x ∷ xs) among goes_on since none shelf fits =
       let step = goes_on.1 in
       let until = sees_last settings session (held_after held x.answered) x.after xs last goes_on.2 in
       let from = sees_trans start seen x.before since goes_on.0.sees in
       let to_last = sees_trans x.before x.after last step.sees until in
-      let order : x.answered.order ≡ order_of o = ap (λ (l : List Order). unwrap_or (slice_get l 0) x.answered.order) are in
-      let first = step_goes held x (among x (inl refl)) from until step o.command (ap (λ (q : Order). q.command) order) shelf (fits_on seen x.before shelf since to_last goes_on.0 fits) in
-      let rest = serve (held_after held x.answered) x.after xs orders (λ y later. among y (inr later)) goes_on.2 (sees_trans start x.before x.after from step.sees) (ap (λ (l : List Order). drop 1 l) are) first.next first.fits in
+      let parts = and_parts (names_no_pair x.answered.order.command) (list_all (λ (o : Order). names_no_pair o.command) (orders_of (map (λ (x : Step). x.answered) xs))) none in
+      let first = step_goes held x (among x (inl refl)) from until step parts.0 shelf (fits_on seen x.before shelf since to_last goes_on.0 fits) in
+      let rest = serve (held_after held x.answered) x.after xs (λ y later. among y (inr later)) goes_on.2 (sees_trans start x.before x.after from step.sees) parts.1 first.next first.fits in
       record {
         replies_to = first.told ∷ rest.replies_to;
         end = rest.end;
         right = (first.next, first.right, rest.right);
         labels = rest.labels;
         documents = rest.documents;
-        lines = λ i. (line_so x o order first.told first.same i) ++ rest.lines i;
+        lines = λ i. reply_line x.answered.order.session x.answered.order.line (sym first.same i) ++ rest.lines i;
       }
-    where
-      line_so : (x : Step) (o : words.Order) → x.answered.order ≡ order_of o → (told : Reply) → told ≡ x.answered.reply → reply_line x.answered.order.session x.answered.order.line x.answered.reply ≡ reply_line o.session o.line told
-      line_so x o order told same = λ i. reply_line (order i).session (order i).line (sym same i)
 
   opened_documents : (ds : List Doc) → documents_in (map (λ doc. (0, doc)) ds) ≡ ds
   opened_documents [] = refl
   opened_documents (d ∷ ds) = ap (λ (l : List Doc). d ∷ l) (opened_documents ds)
 
-  served : (orders : List words.Order) → map (λ (x : Step). x.answered.order) (steps_of ran) ≡ map order_of orders → Served settings opened orders (map (λ (x : Step). x.answered) (steps_of ran)) last
-  served orders are =
+  served : NamesNoPair (map (λ (x : Step). x.answered) (steps_of ran)) → Served settings opened (map (λ (x : Step). x.answered) (steps_of ran)) last
+  served none =
       let whole : own_steps session (steps_of ran) ≡ steps_of ran = filter_all (is_by session) (steps_of ran) one in
       let goes_on : SessionRan settings session [] start (steps_of ran) last = subst (λ (xs : List Step). SessionRan settings session [] start xs last) whole (all.sessions session) in
       let fits : Fits start (words_answers.opened_shelf opened.labels opened.docs) = record {
@@ -621,8 +618,8 @@ module _ (settings : Settings) (phases : List (List Order)) (opened : Opened) (r
         ends = ([], 0, refl);
         closed_so = refl;
       } in
-      let r = serve [] start (steps_of ran) orders (λ x there. there) goes_on (sees_self start) are (words_answers.opened_shelf opened.labels opened.docs) fits in
+      let r = serve [] start (steps_of ran) (λ x there. there) goes_on (sees_self start) none (words_answers.opened_shelf opened.labels opened.docs) fits in
       record { replies = r.replies_to; shelf = r.end; right = r.right; labels = r.labels; docs = r.documents; lines = r.lines }
 
 pub one_session_is_served : OneSessionIsServed
-one_session_is_served settings phases opened ran last session orders all one are = served settings phases opened ran last session all one orders are
+one_session_is_served settings phases opened ran last session all one none = served settings phases opened ran last session all one none

@@ -5,12 +5,11 @@ use Rattle.facet_model.specs.Accepts.{Broken, first_broken}
 use Rattle.facet_model.specs.Asks.{AskFault, top_of_none, value_not_kept}
 use Rattle.facet_model.specs.Documents.{Doc}
 use Rattle.facet_model.specs.Histories.{Operation, knows}
-use Rattle.facet_words.specs.Commands.{Settings, Search}
-use Rattle.facet_words.specs.Sessions.Commands.{Command, add, refresh, hold, release, search, document, stats, commit, merge}
+use Rattle.facet_words.specs.Commands.{Settings, Search, Command, add, refresh, hold, release, search, document, stats, commit, merge}
 use Rattle.facet_replies.specs.Replies.{Reply, refused}
 use Rattle.facet_output.specs.Held.{Held, held_under}
 use Rattle.facet_output.specs.Replying.{IsAdded, IsResolved, IsOf, IsFound, IsShown, IsHold, IsRelease, IsRight, IsCommitted, Counts, pair_seen, docs_of, first_refused, ask_refusal, numbers_of}
-use Rattle.facet_output.specs.Telling.{shows}
+use Rattle.facet_output.specs.Reported.{shows}
 use Rattle.facet_output.specs.Seen.{labels_of, history_of}
 use Rattle.facet_output.specs.Steps.{Step, IsStep}
 use Rattle.facet_output.proofs.Fronts.{get_below}

@@ -3,7 +3,7 @@ use Rattle.std.proofs.Common.{◌≡◌, ℕ, zero, suc, List, [], ◌∷◌, fa
 use Rattle.std.specs.Prelude.{codes, Option, Some, None, All, unwrap_or, map}
 use Rattle.std.proofs.lemmas.List.Elements.{All-from_recursion}
 use mathlib.Core.List.{IsPrefix}
-use Rattle.facet_words.specs.Sessions.Commands.{Command, add, refresh, search}
+use Rattle.facet_words.specs.Commands.{Command, add, refresh, search}
 use Rattle.facet_replies.specs.Replies.{placed, numbered}
 use Rattle.facet_output.specs.Answered.{Answered}
 use Rattle.facet_output.specs.Output.{IsOutput}

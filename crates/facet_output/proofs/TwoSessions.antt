@@ -3,17 +3,18 @@ use Rattle.std.proofs.Common.{◌≡◌, ℕ, List, [], ◌∷◌, Bool, true, f
 use Rattle.std.specs.Prelude.{◌==◌, if◌then◌else◌, codes, Option, Some, None, IsTrue}
 use Rattle.std.proofs.lemmas.Bool.{eqb-true}
 use Rattle.facet_model.specs.Histories.{Operation}
-use Rattle.facet_words.specs.Sessions.Commands.{Order, Command, add, refresh, search, stats, commit}
+use Rattle.facet_words.specs.Commands.{Order, Command, add, refresh, search, stats, commit}
 use Rattle.facet_replies.specs.Replies.{Reply, placed, numbered, found, refused, labels_full, stats as numbers, closed, disk_failed}
 use Rattle.facet_output.specs.Answered.{Answered, of_session}
 use Rattle.facet_output.specs.Replying.{RightReplies}
-use Rattle.facet_output.specs.Output.{IsOutput, is_right_pair, is_at}
+use Rattle.facet_output.specs.Output.{IsOutput, pairs_of}
 use Rattle.std.specs.List.{list_all}
 use Rattle.std.specs.Option.{option_map_or}
 use Rattle.facet_model.proofs.Samples.{author, bob, lisa}
 use Rattle.facet_output.proofs.Samples.{empty_store, plain_settings, by_one, bobs_labels}
 use Rattle.facet_output.proofs.Holding.{everything}
 use Rattle.facet_output.proofs.Refuted.{three_labels, dated}
+use Rattle.facet_output.proofs.PairTests.{pairs_from, pairs_to, places_from, places_to, right_pair_test, at_test}
 
 -- what holds of sessions 1 and 2, and of every session where the tests for both fail, holds of all
 pub each_session : (P : ℕ → Type 0) → P 1 → P 2 → ((s : ℕ) → eqb 1 s ≡ false → eqb 2 s ≡ false → P s) → (s : ℕ) → P s
@@ -59,9 +60,9 @@ full_output = record {
   opened_pair_first = refl;
   publications = refl;
   refreshes = each_session _ refl refl (λ s e f. rw (e, f) refl);
-  pairs = refl;
+  pairs = pairs_from full empty_store (pairs_of ((0, (0, 1)) ∷ [])) refl;
   have_places = refl;
-  places = refl;
+  places = places_from full bobs_labels ((0, (0, 1)) ∷ []) refl;
   one_failure = omega arith;
   closed = refl;
   last_commit = refl;
@@ -115,9 +116,9 @@ right_output = record {
   opened_pair_first = refl;
   publications = refl;
   refreshes = each_session _ refl refl (λ s e f. rw (e, f) refl);
-  pairs = refl;
+  pairs = pairs_from right empty_store (pairs_of two_published) refl;
   have_places = refl;
-  places = refl;
+  places = places_from right both_labels two_published refl;
   one_failure = omega arith;
   closed = refl;
   last_commit = refl;
@@ -125,12 +126,12 @@ right_output = record {
 }
 
 -- beside the refresh both are right
-beside_it : IsTrue (list_all (λ a. option_map_or (is_right_pair empty_store ((0, 1) ∷ (2, 4) ∷ []) (searched (2, 4) two_swapped (2, 4) two_swapped) a) a.took true) (searched (2, 4) two_swapped (2, 4) two_swapped))
+beside_it : IsTrue (list_all (λ a. option_map_or (right_pair_test empty_store ((0, 1) ∷ (2, 4) ∷ []) (searched (2, 4) two_swapped (2, 4) two_swapped) a) a.took true) (searched (2, 4) two_swapped (2, 4) two_swapped))
 beside_it = refl
 
 -- in the next phase the opened pair is too old
 stale : (published : List (ℕ × (ℕ × ℕ))) → ¬ IsOutput plain_settings phases empty_store both_labels both two_published (searched (0, 1) none_found (0, 1) none_found)
-stale published o = let e : false ≡ true = o.pairs in cc
+stale published o = let e : false ≡ true = pairs_to (searched (0, 1) none_found (0, 1) none_found) empty_store (pairs_of two_published) o.pairs in cc
 
 -- ---- two sessions that each saw the pair which the other published only later
 
@@ -149,9 +150,9 @@ circle_pairs = (0, (0, 1)) ∷ (1, (1, 3)) ∷ (2, (1, 3)) ∷ []
 
 -- whatever the places
 in_a_circle : (p r q t : ℕ) → ¬ IsOutput plain_settings circle_phases empty_store bobs_labels (record { session = 3; doc = bob } ∷ []) circle_pairs (circle p r q t)
-in_a_circle p r q t o = by p r o.places
+in_a_circle p r q t o = by p r (places_to (circle p r q t) bobs_labels circle_pairs o.places)
   where
-    by : (p r : ℕ) → IsTrue (list_all (λ a. option_map_or (is_at bobs_labels circle_pairs (circle p r q t) a) a.place true) (circle p r q t)) → ⊥
+    by : (p r : ℕ) → IsTrue (list_all (λ a. option_map_or (at_test bobs_labels circle_pairs (circle p r q t) a) a.place true) (circle p r q t)) → ⊥
     by zero r h = let e : false ≡ true = h in cc
     by (suc zero) zero h = let e : false ≡ true = h in cc
     by (suc zero) (suc zero) h = let e : false ≡ true = h in cc
@@ -164,7 +165,7 @@ in_a_circle p r q t o = by p r o.places
     by (suc (suc (suc p))) r h = let e : false ≡ true = h in cc
 
 -- the clause on pairs alone lets it pass: each might have come before the other
-one_by_one : IsTrue (list_all (λ a. option_map_or (is_right_pair empty_store ((0, 1) ∷ (1, 3) ∷ (1, 3) ∷ []) (circle 1 1 2 2) a) a.took true) (circle 1 1 2 2))
+one_by_one : IsTrue (list_all (λ a. option_map_or (right_pair_test empty_store ((0, 1) ∷ (1, 3) ∷ (1, 3) ∷ []) (circle 1 1 2 2) a) a.took true) (circle 1 1 2 2))
 one_by_one = refl
 
 -- ---- a commit that is durable after one of its session that told of a failure

@@ -1,8 +1,8 @@
--- What commits have left in the history of commits.
-use Rattle.std.specs.Prelude.{◌≡◌, ◌+◌, ℕ, not, Bool, List, length, take, drop, map, filter, filter_map, count_by, IsTrue, Option, Some, None, is_none, Result, Ok, Err}
+-- What commits leave in the history of commits.
+use Rattle.std.specs.Prelude.{◌≡◌, ◌+◌, ℕ, not, Bool, List, length, take, drop, map, filter, filter_map, count_by}
+use Rattle.std.specs.Prelude.{IsTrue, Option, Some, None, is_none, Result, Ok, Err}
 use Rattle.std.specs.List.{AllZip}
-use Rattle.facet_words.specs.Commands.{Settings}
-use Rattle.facet_words.specs.Sessions.Commands.{Command, Order, commit}
+use Rattle.facet_words.specs.Commands.{Settings, Command, Order, commit}
 use Rattle.facet_replies.specs.Replies.{Reply, disk_failed, numbered, refused}
 use Rattle.facet_output.specs.Answered.{Answered, of_session}
 use Rattle.facet_output.specs.Output.{Opened, has_shown}
@@ -10,7 +10,7 @@ use Rattle.facet_output.specs.Seen.{CommitPoint, Entries, Seen, entered_by, labe
 use Rattle.facet_output.specs.Sessions.{AllRan, answers_of}
 use Rattle.facet_output.specs.Steps.{Step}
 
--- what came of a commit: the number of operations that it has made durable, or the count at which it failed on the disk
+-- the result of a commit: the number of operations that it made durable, or the disk's count of faults when it failed
 abbrev pub outcome_in : Reply → Option (Result ℕ ℕ)
 outcome_in (numbered n) = Some (Ok n)
 outcome_in (refused (disk_failed count)) = Some (Err count)
@@ -20,15 +20,15 @@ abbrev pub outcome_by : Command → Reply → Option (Result ℕ ℕ)
 outcome_by commit reply = outcome_in reply
 outcome_by _ reply = None
 
--- none where the order is no commit, or one that was neither acknowledged nor failed on the disk
+-- none if the command is no commit, or one that was neither acknowledged nor failed on the disk
 abbrev pub outcome : Answered → Option (Result ℕ ℕ)
 outcome a = outcome_by a.order.command a.reply
 
--- the points of a session, behind the opened one
+-- the points of a session, after the opened one
 abbrev pub commits_of : ℕ → Entries CommitPoint → List CommitPoint
 commits_of session commits = map (λ e. e.1) (entered_by session (drop 1 commits))
 
--- what a point tells of its commit: the number of operations, or where it failed its count
+-- the result of a point's commit: the number of operations, or the count if it failed
 abbrev pub outcome_at : ℕ → Option ℕ → Result ℕ ℕ
 outcome_at operations None = Ok operations
 outcome_at operations (Some count) = Err count
@@ -44,21 +44,26 @@ has_outcome a = not (is_none (outcome a))
 abbrev pub committed : ℕ → List Answered → List Answered
 committed session answered = filter has_outcome (of_session session answered)
 
--- the point of a commit, where it has not failed, has all labels that the session of the commit had been shown
+-- the point of a commit that did not fail has all labels that its session had been shown
 abbrev pub HasItsLabels : Seen → List Answered → Answered → CommitPoint → Type 0
-HasItsLabels last answered a point = point.failed ≡ None → IsTrue (has_shown (labels_of last) last.pairs answered a point.labels)
+HasItsLabels last answered a point =
+    point.failed ≡ None → IsTrue (has_shown (labels_of last) last.pairs answered a point.labels)
 
--- The orders were answered so, and this is what there is at the end.
+-- The commands have these replies, and this is the state at the end.
 pub record HasPoints (opened : Opened) (last : Seen) (answered : List Answered) : Type 0 where
   -- the first point is the opened one
   pub first : take 1 last.commits ≡ (opened_seen opened).commits
-  -- behind it the points of each session are those of its commits that were acknowledged or failed on the disk, in their order, each with what its reply tells
-  pub exact : (session : ℕ) → map outcome_of (commits_of session last.commits) ≡ filter_map outcome (of_session session answered)
+  -- after it, the points of each session are those of its commits that were acknowledged or failed on the disk, in
+  -- order, each with the result in its reply
+  pub exact : (session : ℕ) → map outcome_of (commits_of session last.commits)
+      ≡ filter_map outcome (of_session session answered)
   -- the point of each that was acknowledged has all labels that its session had been shown
-  pub labels : (session : ℕ) → AllZip (HasItsLabels last answered) (committed session answered) (commits_of session last.commits)
-  -- there are just as many points as such commits, beside the opened one
+  pub labels : (session : ℕ) → AllZip (HasItsLabels last answered) (committed session answered)
+      (commits_of session last.commits)
+  -- there are exactly as many points as such commits, in addition to the opened one
   pub many : length last.commits ≡ 1 + count_by has_outcome answered
 
 abbrev pub CommitsHavePoints : Type 0
-CommitsHavePoints = (settings : Settings) (phases : List (List Order)) (opened : Opened) (ran : List (List Step)) (last : Seen) → AllRan settings phases opened ran last
+CommitsHavePoints = (settings : Settings) (phases : List (List Order)) (opened : Opened) (ran : List (List Step))
+    (last : Seen) → AllRan settings phases opened ran last
     → HasPoints opened last (answers_of ran)

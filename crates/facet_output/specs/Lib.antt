@@ -1,9 +1,8 @@
-pub mod Commands
 pub mod Replies
 pub mod Answered
 pub mod Held
 pub mod Replying
-pub mod Telling
+pub mod Reported
 pub mod Output
 pub mod OutputLines
 pub mod Seen

@@ -1,37 +1,41 @@
 -- Scripts of one session, whose numbers are exact.
-use Rattle.std.specs.Prelude.{◌≡◌, ◌≤◌, ◌+◌, ℕ, max, if◌then◌else◌, Bool, true, false, List, [], ◌∷◌, length, take, IsTrue, Option, Some, None, is_none, unwrap_or}
+use Rattle.std.specs.Prelude.{◌≡◌, ◌≤◌, ◌+◌, ℕ, max, if◌then◌else◌, Bool, true, false, List, [], ◌∷◌, length, take}
+use Rattle.std.specs.Prelude.{IsTrue, Option, Some, None, is_none, unwrap_or}
 use Rattle.std.specs.List.{list_all}
 use Rattle.facet_model.specs.Accepts.{Broken, first_broken}
 use Rattle.facet_model.specs.Documents.{Doc}
 use Rattle.facet_model.specs.Histories.{Operation}
 use Rattle.facet_words.specs.Answers.{with_labels}
-use Rattle.facet_words.specs.Commands.{Settings}
-use Rattle.facet_words.specs.Sessions.Commands.{Command, add, Order}
+use Rattle.facet_words.specs.Commands.{Settings, Command, add, Order}
 use Rattle.facet_replies.specs.Replies.{Reply, placed, refused, docs_full}
 use Rattle.facet_output.specs.Seen.{Seen, labels_of}
 use Rattle.facet_output.specs.Steps.{Step}
 use Rattle.facet_output.specs.Answered.{Answered, is_of}
 use Rattle.facet_output.specs.Output.{Opened, Published, IsOutput}
 use Rattle.facet_output.specs.Sessions.{AllRan, steps_of, is_by, answers_of}
-use Rattle.facet_words.specs.Sessions.Laws.{lines_rise}
-use Rattle.facet_output.specs.Telling.{placed_operation, stood, refreshed, says_full}
+use Rattle.facet_words.specs.ScriptOrder.{lines_rise}
+use Rattle.facet_output.specs.Reported.{placed_operation, stood, refreshed, says_full}
 
--- one operation more, where one was placed
+-- one operation more, if one was placed
 abbrev pub after_placing : ℕ → Option (ℕ × Operation) → ℕ
 after_placing operations None = operations
 after_placing operations (Some p) = operations + 1
 
--- Where there are so many operations, of which the last refresh has so many: an add is placed behind all of them, a refresh and a commit have all of them, and
--- a pair is that of the last refresh.
+-- Given the number of operations and that of the last refresh: an add is placed after all of them, a refresh and a
+-- commit have all of them,
+-- and a pair is that of the last refresh.
 abbrev pub AreExact : ℕ → ℕ → List Answered → Type 0
 AreExact operations taken [] = Unit {0}
-AreExact operations taken (a ∷ later) = ((n : ℕ) → stood a ≡ Some n → n ≡ operations) × ((pair : ℕ × ℕ) → a.took ≡ Some pair → pair.0 ≡ taken)
+AreExact operations taken (a ∷ later) =
+    ((n : ℕ) → stood a ≡ Some n → n ≡ operations) × ((pair : ℕ × ℕ) → a.took ≡ Some pair → pair.0 ≡ taken)
     × AreExact (after_placing operations (placed_operation a)) (unwrap_or (refreshed a) taken) later
 
 -- the right output of a script of one session is exact
 abbrev pub OneSessionIsExact : Type 0
-OneSessionIsExact = (settings : Settings) (phases : List (List Order)) (opened : Opened) (labels : List (List (List ℕ))) (history : List Operation) (published : Published) (answered : List Answered) (session : ℕ)
-    → IsOutput settings phases opened labels history published answered → IsTrue (list_all lines_rise phases) → IsTrue (list_all (is_of session) answered)
+OneSessionIsExact = (settings : Settings) (phases : List (List Order)) (opened : Opened) (labels : List (List (List ℕ)))
+    (history : List Operation) (published : Published) (answered : List Answered) (session : ℕ)
+    → IsOutput settings phases opened labels history published answered → IsTrue (list_all lines_rise phases)
+    → IsTrue (list_all (is_of session) answered)
     → AreExact (length opened.docs) (length opened.docs) answered
 
 -- ---- labels
@@ -46,9 +50,11 @@ is_resolved (placed at) = true
 is_resolved (refused (docs_full n)) = true
 is_resolved _ = false
 
--- What an add leaves whose document the config accepts: the labels and the first of those that were missing, facet by facet, the dimension first. Where it was
--- refused for labels these are as many as fit, and where it got as far as the documents these are all.
-pub record LeavesFirst (settings : Settings) (labels : List (List (List ℕ))) (doc : Doc) (reply : Reply) (next : List (List (List ℕ))) : Type 0 where
+-- What an add leaves if the config accepts its document: the labels and a prefix of the missing ones, facet by facet,
+-- the dimension first.
+-- If it was rejected for labels, these are as many as fit; if it reached the documents, these are all.
+pub record LeavesFirst (settings : Settings) (labels : List (List (List ℕ))) (doc : Doc) (reply : Reply)
+    (next : List (List (List ℕ))) : Type 0 where
   pub first : next ≡ take (length next) (with_labels labels doc)
   pub low : length labels ≤ length next
   pub high : length next ≤ room settings labels
@@ -62,16 +68,21 @@ AddLeaves settings labels doc None reply next = LeavesFirst settings labels doc 
 
 -- and so does every other command
 abbrev pub Leaves : Settings → List (List (List ℕ)) → Command → Reply → List (List (List ℕ)) → Type 0
-Leaves settings labels (add doc) reply next = AddLeaves settings labels doc (first_broken settings.config doc) reply next
+Leaves settings labels (add doc) reply next =
+    AddLeaves settings labels doc (first_broken settings.config doc) reply next
 Leaves settings labels _ reply next = next ≡ labels
 
--- where there are these labels, of which the last refresh has so many, and at the end the last ones: what each order leaves, and how many labels a taken pair has
+-- given these labels, how many the last refresh has, and those at the end: what each command leaves, and how many
+-- labels a taken pair has
 abbrev pub AreExactLabels : Settings → List (List (List ℕ)) → ℕ → List Answered → List (List (List ℕ)) → Type 0
 AreExactLabels settings labels taken [] last = last ≡ labels
-AreExactLabels settings labels taken (a ∷ later) last = (next : List (List (List ℕ))) × Leaves settings labels a.order.command a.reply next × ((pair : ℕ × ℕ) → a.took ≡ Some pair → pair.1 ≡ taken)
+AreExactLabels settings labels taken (a ∷ later) last = (next : List (List (List ℕ)))
+    × Leaves settings labels a.order.command a.reply next × ((pair : ℕ × ℕ) → a.took ≡ Some pair → pair.1 ≡ taken)
     × AreExactLabels settings next (if is_none (refreshed a) then taken else length labels) later last
 
--- where one session ran alone, its labels are exact
+-- if one session ran alone, its labels are exact
 abbrev pub OneSessionHasItsLabels : Type 0
-OneSessionHasItsLabels = (settings : Settings) (phases : List (List Order)) (opened : Opened) (ran : List (List Step)) (last : Seen) (session : ℕ) → AllRan settings phases opened ran last → IsTrue (list_all (is_by session) (steps_of ran))
+OneSessionHasItsLabels = (settings : Settings) (phases : List (List Order)) (opened : Opened) (ran : List (List Step))
+    (last : Seen) (session : ℕ) → AllRan settings phases opened ran last
+    → IsTrue (list_all (is_by session) (steps_of ran))
     → AreExactLabels settings opened.labels (length opened.labels) (answers_of ran) (labels_of last)

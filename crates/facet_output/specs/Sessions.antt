@@ -1,11 +1,10 @@
--- What the sessions of a run hand over, and the law that their output is right.
+-- What the sessions of an invocation return, and the law that their output is right.
 use Rattle.std.specs.Prelude.{◌≡◌, ◌+◌, ℕ, List, [], ◌∷◌, take, map, filter, flat_map, fold, length, All, Bool, IsTrue}
 use Rattle.std.specs.List.{list_all}
 use Rattle.facet_names.specs.Labels.{IsLabelList}
 use Rattle.facet_model.specs.Histories.{are_publications}
-use Rattle.facet_words.specs.Commands.{Settings}
-use Rattle.facet_words.specs.Sessions.Commands.{Order}
-use Rattle.facet_words.specs.Sessions.Laws.{lines_rise}
+use Rattle.facet_words.specs.Commands.{Settings, Order}
+use Rattle.facet_words.specs.ScriptOrder.{lines_rise}
 use Rattle.facet_output.specs.Answered.{Answered, is_of, in_writing_order}
 use Rattle.facet_output.specs.Held.{Held, held_after}
 use Rattle.facet_output.specs.Output.{Opened, IsOutput}
@@ -19,7 +18,7 @@ steps_of phases = flat_map (λ steps. steps) phases
 abbrev pub is_by : ℕ → Step → Bool
 is_by session x = is_of session x.answered
 
--- what they answered
+-- the replies of the steps
 abbrev pub answers_of : List (List Step) → List Answered
 answers_of phases = map (λ (x : Step). x.answered) (steps_of phases)
 
@@ -27,35 +26,44 @@ answers_of phases = map (λ (x : Step). x.answered) (steps_of phases)
 abbrev pub own_steps : ℕ → List Step → List Step
 own_steps session steps = filter (is_by session) steps
 
--- A session that holds these pairs and has seen so much goes through its steps, one after the other. Between two of them, and to the last, it is told of
--- what others entered.
+-- A session that holds these pairs and has seen so much carries out its steps, one after the other. Between two of
+-- them, and after the last,
+-- it is shown what others entered.
 abbrev pub SessionRan : Settings → ℕ → Held → Seen → List Step → Seen → Type 0
 SessionRan settings session held seen [] last = IsTold session seen last
-SessionRan settings session held seen (x ∷ xs) last = IsTold session seen x.before × IsStep settings held x × SessionRan settings session (held_after held x.answered) x.after xs last
+SessionRan settings session held seen (x ∷ xs) last = IsTold session seen x.before × IsStep settings held x
+    × SessionRan settings session (held_after held x.answered) x.after xs last
 
--- The phases from a number on. Each step of a phase begins with what is known there, and all that was seen in it is known in the next.
+-- The phases from a number on. Each step of a phase begins with what is known there, and everything seen in it is known
+-- in the next.
 abbrev pub PhasesRan : ℕ → Seen → List (List Step) → Seen → Type 0
 PhasesRan phase known [] last = Sees known last
 PhasesRan phase known (steps ∷ later) last = (next : Seen) × Sees known next
-    × All (λ (x : Step). (x.answered.phase ≡ phase) × Sees known x.before × Sees x.after next) steps × PhasesRan (phase + 1) next later last
+    × All (λ (x : Step). (x.answered.phase ≡ phase) × Sees known x.before × Sees x.after next) steps
+    × PhasesRan (phase + 1) next later last
 
 -- what a session holds after these steps
 abbrev pub held_by : Held → List Step → Held
 held_by held steps = fold (λ h (x : Step). held_after h x.answered) held steps
 
 -- These phases were carried out, from what was opened, and now this is known.
-pub record RanSoFar (settings : Settings) (phases : List (List Order)) (opened : Opened) (ran : List (List Step)) (known : Seen) : Type 0 where
+pub record RanSoFar (settings : Settings) (phases : List (List Order)) (opened : Opened) (ran : List (List Step))
+    (known : Seen) : Type 0 where
   pub as_many : length ran ≡ length phases
-  pub asked : map {B = ℕ × Order} (λ (x : Step). (x.answered.phase, x.answered.order)) (steps_of ran) ≡ in_writing_order phases
+  pub asked : map {B = ℕ × Order} (λ (x : Step). (x.answered.phase, x.answered.order)) (steps_of ran)
+      ≡ in_writing_order phases
   pub in_line_order : IsTrue (list_all lines_rise phases)
-  pub sessions : (session : ℕ) → SessionRan settings session [] (opened_seen opened) (own_steps session (steps_of ran)) known
+  pub sessions : (session : ℕ)
+      → SessionRan settings session [] (opened_seen opened) (own_steps session (steps_of ran)) known
   pub told : PhasesRan 0 (opened_seen opened) ran known
 
--- All orders of the phases were carried out, from what was opened to what there is at the end.
-pub record AllRan (settings : Settings) (phases : List (List Order)) (opened : Opened) (ran : List (List Step)) (last : Seen) : Type 0 where
+-- All commands of the phases were carried out, from what was opened to the state at the end.
+pub record AllRan (settings : Settings) (phases : List (List Order)) (opened : Opened) (ran : List (List Step))
+    (last : Seen) : Type 0 where
   pub asked : map (λ (x : Step). (x.answered.phase, x.answered.order)) (steps_of ran) ≡ in_writing_order phases
   pub in_line_order : IsTrue (list_all lines_rise phases)
-  pub sessions : (session : ℕ) → SessionRan settings session [] (opened_seen opened) (own_steps session (steps_of ran)) last
+  pub sessions : (session : ℕ)
+      → SessionRan settings session [] (opened_seen opened) (own_steps session (steps_of ran)) last
   pub told : PhasesRan 0 (opened_seen opened) ran last
   pub rooted : take 1 opened.labels ≡ [] ∷ []
   pub label_list : IsLabelList (labels_of last)
@@ -63,5 +71,6 @@ pub record AllRan (settings : Settings) (phases : List (List Order)) (opened : O
 
 -- their output is right
 abbrev pub SessionsGiveOutput : Type 0
-SessionsGiveOutput = (settings : Settings) (phases : List (List Order)) (opened : Opened) (ran : List (List Step)) (last : Seen) → AllRan settings phases opened ran last
+SessionsGiveOutput = (settings : Settings) (phases : List (List Order)) (opened : Opened) (ran : List (List Step))
+    (last : Seen) → AllRan settings phases opened ran last
     → IsOutput settings phases opened (labels_of last) (history_of last) last.pairs (answers_of ran)

@@ -1,15 +1,16 @@
--- One order of a session: what it saw before and after, and what it entered.
-use Rattle.std.specs.Prelude.{◌≡◌, ◌≤◌, ◌<◌, ◌+◌, ◌++◌, ℕ, Bool, true, false, List, [], ◌∷◌, length, take, IsTrue, Option, Some, None, IfSome}
+-- One command of a session: what it saw before and after, and what it entered.
+use Rattle.std.specs.Prelude.{◌≡◌, ◌≤◌, ◌<◌, ◌+◌, ◌++◌, ℕ, Bool, true, false, List, [], ◌∷◌, length, take, IsTrue}
+use Rattle.std.specs.Prelude.{Option, Some, None, IfSome}
 use Rattle.facet_model.specs.Documents.{Doc}
 use Rattle.facet_model.specs.Histories.{Operation}
-use Rattle.facet_words.specs.Commands.{Settings}
-use Rattle.facet_words.specs.Sessions.Commands.{Command, commit}
+use Rattle.facet_words.specs.Commands.{Settings, Command, commit}
 use Rattle.facet_replies.specs.Replies.{Reply, numbered, refused, disk_failed, closed, numbers_spent}
 use Rattle.facet_output.specs.Answered.{Answered}
 use Rattle.facet_output.specs.Held.{Held}
 use Rattle.facet_output.specs.Replying.{RightReply}
-use Rattle.facet_output.specs.Telling.{brings, paths_of, placed_operation, refreshed, sees_no_pair, stood}
-use Rattle.facet_output.specs.Seen.{CommitPoint, Entries, Seen, Sees, labels_of, history_of, failures, EntersNone, EntersBehind, EachNew}
+use Rattle.facet_output.specs.Reported.{brings, paths_of, placed_operation, refreshed, sees_no_pair, stood}
+use Rattle.facet_output.specs.Seen.{CommitPoint, Entries, Seen, Sees, labels_of, history_of, failures, EntersNone}
+use Rattle.facet_output.specs.Seen.{EntersBehind, EachNew}
 use Rattle.facet_names.specs.Labels.{skips_none}
 
 pub record Step : Type 0 where
@@ -22,21 +23,26 @@ pub record Step : Type 0 where
 -- the operation that was placed, at its place, and no other
 abbrev pub EntersOperation : ℕ → Option (ℕ × Operation) → Entries Doc → Entries Doc → Type 0
 EntersOperation n None old new = EntersNone n old new
-EntersOperation n (Some placed) old new = (between : Entries Doc) × EntersBehind n placed.1.doc old between new × (placed.0 ≡ length between)
+EntersOperation n (Some placed) old new =
+    (between : Entries Doc) × EntersBehind n placed.1.doc old between new × (placed.0 ≡ length between)
 
 -- the pair with the number of operations of a refresh and so many labels, at least and at most, and no other
 abbrev pub EntersPair : ℕ → ℕ → ℕ → Option ℕ → Entries (ℕ × ℕ) → Entries (ℕ × ℕ) → Type 0
 EntersPair n least most None old new = EntersNone n old new
-EntersPair n least most (Some operations) old new = (between : Entries (ℕ × ℕ)) × (labels : ℕ) × EntersBehind n (operations, labels) old between new × (least ≤ labels) × (labels ≤ most)
+EntersPair n least most (Some operations) old new = (between : Entries (ℕ × ℕ)) × (labels : ℕ)
+    × EntersBehind n (operations, labels) old between new × (least ≤ labels) × (labels ≤ most)
 
--- a point that failed so, behind points of which none has failed
+-- a point with this result, after points without a failure
 abbrev pub EntersPoint : ℕ → Option ℕ → Entries CommitPoint → Entries CommitPoint → Type 0
-EntersPoint n failed old new = (between : Entries CommitPoint) × (point : CommitPoint) × EntersBehind n point old between new × (failures between ≡ []) × (point.failed ≡ failed)
+EntersPoint n failed old new = (between : Entries CommitPoint) × (point : CommitPoint)
+    × EntersBehind n point old between new × (failures between ≡ []) × (point.failed ≡ failed)
 
--- What a commit enters, by its reply: a point where it made so many operations and at least so many labels durable, or failed on the disk. Where it tells of an
--- earlier failure, that is the one.
+-- What a commit enters, by its reply: a point if it made so many operations and at least so many labels durable, or
+-- failed on the disk.
+-- If it reports an earlier failure, it is that one.
 abbrev pub EntersCommit : ℕ → ℕ → Reply → Entries CommitPoint → Entries CommitPoint → Type 0
-EntersCommit n least (numbered k) old new = (enters : EntersPoint n None old new) × (enters.1.operations ≡ k) × (least ≤ enters.1.labels)
+EntersCommit n least (numbered k) old new =
+    (enters : EntersPoint n None old new) × (enters.1.operations ≡ k) × (least ≤ enters.1.labels)
 EntersCommit n least (refused (disk_failed count)) old new = EntersPoint n (Some count) old new
 EntersCommit n least (refused (closed count)) old new = EntersNone n old new × (failures new ≡ count ∷ [])
 EntersCommit n least (refused (numbers_spent number)) old new = EntersNone n old new × (failures new ≡ [])
@@ -47,9 +53,11 @@ abbrev pub EntersPoints : ℕ → ℕ → Command → Reply → Entries CommitPo
 EntersPoints n least commit reply old new = EntersCommit n least reply old new
 EntersPoints n least _ reply old new = EntersNone n old new
 
--- A label that is entered, at its place behind the root: a document that the config accepts brings it, it is below the limit, and none before it was skipped.
+-- A label that is entered, at its place after the root: a document that the config accepts brings it, it is below the
+-- limit, and none before it was skipped.
 abbrev pub IsEntered : Settings → Command → List (List (List ℕ)) → ℕ → List (List ℕ) → Type 0
-IsEntered settings command labels i path = IsTrue (brings settings.config path command) × (i + 1 < settings.max_labels) × IsTrue (skips_none (take (i + 1) labels) (paths_of command) path)
+IsEntered settings command labels i path = IsTrue (brings settings.config path command) × (i + 1 < settings.max_labels)
+    × IsTrue (skips_none (take (i + 1) labels) (paths_of command) path)
 
 -- ---- the pair that is taken
 
@@ -59,23 +67,27 @@ pub record IsLastPair (seen : Seen) (pair : ℕ × ℕ) : Type 0 where
   pub operations : pair.0 ≤ length seen.operations
   pub labels : pair.1 ≤ length (labels_of seen)
 
--- an order that took or published a pair has it as the last one that was then seen
+-- a command that took or published a pair has it as the last one that was then seen
 abbrev pub IsPlace : Bool → Option ℕ → ℕ → Type 0
 IsPlace true place seen = place ≡ None
 IsPlace false place seen = (k : ℕ) × (place ≡ Some k) × (seen ≡ k + 1)
 
 -- ---- the step
 
--- An order of a session that held these pairs. Its reply is right of what was then seen.
+-- A command of a session that held these pairs. Its reply is right for what was then seen.
 pub record IsStep (settings : Settings) (held : Held) (x : Step) : Type 0 where
   pub sees : Sees x.before x.after
   pub right : RightReply settings (labels_of x.after) (history_of x.after) held x.answered
-  pub labels : EachNew x.answered.order.session (IsEntered settings x.answered.order.command (labels_of x.after)) x.before.labels x.after.labels
-  pub operations : EntersOperation x.answered.order.session (placed_operation x.answered) x.before.operations x.after.operations
-  pub pairs : EntersPair x.answered.order.session (length (labels_of x.before)) (length (labels_of x.after)) (refreshed x.answered) x.before.pairs x.after.pairs
-  pub commits : EntersPoints x.answered.order.session (length (labels_of x.before)) x.answered.order.command x.answered.reply x.before.commits x.after.commits
-  -- an add, a refresh and a commit come behind all that was seen before
+  pub labels : EachNew x.answered.order.session
+      (IsEntered settings x.answered.order.command (labels_of x.after)) x.before.labels x.after.labels
+  pub operations : EntersOperation x.answered.order.session
+      (placed_operation x.answered) x.before.operations x.after.operations
+  pub pairs : EntersPair x.answered.order.session (length (labels_of x.before)) (length (labels_of x.after))
+      (refreshed x.answered) x.before.pairs x.after.pairs
+  pub commits : EntersPoints x.answered.order.session
+      (length (labels_of x.before)) x.answered.order.command x.answered.reply x.before.commits x.after.commits
+  -- an add, a refresh and a commit come after all that was seen before
   pub fresh : IfSome (stood x.answered) (λ n. length x.before.operations ≤ n)
-  -- an order that takes a pair takes the last one, and publishes none
+  -- a command that takes a pair takes the last one, and publishes none
   pub took : IfSome x.answered.took (λ pair. IsLastPair x.after pair × (refreshed x.answered ≡ None))
   pub place : IsPlace (sees_no_pair x.answered) x.answered.place (length x.after.pairs)

@@ -1,7 +1,8 @@
-//! Which output of a script of several sessions is right, and that sessions which see what their calls say give such an output.
+//! Which output of a script of several sessions is right, and the proof that sessions whose calls keep their contracts
+//! give such an output.
 //!
-//! There is no code here but the laws' names: the definitions are what a program of several sessions has to meet, and the laws are what carries its calls'
-//! clauses to them.
+//! The crate has definitions and laws only, and no code that runs. The definitions are what a program of several
+//! sessions has to satisfy. The laws derive them from the contracts of the program's calls.
 #![tactic(auto)]
 
 mod laws;

@@ -9,7 +9,7 @@ use Rattle.facet_engine.specs.declared.session.Session.{Session}
 use Rattle.facet_engine.specs.Calls.{SameSession}
 use Rattle.facet_engine.specs.Sessions.{HaveOneNumber}
 use Rattle.facet_engine.specs.Systems.{Engine, HasSettings}
-use Rattle.facet_engine.specs.Telling.{HaveMade}
+use Rattle.facet_engine.specs.Exchange.{HaveMade}
 
 pub still_set : (engine : Engine) (old new : Pass) (settings : Settings) → SamePass old new → HasSettings engine old settings → HasSettings engine new settings
 still_set engine old new settings same has = record { config = has.config; max_docs = ap (λ (f : Frame). f.numbers) same.operations.4 ∙ has.max_docs; max_labels = has.max_labels }

@@ -7,12 +7,12 @@ use Rattle.chronicle.specs.Frame.{Frame}
 use Rattle.chronicle.specs.History.{NumbersUpTo}
 use Rattle.facet_model.specs.Documents.{Doc}
 use Rattle.pair_manager.specs.declared.pass.Pass.{Pass}
-use Rattle.facet_words.specs.Sessions.Commands as commands
+use Rattle.facet_words.specs.Commands as commands
 use Rattle.facet_output.specs.Answered.{Answered}
 use Rattle.facet_output.specs.Held.{Held}
 use Rattle.facet_output.specs.Seen.{CommitPoint, IsTold}
 use Rattle.facet_output.specs.Sessions.{held_by, own_steps, steps_of}
-use Rattle.facet_words.specs.Sessions.Laws.{lines_rise}
+use Rattle.facet_words.specs.ScriptOrder.{lines_rise}
 use Rattle.facet_output.specs.Steps.{Step}
 use Rattle.facet_output.proofs.Gluing.{one_more_phase, own_append, unused, told_itself}
 use Rattle.facet_engine.specs.declared.session.Session.{Session}
@@ -20,12 +20,12 @@ use Rattle.facet_engine.specs.HeldPairs.{numbers_held}
 use Rattle.facet_engine.specs.Sessions.{HaveOneNumber}
 use Rattle.facet_engine.specs.Steps.{seen_of}
 use Rattle.facet_engine.specs.Systems.{Engine, BelongsTo, HasSettings}
-use Rattle.facet_engine.specs.Telling.{HaveMade}
+use Rattle.facet_engine.specs.Exchange.{HaveMade}
 use Rattle.facet_phases.specs.declared.lane.Lane.{Lane}
-use Rattle.facet_words.specs.declared.sessions.command.Order.{Order}
+use Rattle.facet_words.specs.declared.command.Order.{Order}
 use Rattle.facet_phases.specs.Lanes.{AreIdle, Each, Gathers, IsDealt, LaneRan, MayRun, KeepAll}
 use Rattle.facet_phases.specs.Orders.{orders_of}
-use Rattle.facet_words.specs.Sessions.CommandViews.{order_view}
+use Rattle.facet_words.specs.CommandViews.{order_view}
 use Rattle.facet_phases.specs.Phases.{AreSpentWithin, PhaseRan, answers_in}
 use Rattle.facet_phases.specs.Running.{AreReady, AreUnderway, CarriesOut, Course, further}
 use Rattle.facet_engine.proofs.SeenPairs.{still_named, still_belongs}

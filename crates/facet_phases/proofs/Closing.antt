@@ -4,7 +4,7 @@ use Rattle.std.specs.Prelude.{Result, Ok, Err, IsErr}
 use Rattle.std.proofs.lemmas.List.{take_more, take-map, map-append, map-id, length-map, length-take}
 use Rattle.std.proofs.lemmas.List.Concat.{flat_map-append}
 use Rattle.pair_manager.specs.declared.pass.Pass.{Pass}
-use Rattle.facet_words.specs.Sessions.Commands.{Order}
+use Rattle.facet_words.specs.Commands.{Order}
 use Rattle.facet_output.specs.Answered.{Answered}
 use Rattle.facet_output.specs.Sessions.{answers_of, steps_of}
 use Rattle.facet_output.specs.Steps.{Step}

@@ -18,8 +18,8 @@ use Rattle.facet_engine.proofs.Sharing.{held_send}
 use Rattle.index_state.proofs.Crossing.{document_send}
 use Rattle.taxo_cache.proofs.Crossing.{path_send}
 use Rattle.facet_phases.specs.contracts.lane.Lane as lane
-use Rattle.facet_words.specs.contracts.sessions.command.Command as command
-use Rattle.facet_words.specs.contracts.sessions.command.Order as order
+use Rattle.facet_words.specs.contracts.command.Command as command
+use Rattle.facet_words.specs.contracts.command.Order as order
 use Rattle.facet_model.specs.contracts.query.Query.TheKnot as knot
 
 word_send : IsSend word.the_row

@@ -6,9 +6,8 @@ use Rattle.std.proofs.lemmas.List.Elements.{All-nil, All-cons, All-head, All-tai
 use native.Mathlib.Decide.{ℕ_discrete}
 use mathlib.Core.Logic.{dite}
 use Rattle.chronicle.specs.Frame.{Frame}
-use Rattle.facet_words.specs.Commands.{Settings}
-use Rattle.facet_words.specs.Sessions.Commands.{Order}
-use Rattle.facet_words.specs.Sessions.Laws.{lines_rise}
+use Rattle.facet_words.specs.Commands.{Settings, Order}
+use Rattle.facet_words.specs.ScriptOrder.{lines_rise}
 use Rattle.facet_output.specs.Held.{Held}
 use Rattle.facet_output.specs.Seen.{Seen, IsTold}
 use Rattle.facet_output.specs.Answered.{by_session}

@@ -8,7 +8,7 @@ use mathlib.Core.Logic.{dite}
 use Rattle.facet_phases.specs.Lanes.{Each, IsDealt, AreNumbered}
 use Rattle.facet_phases.specs.Orders.{orders_of}
 use Rattle.facet_phases.specs.declared.lane.Lane.{Lane}
-use Rattle.facet_words.specs.declared.sessions.command.Order.{Order}
+use Rattle.facet_words.specs.declared.command.Order.{Order}
 
 -- an order is one of its session's, and of no other's
 own_order : (session : ℕ) (o : Order) → o.session ≡ session → orders_of session (o ∷ []) ≡ o ∷ []

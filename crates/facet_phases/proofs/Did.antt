@@ -6,7 +6,7 @@ use Rattle.std.specs.List.{AllZip}
 use Rattle.std.proofs.lemmas.List.{take-map}
 use Rattle.facet_names.specs.declared.fault.NoMemory.{NoMemory}
 use Rattle.facet_words.specs.Commands.{Settings}
-use Rattle.facet_words.specs.Sessions.Commands as commands
+use Rattle.facet_words.specs.Commands as commands
 use Rattle.facet_output.specs.Answered.{Answered}
 use Rattle.facet_output.specs.Seen.{Seen, IsTold}
 use Rattle.facet_output.specs.Sessions.{SessionRan, held_by}
@@ -19,10 +19,10 @@ use Rattle.facet_engine.specs.HeldPairs.{numbers_held}
 use Rattle.facet_engine.specs.Steps.{seen_of}
 use Rattle.facet_engine.specs.Systems.{Engine, HasSettings}
 use Rattle.facet_phases.specs.declared.lane.Lane.{Lane}
-use Rattle.facet_words.specs.declared.sessions.command.Order.{Order}
+use Rattle.facet_words.specs.declared.command.Order.{Order}
 use Rattle.facet_phases.specs.Lanes.{AreIdle, Each, IsDealt, LaneRan, LaneTold}
 use Rattle.facet_phases.specs.Orders.{Answers, HasAnswered, orders_of}
-use Rattle.facet_words.specs.Sessions.CommandViews.{order_view}
+use Rattle.facet_words.specs.CommandViews.{order_view}
 use Rattle.facet_phases.specs.Phases.{AreSpentWithin, answers_in, asked, in_phase, orders_by}
 use Rattle.facet_phases.proofs.Belonging.{session_then}
 use Rattle.facet_phases.proofs.Zips.{zip_from_each, zip_then}

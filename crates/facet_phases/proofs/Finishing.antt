@@ -10,11 +10,10 @@ use mathlib.Core.Logic.{dite}
 use Rattle.chronicle.specs.Frame.{Frame}
 use Rattle.facet_names.specs.Labels.{IsLabelList}
 use Rattle.pair_manager.specs.declared.pass.Pass.{Pass}
-use Rattle.facet_words.specs.Commands.{Settings}
-use Rattle.facet_words.specs.Sessions.Commands.{Order}
-use Rattle.facet_words.specs.Sessions.CommandViews.{order_view}
-use Rattle.facet_words.specs.declared.sessions.command.Order.{Order as Given}
-use Rattle.facet_words.specs.Sessions.Laws.{lines_rise}
+use Rattle.facet_words.specs.Commands.{Settings, Order}
+use Rattle.facet_words.specs.CommandViews.{order_view}
+use Rattle.facet_words.specs.declared.command.Order.{Order as Given}
+use Rattle.facet_words.specs.ScriptOrder.{lines_rise}
 use Rattle.facet_output.specs.Answered.{Answered}
 use Rattle.facet_output.specs.Output.{Opened}
 use Rattle.facet_output.specs.Seen.{Seen, Sees, IsTold, labels_of, opened_seen}
@@ -26,7 +25,7 @@ use Rattle.facet_engine.specs.declared.notes.Notes.{Notes}
 use Rattle.facet_engine.specs.Notes.{noted}
 use Rattle.facet_engine.specs.Steps.{seen_of}
 use Rattle.facet_engine.specs.Systems.{Engine, BelongsTo}
-use Rattle.facet_engine.specs.Telling.{HaveMade}
+use Rattle.facet_engine.specs.Exchange.{HaveMade}
 use Rattle.facet_phases.specs.declared.fault.PhaseFault.{PhaseFault}
 use Rattle.facet_phases.specs.declared.fault.PhaseFault.TheVariants.{Write, NoMemory}
 use Rattle.facet_phases.specs.declared.lane.Lane.{Lane}

@@ -12,14 +12,13 @@ use Rattle.facet_replies.specs.Replies.{Reply}
 use Rattle.facet_output.specs.Sessions.{SessionRan, held_by}
 use Rattle.facet_output.specs.Steps.{Step, IsStep}
 use Rattle.facet_engine.specs.declared.session.Session.{Session}
-use Rattle.facet_words.specs.Sessions.CommandViews.{command_view}
+use Rattle.facet_words.specs.CommandViews.{command_view, order_view}
 use Rattle.facet_engine.specs.Calls.{SameSession, IsCarriedOut, IsSpentWithin}
 use Rattle.facet_engine.specs.HeldPairs.{numbers_held}
 use Rattle.facet_engine.specs.Steps.{seen_of, step_of}
 use Rattle.facet_engine.specs.Systems.{Engine, HasSettings}
-use Rattle.facet_words.specs.declared.sessions.command.Order.{Order}
+use Rattle.facet_words.specs.declared.command.Order.{Order}
 use Rattle.facet_phases.specs.Orders.{Answers}
-use Rattle.facet_words.specs.Sessions.CommandViews.{order_view}
 use Rattle.facet_phases.specs.Phases.{AreSpentWithin, answers_in, asked, in_phase}
 use Rattle.facet_phases.proofs.Belonging.{still_set}
 use Rattle.facet_phases.proofs.Stepping.{ran_more, held_append, answers_append, asked_append, in_phase_append}

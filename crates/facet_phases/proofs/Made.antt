@@ -15,7 +15,7 @@ use Rattle.facet_output.proofs.Gluing.{none_ran}
 use Rattle.facet_engine.specs.HeldPairs.{numbers_held}
 use Rattle.facet_engine.specs.Steps.{seen_of}
 use Rattle.facet_engine.specs.Systems.{Engine, BelongsTo, HasSettings}
-use Rattle.facet_engine.specs.Telling.{AreCounted, MakesOneOfEach}
+use Rattle.facet_engine.specs.Exchange.{AreCounted, MakesOneOfEach}
 use Rattle.facet_phases.specs.declared.lane.Lane.{Lane}
 use Rattle.facet_phases.specs.Lanes.{AllOf, AreIdle, AreNumbered}
 use Rattle.facet_phases.proofs.Spent.{spent_none}

@@ -5,9 +5,8 @@ use Rattle.std.specs.List.{range_with_len}
 use Rattle.std.proofs.lemmas.List.Elements.{All-head, All-tail, All-take, All-weaker, filter-append, filter_passes}
 use native.Mathlib.Decide.{dec_lt}
 use mathlib.Core.Logic.{dite}
-use Rattle.facet_words.specs.Commands.{Settings}
+use Rattle.facet_words.specs.Commands.{Settings, Order}
 use Rattle.facet_output.specs.Answered.{by_session}
-use Rattle.facet_words.specs.Sessions.Commands.{Order}
 use Rattle.facet_output.specs.Held.{Held}
 use Rattle.facet_output.specs.Seen.{Seen, IsTold}
 use Rattle.facet_output.specs.Sessions.{SessionRan, own_steps, is_by, steps_of}

@@ -14,9 +14,9 @@ use Rattle.facet_engine.specs.HeldPairs.{numbers_held}
 use Rattle.facet_engine.specs.Steps.{seen_of}
 use Rattle.facet_engine.specs.Systems.{Engine, HasSettings}
 use Rattle.facet_phases.specs.declared.lane.Lane.{Lane}
-use Rattle.facet_words.specs.declared.sessions.command.Order.{Order}
+use Rattle.facet_words.specs.declared.command.Order.{Order}
 use Rattle.facet_phases.specs.Lanes.{AreNumbered, KeepAll, KeepsOf}
-use Rattle.facet_words.specs.Sessions.CommandViews.{order_view}
+use Rattle.facet_words.specs.CommandViews.{order_view}
 use Rattle.facet_phases.specs.Phases.{AreSpentWithin, answers_in, in_phase, orders_by}
 use Rattle.facet_phases.proofs.Did.{LaneDid}
 use Rattle.facet_phases.proofs.Parts.{IsPart, AreParts, AreWhole}

@@ -3,7 +3,7 @@ use Rattle.std.proofs.Common.{◌≡◌, ◌∙◌, ◌+◌, List, [], ◌∷◌
 use Rattle.std.specs.Prelude.{All, reverse}
 use Rattle.std.proofs.lemmas.List.{append_assoc, reverse-append, reverse-reverse, length-append, append-nil, nil_from_length}
 use Rattle.std.proofs.Math.Seq.{take-append_seam, get_or-append_seam}
-use Rattle.facet_words.specs.declared.sessions.command.Order.{Order}
+use Rattle.facet_words.specs.declared.command.Order.{Order}
 
 pub none_of_none : (orders : List Order) → length orders ≡ 0 → orders ≡ []
 none_of_none orders none = nil_from_length orders none

@@ -9,7 +9,7 @@ use Rattle.facet_output.proofs.Gluing.{told_more, told_itself}
 use Rattle.facet_engine.specs.declared.notes.Notes.{Notes}
 use Rattle.facet_engine.specs.Ending.{NamesOwn}
 use Rattle.facet_engine.specs.Steps.{seen_of}
-use Rattle.facet_engine.specs.Telling.{AreCounted}
+use Rattle.facet_engine.specs.Exchange.{AreCounted}
 use Rattle.facet_output.specs.Seen.{Seen}
 use Rattle.facet_phases.specs.declared.lane.Lane.{Lane}
 use Rattle.facet_phases.specs.Lanes.{Gathers, LaneTold}

@@ -14,7 +14,7 @@ use Rattle.facet_engine.specs.declared.notes.Notes.{Notes}
 use Rattle.facet_engine.specs.Ending.{AreUpTo, NamesOwn}
 use Rattle.facet_engine.specs.Notes.{noted}
 use Rattle.facet_engine.specs.Systems.{Engine}
-use Rattle.facet_engine.specs.Telling.{HaveMade}
+use Rattle.facet_engine.specs.Exchange.{HaveMade}
 use Rattle.pair_manager.specs.declared.pass.Pass.{Pass}
 use Rattle.facet_phases.specs.declared.lane.Lane.{Lane}
 use Rattle.facet_phases.specs.Lanes.{LaneTold}

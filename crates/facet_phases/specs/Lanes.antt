@@ -8,9 +8,9 @@ use Rattle.pair_manager.specs.Passes.{SamePass}
 use Rattle.facet_engine.specs.Calls.{SameSession}
 use Rattle.facet_engine.specs.Steps.{seen_of}
 use Rattle.facet_engine.specs.Systems.{Engine, BelongsTo}
-use Rattle.facet_engine.specs.Telling.{AreCounted}
+use Rattle.facet_engine.specs.Exchange.{AreCounted}
 use Rattle.facet_phases.specs.declared.lane.Lane.{Lane}
-use Rattle.facet_words.specs.declared.sessions.command.Order.{Order}
+use Rattle.facet_words.specs.declared.command.Order.{Order}
 use Rattle.facet_phases.specs.Orders.{Answers, orders_of}
 
 module _ {C : Type 0} where
@@ -24,7 +24,8 @@ module _ {C : Type 0} where
 
   -- the sessions' numbers are this one, the next, and so on
   abbrev pub AreNumbered : ℕ → List (Lane C) → Type 0
-  AreNumbered from lanes = (i : ℕ) (d : Lane C) → i < length lanes → (slice_index_or lanes i d).session.number ≡ from + i
+  AreNumbered from lanes = (i : ℕ) (d : Lane C) → i < length lanes
+      → (slice_index_or lanes i d).session.number ≡ from + i
 
   -- so it is for each of the sessions
   abbrev pub Each : (Lane C → Lane C → Type 0) → List (Lane C) → List (Lane C) → Type 0
@@ -43,7 +44,8 @@ module _ {C : Type 0} where
     pub replies : new.replies ≡ old.replies
     pub orders : new.orders.items ≡ old.orders.items ++ orders_of old.session.number dealt
 
-  -- It was told so much, of which it had entered nothing that it had not seen. What it holds, its orders and what it keeps are as before.
+  -- It was told so much, of which it had entered nothing that it had not seen. What it holds, its orders and what it
+  -- keeps are as before.
   pub record LaneTold (next : Seen) (old new : Lane C) : Type 0 where
     pub same : SameSession old.session new.session
     pub held : new.session.held ≡ old.session.held
@@ -71,11 +73,13 @@ module _ {C : Type 0} where
     -- The sessions keep what is kept of these replies, those of the first session first.
     abbrev pub KeepAll : List (Lane C) → List Answered → Type 0
     KeepAll [] answered = answered ≡ []
-    KeepAll (lane ∷ lanes) answered = (own : List Answered) × (rest : List Answered) × (answered ≡ own ++ rest) × KeepsOf own lane.replies × KeepAll lanes rest
+    KeepAll (lane ∷ lanes) answered = (own : List Answered) × (rest : List Answered) × (answered ≡ own ++ rest)
+        × KeepsOf own lane.replies × KeepAll lanes rest
 
 -- ---- what the first pass is told
 
--- The first pass was told what others have seen. It has entered nothing of that, and has seen no entry under a number that was not given.
+-- The first pass was told what others have seen. It has entered nothing of that, and has seen no entry under a number
+-- that was not given.
 pub record Gathers (old new : Pass) : Type 0 where
   pub same : SamePass old new
   pub told : IsTold 0 (seen_of old) (seen_of new)

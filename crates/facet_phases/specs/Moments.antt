@@ -17,4 +17,5 @@ Writes before now bytes = Appends before.written now.written bytes × (now.fault
 
 -- a beginning of them was written, and there was a fault
 abbrev pub WritesSome : Moment → Moment → List ℕ → Type 0
-WritesSome before now bytes = Rose before.faults now.faults × ((n : ℕ) × Appends before.written now.written (take n bytes))
+WritesSome before now bytes =
+    Rose before.faults now.faults × ((n : ℕ) × Appends before.written now.written (take n bytes))

@@ -6,9 +6,9 @@ use crate::collector::Collector;
 use crate::gate::Gate;
 use commit_turns::Start;
 use facet_disk::Disk;
-use facet_engine::{Session, System, carry_out};
+use facet_engine::{Session, System, execute};
 use facet_names::NoMemory;
-use facet_words::sessions::Order;
+use facet_words::Order;
 use std::alloc::Global;
 use std::sync::Wait;
 use taxo_cache::Name;
@@ -25,7 +25,8 @@ fn take_last(orders: &mut Vec<Order>) -> Option<Order>
     last
 }
 
-/// Carries out the commands of a session, one after the other, and collects what is kept of their replies. It waits where the gate and the calls wait.
+/// Carries out the commands of a session, one after the other, and collects what is kept of their replies. It waits
+/// where the gate and the calls wait.
 ///
 /// The commands that are left use at most twice their memory, so what is made of the earlier ones fits there.
 ///
@@ -52,7 +53,7 @@ pub fn answer_all<D: Disk, N: Name + Start, R: Wait, G: Gate, C: Collector>(
             command,
         } = order;
         gate.before(number, line);
-        let reply = carry_out(rt, system, session, command);
+        let reply = execute(rt, system, session, command);
         gate.after(number, line);
         replies.add(alloc, number, line, reply)?;
     }

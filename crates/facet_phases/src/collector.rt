@@ -20,7 +20,8 @@ pub trait Collector: Send + Drop {
     ///
     /// Errors: out of memory. What the collector holds afterwards is not specified.
     fn add(&mut self, alloc: Global, session: u32, line: u64, reply: Reply) -> Result<(), NoMemory>
-        ensures { OnOk result ((answered : List Answered) (a : Answered) → holds answered self.old → a.order.session ≡ session → a.order.line ≡ line
+        ensures { OnOk result ((answered : List Answered) (a : Answered) → holds answered self.old
+            → a.order.session ≡ session → a.order.line ≡ line
             → a.reply ≡ reply_view reply → holds (answered ++ a ∷ []) self.new) };
 }
 
@@ -36,15 +37,19 @@ pub trait Output<C: Collector> {
     ///
     /// Errors: `Failed` as the implementation defines it, for example if a write failed.
     fn take(&mut self, replies: &mut C) -> Result<(), Failed>
-        ensures ok { OnOk result ((answered : List Answered) → C.holds answered replies.old → flushes self.old self.new answered) }
-        ensures failed { OnErr result ((answered : List Answered) → C.holds answered replies.old → breaks self.old self.new answered) };
+        ensures ok { OnOk result ((answered : List Answered) → C.holds answered replies.old
+            → flushes self.old self.new answered) }
+        ensures failed { OnErr result
+            ((answered : List Answered) → C.holds answered replies.old → breaks self.old self.new answered) };
 
     /// If nothing is handed over, it is as before.
     ghost flushes_none: { (o : Self) → flushes o o [] };
 
     /// What is handed over comes after what was handed over before.
-    ghost flushes_then: { (a b c : Self) (xs ys : List Answered) → flushes a b xs → flushes b c ys → flushes a c (xs ++ ys) };
+    ghost flushes_then: { (a b c : Self) (xs ys : List Answered) → flushes a b xs → flushes b c ys
+        → flushes a c (xs ++ ys) };
 
     /// If handing over fails after some replies, it fails for all of them, whatever comes later.
-    ghost breaks_then: { (a b c : Self) (xs ys zs : List Answered) → flushes a b xs → breaks b c ys → breaks a c (xs ++ (ys ++ zs)) };
+    ghost breaks_then: { (a b c : Self) (xs ys zs : List Answered) → flushes a b xs → breaks b c ys
+        → breaks a c (xs ++ (ys ++ zs)) };
 }

@@ -3,7 +3,7 @@ ghost use Rattle.facet_phases.specs.Lanes.{AreIdle, AreNumbered, Each, IsDealt};
 
 use crate::lane::Lane;
 use facet_names::NoMemory;
-use facet_words::sessions::Order;
+use facet_words::Order;
 
 // Gives the order to its session.
 fn deal_one<C>(lanes: &mut [Lane<C>], order: Order) -> Result<(), NoMemory>
@@ -39,7 +39,8 @@ fn deal_each<C>(lanes: &mut [Lane<C>], orders: Vec<Order>) -> Result<(), NoMemor
     Ok(())
 }
 
-/// Gives each session its commands, in order. If it runs out of memory, some were not given. A single session takes them without a copy.
+/// Gives each session its commands, in order. If it runs out of memory, some were not given. A single session takes
+/// them without a copy.
 pub(crate) fn deal<C>(lanes: &mut [Lane<C>], orders: Vec<Order>) -> Result<(), NoMemory>
     requires idle { AreIdle lanes.old }
     requires sessions { All (λ o. (1 ≤ o.session) × (o.session ≤ length lanes.old)) orders.items }

@@ -3,6 +3,7 @@
 pub enum PhaseFault {
     /// What was kept of the last phase could not be handed over. For lines, only a prefix was written.
     Write,
-    /// Out of memory for the sessions, for the commands of a phase, or to keep their replies. Nothing of that phase was handed over.
+    /// Out of memory for the sessions, for the commands of a phase, or to keep their replies. Nothing of that phase was
+    /// handed over.
     NoMemory,
 }

@@ -15,8 +15,10 @@ pub(crate) fn are_whole<C>(lanes: &[Lane<C>]) -> bool
 
 // Hands over what a session keeps.
 fn flush_lane<O: Output<C>, C: Collector>(out: &mut O, lane: &mut Lane<C>) -> Result<(), Failed>
-    ensures ok { OnOk result ((answered : List Answered) → KeepsOf C.holds answered lane.old.replies → O.flushes out.old out.new answered) }
-    ensures failed { OnErr result ((answered : List Answered) → KeepsOf C.holds answered lane.old.replies → O.breaks out.old out.new answered) }
+    ensures ok { OnOk result ((answered : List Answered) → KeepsOf C.holds answered lane.old.replies
+        → O.flushes out.old out.new answered) }
+    ensures failed { OnErr result
+        ((answered : List Answered) → KeepsOf C.holds answered lane.old.replies → O.breaks out.old out.new answered) }
     ensures flushed { IsFlushed lane.old lane.new }
 {
     match &mut lane.replies {
@@ -30,8 +32,10 @@ pub(crate) fn flush_all<O: Output<C>, C: Collector>(
     out: &mut O,
     lanes: &mut [Lane<C>],
 ) -> Result<(), Failed>
-    ensures ok { OnOk result ((answered : List Answered) → KeepAll C.holds lanes.old answered → O.flushes out.old out.new answered) }
-    ensures failed { OnErr result ((answered : List Answered) → KeepAll C.holds lanes.old answered → O.breaks out.old out.new answered) }
+    ensures ok { OnOk result ((answered : List Answered) → KeepAll C.holds lanes.old answered
+        → O.flushes out.old out.new answered) }
+    ensures failed { OnErr result
+        ((answered : List Answered) → KeepAll C.holds lanes.old answered → O.breaks out.old out.new answered) }
     ensures flushed { Each IsFlushed lanes.old lanes.new }
 {
     for lane in lanes.iter_mut() {

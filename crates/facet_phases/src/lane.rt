@@ -9,7 +9,7 @@ use commit_turns::Start;
 use facet_disk::Disk;
 use facet_engine::{Session, System};
 use facet_names::NoMemory;
-use facet_words::sessions::Order;
+use facet_words::Order;
 use std::alloc::Global;
 use std::sync::Wait;
 use std::thread::Threads;
@@ -19,8 +19,11 @@ use taxo_cache::Name;
 /// A session with its commands of a phase, and what it keeps of its replies once it has run.
 #[derive(Drop)]
 pub struct Lane<C> {
+    /// The session.
     pub session: Session,
+    /// Its commands of the phase, in line order.
     pub orders: Vec<Order>,
+    /// What the collector keeps of the replies, or out of memory.
     pub replies: Result<C, NoMemory>,
 }
 
@@ -51,8 +54,8 @@ fn threads_for<C>(lanes: &[Lane<C>]) -> usize
     }
 }
 
-/// Carries out the commands of all lanes concurrently, each lane on its own thread, and waits for all of them. If at most one lane has commands, it makes no
-/// thread.
+/// Carries out the commands of all lanes concurrently, each lane on its own thread, and waits for all of them. If at
+/// most one lane has commands, it makes no thread.
 pub(crate) fn run_at_once<
     D: Disk,
     N: Name + Start + Send + Sync,

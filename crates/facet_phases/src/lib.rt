@@ -1,12 +1,13 @@
 //! Concurrent sessions over one system, each on its own thread, phase after phase.
 //!
-//! In a phase each session carries out its commands, one after the other, concurrently with the other sessions. Between two phases each session is shown what
-//! all others have seen.
+//! In a phase each session carries out its commands, one after the other, concurrently with the other sessions. Between
+//! two phases each session is shown what all others have seen.
 #![tactic(auto)]
 
 mod answering;
 mod collector;
 mod dealing;
+mod exchange;
 mod fault;
 mod flushing;
 mod gate;
@@ -16,7 +17,6 @@ mod making;
 mod outcome;
 mod phase;
 mod running;
-mod telling;
 
 pub use collector::{Collector, Output};
 pub use fault::PhaseFault;
@@ -25,5 +25,5 @@ pub use lane::Lane;
 pub use lines::Lines;
 pub use making::make_lanes;
 pub use outcome::RanToEnd;
-pub use phase::{carry_out_phase, run_phase, run_phases};
+pub use phase::{execute_phase, run_phase, run_phases};
 pub use running::run_to_end;

@@ -38,10 +38,12 @@ impl<K: Sink> Output<Lines> for K {
     ghost use Rattle.facet_phases.specs.Moments.{Writes, WritesSome, moment};
     ghost use Rattle.facet_phases.specs.Flushing.{writes_none, writes_then, some_then};
 
-    ghost flushes = { λ before now answered. Writes (moment (K.faults before) (K.written before)) (moment (K.faults now) (K.written now))
+    ghost flushes = { λ before now answered.
+        Writes (moment (K.faults before) (K.written before)) (moment (K.faults now) (K.written now))
         (reply_lines answered) };
 
-    ghost breaks = { λ before now answered. WritesSome (moment (K.faults before) (K.written before)) (moment (K.faults now) (K.written now))
+    ghost breaks = { λ before now answered.
+        WritesSome (moment (K.faults before) (K.written before)) (moment (K.faults now) (K.written now))
         (reply_lines answered) };
 
     fn take(&mut self, replies: &mut Lines) -> Result<(), Failed> {
@@ -50,7 +52,11 @@ impl<K: Sink> Output<Lines> for K {
 
     ghost flushes_none = { λ o. writes_none (moment (K.faults o) (K.written o)) };
 
-    ghost flushes_then = { λ a b c. writes_then (moment (K.faults a) (K.written a)) (moment (K.faults b) (K.written b)) (moment (K.faults c) (K.written c)) };
+    ghost flushes_then = { λ a b c.
+        writes_then (moment (K.faults a) (K.written a)) (moment (K.faults b) (K.written b))
+        (moment (K.faults c) (K.written c)) };
 
-    ghost breaks_then = { λ a b c. some_then (moment (K.faults a) (K.written a)) (moment (K.faults b) (K.written b)) (moment (K.faults c) (K.written c)) };
+    ghost breaks_then = { λ a b c.
+        some_then (moment (K.faults a) (K.written a)) (moment (K.faults b) (K.written b))
+        (moment (K.faults c) (K.written c)) };
 }

@@ -1,35 +1,35 @@
 ghost use Rattle.std.specs.Prelude.{◌≡◌, ◌≤◌, length, map, All, IsTrue, OnOk};
-ghost use Rattle.facet_words.specs.Sessions.Laws.{lines_rise};
+ghost use Rattle.facet_words.specs.ScriptOrder.{lines_rise};
 ghost use Rattle.pair_manager.specs.Passes.{SamePass};
 ghost use Rattle.facet_phases.specs.Ending.{BreaksBehind, EndsPhase, EndsPhases};
 ghost use Rattle.facet_phases.specs.Lanes.{AreIdle};
-ghost use Rattle.facet_words.specs.Sessions.CommandViews.{order_view};
+ghost use Rattle.facet_words.specs.CommandViews.{order_view};
 ghost use Rattle.facet_phases.specs.Running.{AreReady, CarriesOut};
 
 use crate::collector::{Collector, Output};
 use crate::dealing::deal;
+use crate::exchange::exchange_all;
 use crate::fault::PhaseFault;
 use crate::flushing::{are_whole, flush_all};
 use crate::gate::Gate;
 use crate::lane::{Lane, run_at_once};
-use crate::telling::tell_all;
 use commit_turns::Start;
 use facet_disk::Disk;
 use facet_engine::System;
 use facet_names::NoMemory;
-use facet_words::sessions::Order;
+use facet_words::Order;
 use pair_manager::Pass;
 use std::alloc::Global;
 use std::sync::Wait;
 use std::thread::Threads;
 use taxo_cache::Name;
 
-/// Carries out the commands of a phase, all sessions concurrently, and then shows each session what all others have seen. It waits until all sessions have
-/// ended.
+/// Carries out the commands of a phase, all sessions concurrently, and then shows each session what all others have
+/// seen. It waits until all sessions have ended.
 ///
-/// Errors: out of memory to keep a reply, at which a session stops while the others finish; or to give the sessions their commands, of which none is then
-/// carried out.
-pub fn carry_out_phase<
+/// Errors: out of memory to keep a reply, at which a session stops while the others finish; or to give the sessions
+/// their commands, of which none is then carried out.
+pub fn execute_phase<
     D: Disk,
     N: Name + Start + Send + Sync,
     R: Threads + Wait + Sync,
@@ -52,11 +52,12 @@ pub fn carry_out_phase<
     ensures same { SamePass first.old first.new }
     ensures many { length lanes.new ≡ length lanes.old }
     ensures idle { OnOk result (AreIdle lanes.new) }
-    ensures ran { CarriesOut C.holds system.now (map order_view orders.items) first.old first.new lanes.old lanes.new result }
+    ensures ran { CarriesOut C.holds system.now
+        (map order_view orders.items) first.old first.new lanes.old lanes.new result }
 {
     deal(lanes, orders)?;
     run_at_once(rt, alloc, system, gate, lanes);
-    tell_all(system, first, lanes);
+    exchange_all(system, first, lanes);
     if are_whole(lanes) {
         Ok(())
     } else {
@@ -64,10 +65,10 @@ pub fn carry_out_phase<
     }
 }
 
-/// Carries out the commands of a phase as `carry_out_phase` does, and hands over what is kept of their replies: by ascending session, each session's in line
-/// order.
+/// Carries out the commands of a phase as `execute_phase` does, and hands over what is kept of their replies: by
+/// ascending session, each session's in line order.
 ///
-/// Errors: as for `carry_out_phase`, and then nothing is handed over; or handing over failed.
+/// Errors: as for `execute_phase`, and then nothing is handed over; or handing over failed.
 pub fn run_phase<
     D: Disk,
     N: Name + Start + Send + Sync,
@@ -93,10 +94,11 @@ pub fn run_phase<
     ensures same { SamePass first.old first.new }
     ensures many { length lanes.new ≡ length lanes.old }
     ensures idle { OnOk result (AreIdle lanes.new) }
-    ensures ended { EndsPhase (O.flushes out.old out.new) (O.breaks out.old out.new) system.now (map order_view orders.items) first.old first.new
+    ensures ended { EndsPhase (O.flushes out.old out.new) (O.breaks out.old out.new) system.now
+        (map order_view orders.items) first.old first.new
         lanes.old lanes.new result }
 {
-    match carry_out_phase(rt, alloc, system, gate, first, lanes, orders) {
+    match execute_phase(rt, alloc, system, gate, first, lanes, orders) {
         Ok(()) => match flush_all(out, lanes) {
             Ok(()) => Ok(()),
             Err(_) => Err(PhaseFault::Write),
@@ -105,8 +107,8 @@ pub fn run_phase<
     }
 }
 
-/// Carries out phases, one after the other, and hands over what is kept of each before the next begins. It keeps the replies of one phase in memory, and
-/// frees the commands of a phase as they are answered.
+/// Carries out phases, one after the other, and hands over what is kept of each before the next begins. It keeps the
+/// replies of one phase in memory, and frees the commands of a phase as they are answered.
 ///
 /// Errors: those of `run_phase`. That phase is the last one: no command of a later one is carried out.
 pub fn run_phases<
@@ -128,7 +130,8 @@ pub fn run_phases<
 ) -> Result<(), PhaseFault>
     requires ready { AreReady system.now first.old lanes.old }
     requires idle { AreIdle lanes.old }
-    requires sessions { All (λ phase. All (λ o. (1 ≤ o.session) × (o.session ≤ length lanes.old)) phase.items) phases.items }
+    requires sessions { All (λ phase. All (λ o. (1 ≤ o.session) × (o.session ≤ length lanes.old)) phase.items)
+        phases.items }
     requires rise { All (λ phase. IsTrue (lines_rise (map order_view phase.items))) phases.items }
     ensures ready { AreReady system.now first.new lanes.new }
     ensures same { SamePass first.old first.new }

@@ -7,8 +7,8 @@ ghost use Rattle.facet_model.specs.Flags.{Config};
 ghost use Rattle.facet_names.specs.Labels.{IsLabelList};
 ghost use Rattle.facet_output.specs.Outputs.{sessions_in};
 ghost use Rattle.facet_output.specs.Seen.{history_of, labels_of};
-ghost use Rattle.facet_words.specs.Sessions.CommandViews.{order_view};
-ghost use Rattle.facet_words.specs.Sessions.Laws.{lines_rise};
+ghost use Rattle.facet_words.specs.CommandViews.{order_view};
+ghost use Rattle.facet_words.specs.ScriptOrder.{lines_rise};
 ghost use Rattle.commit_turns.specs.DiskStates.{state_of};
 ghost use Rattle.commit_turns.specs.Ending.{Lasts, FailsWith};
 ghost use Rattle.commit_turns.specs.Frames.{HasNumbers};
@@ -21,18 +21,18 @@ ghost use Rattle.facet_phases.specs.Running.{AreReady, HaveSameFrames, IsFirst};
 ghost use Rattle.facet_phases.specs.Runs.{RunsSoFar, RunsToEnd};
 
 use crate::collector::{Collector, Output};
+use crate::exchange::spread_all;
 use crate::fault::PhaseFault;
 use crate::gate::Gate;
 use crate::lane::Lane;
 use crate::making::make_lanes;
 use crate::outcome::RanToEnd;
 use crate::phase::run_phases;
-use crate::telling::spread_all;
 use commit_turns::Start;
 use facet_disk::Disk;
 use facet_engine::System;
 use facet_names::NoMemory;
-use facet_words::sessions::Order;
+use facet_words::Order;
 use pair_manager::Pass;
 use std::alloc::Global;
 use std::sync::Wait;
@@ -78,12 +78,12 @@ fn run_sessions<
     }
 }
 
-/// Carries out phases with the sessions 1 to `sessions`, each on its own thread, hands over what is kept of each phase before the next begins, and then ends
-/// the system. It ends the system in each case. The result says whether all phases were carried out and handed over; otherwise the first one that was not is
-/// the last.
+/// Carries out phases with the sessions 1 to `sessions`, each on its own thread, hands over what is kept of each phase
+/// before the next begins, and then ends the system. It ends the system in each case. The result says whether all
+/// phases were carried out and handed over; otherwise the first one that was not is the last.
 ///
-/// It waits until all sessions have ended, and for the locks that `System::end` takes. It keeps the replies of one phase in memory, and frees the commands of
-/// a phase as they are answered.
+/// It waits until all sessions have ended, and for the locks that `System::end` takes. It keeps the replies of one
+/// phase in memory, and frees the commands of a phase as they are answered.
 pub fn run_to_end<
     D: Disk,
     N: Name + Start + Send + Sync,
@@ -107,7 +107,8 @@ pub fn run_to_end<
     requires sessions { All (λ phase. All (λ o. (1 ≤ o.session) × (o.session ≤ sessions)) phase.items) phases.items }
     requires rise { All (λ phase. IsTrue (lines_rise (map order_view phase.items))) phases.items }
 
-    // What was carried out is known at the end, and what was kept of it was handed over. Where that failed, it did so for the last phase that was carried out.
+    // What was carried out is known at the end, and what was kept of it was handed over. Where that failed, it did so
+    // for the last phase that was carried out.
     ensures ran { RunsToEnd (O.flushes out.old out.new) (BreaksBehind O.flushes O.breaks out.old out.new) system.now
         (map (λ phase. map order_view phase.items) phases.items) first (noted result.ended.notes) result.result }
 
@@ -116,22 +117,27 @@ pub fn run_to_end<
     ensures sessions { result.ended.trace.sessions.items ≡ sessions_in (history_of (noted result.ended.notes)) }
     ensures list { IsLabelList (labels_of (noted result.ended.notes)) }
 
-    // The disk counts at least the faults of each commit that failed on it, whose count rose since opening began, and no fewer than then: just what the last
-    // commit was told, where that failed on it, and else what it counted then.
-    ensures counts { All (λ p. (count : ℕ) → p.failed ≡ Some count → count ≤ D.faults result.ended.disk) (entries result.ended.notes.commits.seen) }
+    // The disk counts at least the faults of each commit that failed on it, whose count rose since opening began, and
+    // no fewer than then: just what the last commit was told, where that failed on it, and else what it counted then.
+    ensures counts { All (λ p. (count : ℕ) → p.failed ≡ Some count → count ≤ D.faults result.ended.disk)
+        (entries result.ended.notes.commits.seen) }
     ensures rose { (next moment faults failures : ℕ) → HasNumbers next moment faults failures first.commits.frame
         → All (λ p. (count : ℕ) → p.failed ≡ Some count → Rose faults count) (entries result.ended.notes.commits.seen) }
-    ensures later { (next moment faults failures : ℕ) → HasNumbers next moment faults failures first.commits.frame → faults ≤ D.faults result.ended.disk }
+    ensures later { (next moment faults failures : ℕ) → HasNumbers next moment faults failures first.commits.frame
+        → faults ≤ D.faults result.ended.disk }
     ensures exact { (next moment faults failures : ℕ) → HasNumbers next moment faults failures first.commits.frame
         → D.faults result.ended.disk ≡ count_after faults (last_of (entries result.ended.notes.commits.seen)).failed }
 
-    // Where the disk told its files when opening began, it still does, and its device failed exactly where a commit failed on it.
+    // Where the disk told its files when opening began, it still does, and its device failed exactly where a commit
+    // failed on it.
     ensures tells { N.told → (s : Told) × (D.told result.ended.disk ≡ Some s) }
-    ensures failed { (next moment faults failures : ℕ) → N.told → HasNumbers next moment faults failures first.commits.frame
+    ensures failed { (next moment faults failures : ℕ) → N.told
+        → HasNumbers next moment faults failures first.commits.frame
         → FailsWith D.Disk failures (last_of (entries result.ended.notes.commits.seen)).failed result.ended.disk }
 
     // Where it was settled too, what was committed lasts.
-    ensures lasts { (config : Config) (next moment faults failures : ℕ) → N.settled → config_texts config ≡ first.commits.frame.texts
+    ensures lasts { (config : Config) (next moment faults failures : ℕ) → N.settled
+        → config_texts config ≡ first.commits.frame.texts
         → HasNumbers next moment faults failures first.commits.frame
         → Lasts D.Disk config moment (labels_of (noted result.ended.notes)) (docs_of result.ended.notes.operations.seen)
         (entries result.ended.notes.commits.seen) result.ended.disk }

@@ -13,10 +13,8 @@ use Rattle.serde_json.specs.Written.{has_float, items_have_float, members_have_f
 use Rattle.facet_model.specs.Listing.{PartCount}
 use Rattle.facet_model.specs.Results.{Listed, Answer, top_answer, value_answer, dims_answer}
 use Rattle.facet_model.specs.Accepts.{no_component, not_hierarchical, not_multi_valued}
-use Rattle.facet_replies.specs.declared.fault.ScriptFault.{ScriptFault}
-use Rattle.facet_replies.specs.declared.fault.ScriptFault.TheVariants as faults
 use Rattle.facet_replies.specs.Replies.{broken, labels_full, docs_full, not_held, held_already, top_zero, dim_value_not_kept, no_such_document, disk_failed, closed, numbers_spent, no_memory, Reply, placed, numbered, found, shown, stats, merged, refused}
-use Rattle.facet_replies.specs.ReplyLines.{with_fields, whole_data, path_data, child_data, listed_data, value_data, dims_data, answer_data, hit_data, reply_data, fault_data}
+use Rattle.facet_replies.specs.ReplyLines.{with_fields, whole_data, path_data, child_data, listed_data, value_data, dims_data, answer_data, hit_data, reply_data}
 use Rattle.facet_replies.specs.LastLine.{label_data, last_data}
 use Rattle.facet_replies.specs.NamedFaults.{detail_field, named_fault_data}
 use Rattle.facet_replies.specs.Summaries.{Summary, summary_data}
@@ -106,14 +104,6 @@ labels_plain labels (p ∷ ps) = labels_plain labels ps
 pub last_plain : (documents opened : ℕ) (labels : List (List (List ℕ))) (sessions : List ℕ) → has_float (last_data documents opened labels sessions) ≡ false
 unfolding last_data
 last_plain documents opened labels sessions = rw (labels_plain labels (drop opened labels), wholes_plain sessions) refl
-
-pub fault_plain : (fault : ScriptFault) → has_float (fault_data fault) ≡ false
-unfolding fault_data
-fault_plain (faults.NotJson line) = refl
-fault_plain (faults.BadShape line) = refl
-fault_plain (faults.BadSession line) = refl
-fault_plain faults.NoConfigFirst = refl
-fault_plain faults.NoMemory = refl
 
 -- ---- a fault with details
 

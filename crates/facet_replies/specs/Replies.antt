@@ -4,9 +4,10 @@ use Rattle.facet_model.specs.Accepts.{Broken}
 use Rattle.facet_model.specs.Documents.{Doc}
 use Rattle.facet_model.specs.Results.{Answer}
 
--- A facet is broken. The label list has this size, or there are so many documents, and no more fit. The name is not held, or is held already. The ask at this
--- place asks for no child, or for a value that is not kept. There are only so many documents. The disk failed at this count of faults, now or at an earlier
--- commit. The last file number would be this one.
+-- A facet is broken. The label list has this size, or there are so many documents, and no more fit. The name is not
+-- held, or is held already. The ask at this place asks for no child, or for a value that is not kept. There are only so
+-- many documents. The disk failed at this count of faults, now or at an earlier commit. The last file number would be
+-- this one.
 pub data Refusal : Type 0 where
   broken : Broken → Refusal
   labels_full : ℕ → Refusal
@@ -21,7 +22,8 @@ pub data Refusal : Type 0 where
   numbers_spent : ℕ → Refusal
   no_memory : Refusal
 
--- the number of operations that a search saw, and what it found of them: how many hits, the first of them with their places and ids, and the answers to the asks
+-- the number of operations that a search saw, and what it found of them: how many hits, the first of them with their
+-- places and ids, and the answers to the asks
 pub record Found : Type 0 where
   pub operations : ℕ
   pub hit_count : ℕ

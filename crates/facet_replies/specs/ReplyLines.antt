@@ -1,6 +1,7 @@
--- The lines that replies, and the fault of a script, are written as.
+-- The lines that replies are written as.
 use Rattle.std.specs.Prelude.{ℕ, ℤ, true, List, [], ◌∷◌, ◌++◌, codes, map, Some, None}
-use Rattle.serde_json.specs.Data.{Data, null, boolean, number, string, array, object, unsigned, no_items, item, Members, no_members, put}
+use Rattle.serde_json.specs.Data.{Data, null, boolean, number, string, array, object, unsigned, no_items, item, Members}
+use Rattle.serde_json.specs.Data.{no_members, put}
 use Rattle.serde_json.specs.Find.{of_integer}
 use Rattle.serde_json.specs.View.{items_of}
 use Rattle.serde_json.specs.Written.{compact_text}
@@ -8,9 +9,9 @@ use Rattle.facet_model.specs.Accepts.{Broken, no_component, not_hierarchical, no
 use Rattle.facet_model.specs.Documents.{Doc}
 use Rattle.facet_model.specs.Listing.{PartCount}
 use Rattle.facet_model.specs.Results.{Listed, Answer, top_answer, value_answer, dims_answer}
-use Rattle.facet_replies.specs.declared.fault.ScriptFault.{ScriptFault}
-use Rattle.facet_replies.specs.declared.fault.ScriptFault.TheVariants as faults
-use Rattle.facet_replies.specs.Replies.{Refusal, broken, labels_full, docs_full, not_held, held_already, top_zero, dim_value_not_kept, no_such_document, disk_failed, closed, numbers_spent, no_memory, Reply, placed, numbered, found, shown, stats, merged, refused}
+use Rattle.facet_replies.specs.Replies.{Refusal, broken, labels_full, docs_full, not_held, held_already, top_zero}
+use Rattle.facet_replies.specs.Replies.{dim_value_not_kept, no_such_document, disk_failed, closed, numbers_spent}
+use Rattle.facet_replies.specs.Replies.{no_memory, Reply, placed, numbered, found, shown, stats, merged, refused}
 
 -- keys with their values, in any order
 abbrev pub Fields : Type 0
@@ -44,7 +45,9 @@ abbrev pub child_data : PartCount → Data
 child_data c = array (item (string c.0) (item (whole_data c.1) no_items))
 
 unfoldable pub listed_data : Listed → Data
-listed_data r = fields ((codes "child_count", whole_data r.child_count) ∷ (codes "children", list_data child_data r.children) ∷ (codes "path", path_data r.path) ∷ (codes "value", number (of_integer r.value)) ∷ [])
+listed_data r = fields ((codes "child_count", whole_data r.child_count)
+    ∷ (codes "children", list_data child_data r.children) ∷ (codes "path", path_data r.path)
+    ∷ (codes "value", number (of_integer r.value)) ∷ [])
 
 unfoldable pub value_data : List (List ℕ) → ℤ → Data
 value_data path value = fields ((codes "path", path_data path) ∷ (codes "value", number (of_integer value)) ∷ [])
@@ -65,40 +68,53 @@ hit_data hit = fields ((codes "at", whole_data hit.0) ∷ (codes "id", string hi
 -- ---- replies
 
 abbrev pub broken_fields : Broken → Fields
-broken_fields (no_component facet) = (codes "refused", string (codes "no_component")) ∷ (codes "facet", whole_data facet) ∷ []
-broken_fields (not_hierarchical facet len) = (codes "refused", string (codes "not_hierarchical")) ∷ (codes "facet", whole_data facet) ∷ (codes "len", whole_data len) ∷ []
-broken_fields (not_multi_valued facet) = (codes "refused", string (codes "not_multi_valued")) ∷ (codes "facet", whole_data facet) ∷ []
+broken_fields (no_component facet) =
+    (codes "refused", string (codes "no_component")) ∷ (codes "facet", whole_data facet) ∷ []
+broken_fields (not_hierarchical facet len) = (codes "refused", string (codes "not_hierarchical"))
+    ∷ (codes "facet", whole_data facet) ∷ (codes "len", whole_data len) ∷ []
+broken_fields (not_multi_valued facet) =
+    (codes "refused", string (codes "not_multi_valued")) ∷ (codes "facet", whole_data facet) ∷ []
 
 abbrev pub refusal_fields : Refusal → Fields
 refusal_fields (broken b) = broken_fields b
-refusal_fields (labels_full size) = (codes "refused", string (codes "labels_full")) ∷ (codes "size", whole_data size) ∷ []
-refusal_fields (docs_full count) = (codes "refused", string (codes "docs_full")) ∷ (codes "count", whole_data count) ∷ []
+refusal_fields (labels_full size) =
+    (codes "refused", string (codes "labels_full")) ∷ (codes "size", whole_data size) ∷ []
+refusal_fields (docs_full count) =
+    (codes "refused", string (codes "docs_full")) ∷ (codes "count", whole_data count) ∷ []
 refusal_fields not_held = (codes "refused", string (codes "not_held")) ∷ []
 refusal_fields held_already = (codes "refused", string (codes "held_already")) ∷ []
 refusal_fields (top_zero ask) = (codes "refused", string (codes "top_zero")) ∷ (codes "ask", whole_data ask) ∷ []
-refusal_fields (dim_value_not_kept ask) = (codes "refused", string (codes "dim_value_not_kept")) ∷ (codes "ask", whole_data ask) ∷ []
-refusal_fields (no_such_document count) = (codes "refused", string (codes "no_such_document")) ∷ (codes "count", whole_data count) ∷ []
+refusal_fields (dim_value_not_kept ask) =
+    (codes "refused", string (codes "dim_value_not_kept")) ∷ (codes "ask", whole_data ask) ∷ []
+refusal_fields (no_such_document count) =
+    (codes "refused", string (codes "no_such_document")) ∷ (codes "count", whole_data count) ∷ []
 refusal_fields (disk_failed count) = (codes "refused", string (codes "disk")) ∷ (codes "count", whole_data count) ∷ []
 refusal_fields (closed count) = (codes "refused", string (codes "closed")) ∷ (codes "count", whole_data count) ∷ []
-refusal_fields (numbers_spent last) = (codes "refused", string (codes "numbers_spent")) ∷ (codes "number", whole_data last) ∷ []
+refusal_fields (numbers_spent last) =
+    (codes "refused", string (codes "numbers_spent")) ∷ (codes "number", whole_data last) ∷ []
 refusal_fields no_memory = (codes "refused", string (codes "no_memory")) ∷ []
 
 -- a document, with the ordinals of its labels
 abbrev pub document_fields : Doc → List ℕ → Fields
-document_fields doc ordinals = (codes "id", string doc.id) ∷ (codes "text", string doc.text) ∷ (codes "labels", list_data path_data doc.labels) ∷ (codes "ordinals", list_data whole_data ordinals) ∷ []
+document_fields doc ordinals = (codes "id", string doc.id) ∷ (codes "text", string doc.text)
+    ∷ (codes "labels", list_data path_data doc.labels) ∷ (codes "ordinals", list_data whole_data ordinals) ∷ []
 
 -- what a reply has besides its line and its session
 abbrev pub reply_fields : Reply → Fields
 reply_fields (placed at) = (codes "at", whole_data at) ∷ []
 reply_fields (numbered n) = (codes "n", whole_data n) ∷ []
-reply_fields (found f) = (codes "n", whole_data f.operations) ∷ (codes "hit_count", whole_data f.hit_count) ∷ (codes "hits", list_data hit_data f.hits) ∷ (codes "results", list_data answer_data f.answers) ∷ []
-reply_fields (shown s) = (codes "n", whole_data s.operations) ∷ (codes "at", whole_data s.at) ∷ document_fields s.doc s.ordinals
-reply_fields (stats s) = (codes "n", whole_data s.operations) ∷ (codes "labels", whole_data s.labels) ∷ (codes "documents", whole_data s.documents) ∷ []
+reply_fields (found f) = (codes "n", whole_data f.operations) ∷ (codes "hit_count", whole_data f.hit_count)
+    ∷ (codes "hits", list_data hit_data f.hits) ∷ (codes "results", list_data answer_data f.answers) ∷ []
+reply_fields (shown s) = (codes "n", whole_data s.operations) ∷ (codes "at", whole_data s.at)
+    ∷ document_fields s.doc s.ordinals
+reply_fields (stats s) = (codes "n", whole_data s.operations) ∷ (codes "labels", whole_data s.labels)
+    ∷ (codes "documents", whole_data s.documents) ∷ []
 reply_fields merged = (codes "merged", boolean true) ∷ []
 reply_fields (refused r) = refusal_fields r
 
 unfoldable pub reply_data : ℕ → ℕ → Reply → Data
-reply_data session line reply = fields ((codes "line", whole_data line) ∷ (codes "s", whole_data session) ∷ reply_fields reply)
+reply_data session line reply =
+    fields ((codes "line", whole_data line) ∷ (codes "s", whole_data session) ∷ reply_fields reply)
 
 -- one line of JSON
 unfoldable pub json_line : Data → List ℕ
@@ -107,22 +123,3 @@ json_line d = compact_text d ++ 10 ∷ []
 -- the line of a reply
 unfoldable pub reply_line : ℕ → ℕ → Reply → List ℕ
 reply_line session line reply = json_line (reply_data session line reply)
-
--- ---- the line of a fault
-
-abbrev pub at_line : List ℕ → ℕ → Fields
-at_line fault line = (codes "fault", string fault) ∷ (codes "line", whole_data line) ∷ []
-
-abbrev pub fault_fields : ScriptFault → Fields
-fault_fields (faults.NotJson line) = at_line (codes "not_json") line
-fault_fields (faults.BadShape line) = at_line (codes "bad_shape") line
-fault_fields (faults.BadSession line) = at_line (codes "bad_session") line
-fault_fields faults.NoConfigFirst = (codes "fault", string (codes "no_config_first")) ∷ []
-fault_fields faults.NoMemory = (codes "fault", string (codes "no_memory")) ∷ []
-
-unfoldable pub fault_data : ScriptFault → Data
-fault_data fault = fields (fault_fields fault)
-
--- the line that tells why bytes are no script
-unfoldable pub fault_line : ScriptFault → List ℕ
-fault_line fault = json_line (fault_data fault)

@@ -32,8 +32,16 @@ refusal_view refusals.NoMemory = plain.no_memory
 abbrev pub reply_view : Reply → plain.Reply
 reply_view (replies.Placed at) = plain.placed at
 reply_view (replies.Number n) = plain.numbered n
-reply_view (replies.Found n hit_count hits results) = plain.found (record { operations = n; hit_count = hit_count; hits = map hit_view hits.items; answers = map answer_view results.items })
-reply_view (replies.Shown n at doc ordinals) = plain.shown (record { operations = n; at = at; doc = doc; ordinals = ordinals.items })
-reply_view (replies.Stats n labels documents) = plain.stats (record { operations = n; labels = labels; documents = documents })
+reply_view (replies.Found n hit_count hits results) = plain.found
+    (record {
+      operations = n;
+      hit_count = hit_count;
+      hits = map hit_view hits.items;
+      answers = map answer_view results.items;
+    })
+reply_view (replies.Shown n at doc ordinals) =
+    plain.shown (record { operations = n; at = at; doc = doc; ordinals = ordinals.items })
+reply_view (replies.Stats n labels documents) =
+    plain.stats (record { operations = n; labels = labels; documents = documents })
 reply_view replies.Merged = plain.merged
 reply_view (replies.Refused r) = plain.refused (refusal_view r)

@@ -4,8 +4,8 @@ use Rattle.serde_json.specs.Data.{Data, boolean}
 use Rattle.facet_model.specs.Results.{Answer}
 use Rattle.facet_replies.specs.ReplyLines.{fields, whole_data, list_data, answer_data, json_line}
 
--- How many documents were added, and whether all was committed; of how many documents and labels the pair was that was searched, how many documents were
--- hit, and the answers to what was asked of them.
+-- How many documents were added, and whether all was committed; of how many documents and labels the pair was that was
+-- searched, how many documents were hit, and the answers to what was asked of them.
 pub record Summary : Type 0 where
   pub added : ℕ
   pub committed : Bool

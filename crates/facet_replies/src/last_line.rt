@@ -1,4 +1,5 @@
-ghost use Rattle.std.specs.Prelude.{◌≡◌, ◌<◌, ◌≤◌, ◌++◌, ◌∷◌, [], IfOk, OnOk, OnErr, Some, codes, drop, length, slice_get, unwrap_or};
+ghost use Rattle.std.specs.Prelude.{◌≡◌, ◌<◌, ◌≤◌, ◌++◌, ◌∷◌, [], IfOk, OnOk, OnErr, Some, codes, drop, length};
+ghost use Rattle.std.specs.Prelude.{slice_get, unwrap_or};
 ghost use Rattle.serde_json.specs.Data.{string};
 ghost use Rattle.serde_json.specs.View.{view};
 ghost use Rattle.facet_names.specs.Labels.{above, place};
@@ -10,7 +11,7 @@ use crate::writing::to_line;
 use facet_names::{NoMemory, Path};
 use serde_json::{Value, json};
 use std::alloc::{AllocError, Global};
-use taxo_list::{Labelled, Taxonomy};
+use taxo_list::Taxonomy;
 
 // The ordinal of a path's parent. The root's is 0, and it stands for that of a path without one.
 fn parent_ordinal(alloc: Global, labels: &Taxonomy, path: &Path) -> Result<u32, NoMemory>
@@ -68,7 +69,8 @@ fn last_fields(
     opened: u32,
     order: Value,
 ) -> Result<Value, AllocError>
-    ensures { IfOk result (λ v. view v ≡ fields ((codes "labels", view added) ∷ (codes "opened", two_data (whole_data documents) (whole_data opened))
+    ensures { IfOk result (λ v. view v
+        ≡ fields ((codes "labels", view added) ∷ (codes "opened", two_data (whole_data documents) (whole_data opened))
         ∷ (codes "order", view order) ∷ [])) }
 {
     json!(in alloc; {"labels": added, "opened": [documents, opened], "order": order})
@@ -92,9 +94,9 @@ fn last_value(
     Ok(fields)
 }
 
-/// Appends the last line of an output: for each label after the opened ones its parent and its last component; how many documents and labels were opened; and
-/// the sessions of the operations. `documents` is the number of opened documents, and `opened` that of opened labels with the root. It looks up one parent
-/// per label, and allocates the whole line.
+/// Appends the last line of an output: for each label after the opened ones its parent and its last component; how many
+/// documents and labels were opened; and the sessions of the operations. `documents` is the number of opened documents,
+/// and `opened` that of opened labels with the root. It looks up one parent per label, and allocates the whole line.
 ///
 /// Errors: out of memory. Then nothing is appended.
 #[tactic(auto, unfolding(crate::specs::LastLine::last_line))]

@@ -1,19 +1,17 @@
 //! Replies and faults, and the lines of JSON that they are written as.
 #![tactic(auto)]
 
-mod answering;
-mod fault;
+mod answers;
 mod last_line;
 mod named_fault;
-mod refusing;
+mod refusals;
 mod reply;
 mod summary;
 mod values;
 mod writing;
 
-pub use fault::ScriptFault;
 pub use last_line::write_last_line;
 pub use named_fault::{Detail, write_named_fault};
 pub use reply::{HitLine, Refusal, Reply};
 pub use summary::{Summary, write_summary};
-pub use writing::{write_fault, write_reply};
+pub use writing::write_reply;

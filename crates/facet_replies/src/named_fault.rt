@@ -3,7 +3,7 @@ ghost use Rattle.serde_json.specs.View.{view, members_view};
 ghost use Rattle.facet_replies.specs.NamedFaults.{detail_data, detail_field, named_fault_data, named_fault_line};
 ghost use Rattle.facet_replies.specs.ReplyLines.{with_fields};
 
-use crate::refusing::put_text;
+use crate::refusals::put_text;
 use crate::writing::to_line;
 use facet_names::NoMemory;
 use serde_json::{Map, Value, put};
@@ -12,7 +12,9 @@ use std::alloc::{AllocError, Global};
 /// A value in the line of a fault.
 #[derive(Clone, Copy, Debug)]
 pub enum Detail<'a> {
+    /// A text. It is written as a JSON string.
     Text(&'a str),
+    /// A number. It is written in decimal.
     Number(u64),
     /// A digest. It is written as 64 lower-case hexadecimal digits.
     Digest([u8; 32]),
@@ -33,7 +35,8 @@ fn put_details(
     fields: &mut Map<String, Value>,
     details: &[(&str, Detail)],
 ) -> Result<(), AllocError>
-    ensures { OnOk result (members_view fields.new.entries ≡ with_fields (members_view fields.old.entries) (map detail_field details.now)) }
+    ensures { OnOk result (members_view fields.new.entries
+        ≡ with_fields (members_view fields.old.entries) (map detail_field details.now)) }
 {
     for (key, detail) in details {
         let value = detail_value(alloc, *detail)?;
@@ -66,7 +69,8 @@ pub fn write_named_fault(
     name: &str,
     details: &[(&str, Detail)],
 ) -> Result<(), NoMemory>
-    ensures ok { OnOk result (out.new.items ≡ out.old.items ++ named_fault_line name.now (map detail_field details.now)) }
+    ensures ok { OnOk result (out.new.items
+        ≡ out.old.items ++ named_fault_line name.now (map detail_field details.now)) }
     ensures err { OnErr result (out.new.items ≡ out.old.items) }
 {
     let value = named_fault_value(alloc, name, details)?;

@@ -3,7 +3,9 @@ use facet_model::{Document, FacetAnswer, Word};
 /// A hit of a search: the document's place in the snapshot, from 0, and its id.
 #[derive(Debug, Drop)]
 pub struct HitLine {
+    /// The document's place in the snapshot, from 0.
     pub at: u32,
+    /// The document's id.
     pub id: Word,
 }
 
@@ -47,19 +49,21 @@ pub enum Reply {
     Placed {
         at: u64,
     },
-    /// To a refresh: the number of documents that searches see from now on. To a commit: the number of documents that are durable. To a hold or a release:
-    /// the number of documents of the pair.
+    /// To a refresh: the number of documents that searches see from now on. To a commit: the number of documents that
+    /// are durable. To a hold or a release: the number of documents of the pair.
     Number {
         n: u64,
     },
-    /// To a search: the number of documents that it searched, how many matched, the first of these in order, and one answer per ask.
+    /// To a search: the number of documents that it searched, how many matched, the first of these in order, and one
+    /// answer per ask.
     Found {
         n: u64,
         hit_count: u64,
         hits: Vec<HitLine>,
         results: Vec<FacetAnswer>,
     },
-    /// To a document: the number of documents of the pair, the place, and the document there with the ordinals of its labels, in order.
+    /// To a document: the number of documents of the pair, the place, and the document there with the ordinals of its
+    /// labels, in order.
     Shown {
         n: u64,
         at: u32,
@@ -74,5 +78,6 @@ pub enum Reply {
     },
     /// To a merge: all segments that it found are one now.
     Merged,
+    /// To a command that was rejected, or that failed.
     Refused(Refusal),
 }

@@ -5,7 +5,7 @@ ghost use Rattle.facet_replies.specs.ReplyLines.{fields, whole_data};
 ghost use Rattle.facet_replies.specs.Summaries.{summary_data, summary_line};
 ghost use Rattle.facet_replies.specs.SummaryViews.{summary_view};
 
-use crate::answering::answers_value;
+use crate::answers::answers_value;
 use crate::writing::to_line;
 use facet_model::FacetAnswer;
 use facet_names::NoMemory;
@@ -30,7 +30,8 @@ pub struct Summary {
 }
 
 fn summary_fields(alloc: Global, summary: &Summary, results: Value) -> Result<Value, AllocError>
-    ensures { IfOk result (λ v. view v ≡ fields ((codes "added", whole_data summary.now.added) ∷ (codes "committed", boolean summary.now.committed)
+    ensures { IfOk result (λ v. view v
+        ≡ fields ((codes "added", whole_data summary.now.added) ∷ (codes "committed", boolean summary.now.committed)
         ∷ (codes "documents", whole_data summary.now.documents) ∷ (codes "hit_count", whole_data summary.now.hit_count)
         ∷ (codes "labels", whole_data summary.now.labels) ∷ (codes "results", view results) ∷ [])) }
 {

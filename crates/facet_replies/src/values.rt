@@ -17,6 +17,7 @@ pub trait ToValue {
     /// The JSON value of plain data.
     ghost json: { Plain → Data };
 
+    /// Returns the JSON value. Errors: out of memory.
     fn to_value(&self, alloc: Global) -> Result<Value, NoMemory>
         ensures { IfOk result (λ v. view v ≡ json (plain self.now)) };
 }

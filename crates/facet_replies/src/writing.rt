@@ -3,12 +3,12 @@ ghost use Rattle.serde_json.specs.View.{view, members_view};
 ghost use Rattle.serde_json.specs.Written.{has_float};
 ghost use Rattle.facet_model.specs.ResultViews.{answer_view};
 ghost use Rattle.facet_replies.specs.Replies.{placed, found, shown, stats};
-ghost use Rattle.facet_replies.specs.ReplyLines.{with_fields, fields, whole_data, list_data, hit_data, document_fields, reply_fields as fields_of_reply, reply_data, json_line, reply_line, at_line, fault_data, fault_line};
+ghost use Rattle.facet_replies.specs.ReplyLines.{with_fields, whole_data, list_data, hit_data, document_fields};
+ghost use Rattle.facet_replies.specs.ReplyLines.{reply_fields as fields_of_reply, reply_data, json_line, reply_line};
 ghost use Rattle.facet_replies.specs.ReplyViews.{hit_view, reply_view};
 
-use crate::answering::{answers_value, paths_value};
-use crate::fault::ScriptFault;
-use crate::refusing::{put_refusal, put_text};
+use crate::answers::{answers_value, paths_value};
+use crate::refusals::{put_refusal, put_text};
 use crate::reply::{HitLine, Reply};
 use crate::values::{ToValue, list_value};
 use facet_model::{Document, FacetAnswer};
@@ -61,7 +61,12 @@ fn put_found(
     results: &[FacetAnswer],
 ) -> Result<(), NoMemory>
     ensures { OnOk result (members_view fields.new.entries ≡ with_fields (members_view fields.old.entries)
-        (fields_of_reply (found (record { operations = n; hit_count = hit_count; hits = map hit_view hits.now; answers = map answer_view results.now })))) }
+        (fields_of_reply (found (record {
+          operations = n;
+          hit_count = hit_count;
+          hits = map hit_view hits.now;
+          answers = map answer_view results.now;
+        })))) }
 {
     put(fields, alloc, "n", Value::from(n))?;
     put(fields, alloc, "hit_count", Value::from(hit_count))?;
@@ -76,7 +81,8 @@ fn put_document(
     doc: &Document,
     ordinals: &[u32],
 ) -> Result<(), NoMemory>
-    ensures { OnOk result (members_view fields.new.entries ≡ with_fields (members_view fields.old.entries) (document_fields doc.now ordinals.now)) }
+    ensures { OnOk result (members_view fields.new.entries
+        ≡ with_fields (members_view fields.old.entries) (document_fields doc.now ordinals.now)) }
 {
     put_text(alloc, fields, "id", doc.id())?;
     put_text(alloc, fields, "text", doc.text())?;
@@ -118,7 +124,8 @@ fn put_stats(
 
 // What it has besides its line and its session.
 fn put_reply(alloc: Global, fields: &mut Map<String, Value>, reply: &Reply) -> Result<(), NoMemory>
-    ensures { OnOk result (members_view fields.new.entries ≡ with_fields (members_view fields.old.entries) (fields_of_reply (reply_view reply.now))) }
+    ensures { OnOk result (members_view fields.new.entries
+        ≡ with_fields (members_view fields.old.entries) (fields_of_reply (reply_view reply.now))) }
 {
     match reply {
         Reply::Placed { at } => Ok(put(fields, alloc, "at", Value::from(*at))?),
@@ -166,7 +173,8 @@ pub(crate) fn to_line(alloc: Global, value: &Value) -> Result<String, NoMemory>
     Ok(text)
 }
 
-// The line of a document's place. There is one for each document, so it is written as it is, without a value in between.
+// The line of a document's place. There is one for each document, so it is written as it is, without a value in
+// between.
 #[tactic(auto, unfolding(crate::specs::ReplyLines::json_line, crate::specs::ReplyLines::reply_data))]
 fn placed_line(alloc: Global, session: u32, line: u64, at: u64) -> Result<String, NoMemory>
     ensures { IfOk result (λ s. string_bytes s ≡ json_line (reply_data session line (placed at))) }
@@ -201,39 +209,6 @@ pub fn write_reply(
     ensures err { OnErr result (out.new.items ≡ out.old.items) }
 {
     let text = reply_text(alloc, session, line, reply)?;
-    out.extend_from_slice(text.as_bytes())?;
-    Ok(())
-}
-
-fn fault_at_value(alloc: Global, fault: &str, line: u64) -> Result<Value, AllocError>
-    ensures { IfOk result (λ v. view v ≡ fields (at_line fault.now line)) }
-{
-    json!(in alloc; {"fault": fault, "line": line})
-}
-
-#[tactic(auto, unfolding(crate::specs::ReplyLines::fault_data))]
-fn fault_value(alloc: Global, fault: ScriptFault) -> Result<Value, AllocError>
-    ensures { IfOk result (λ v. view v ≡ fault_data fault) }
-{
-    match fault {
-        ScriptFault::NotJson { line } => fault_at_value(alloc, "not_json", line),
-        ScriptFault::BadShape { line } => fault_at_value(alloc, "bad_shape", line),
-        ScriptFault::BadSession { line } => fault_at_value(alloc, "bad_session", line),
-        ScriptFault::NoConfigFirst => json!(in alloc; {"fault": "no_config_first"}),
-        ScriptFault::NoMemory => json!(in alloc; {"fault": "no_memory"}),
-    }
-}
-
-/// Appends the line that reports why bytes are not a script, as a line of JSON in the form of a reply.
-///
-/// Errors: out of memory. Then nothing is appended.
-#[tactic(auto, unfolding(crate::specs::ReplyLines::fault_line))]
-pub fn write_fault(alloc: Global, out: &mut Vec<u8>, fault: ScriptFault) -> Result<(), NoMemory>
-    ensures ok { OnOk result (out.new.items ≡ out.old.items ++ fault_line fault) }
-    ensures err { OnErr result (out.new.items ≡ out.old.items) }
-{
-    let value = fault_value(alloc, fault)?;
-    let text = to_line(alloc, &value)?;
     out.extend_from_slice(text.as_bytes())?;
     Ok(())
 }

@@ -25,11 +25,10 @@ use Rattle.facet_output.specs.Commits.{has_outcome}
 use Rattle.facet_output.specs.Output.{has_shown}
 use Rattle.facet_output.specs.Replying.{IsCommitted, IsRight}
 use Rattle.facet_output.specs.Seen.{CommitPoint as Point, history_of, labels_of}
-use Rattle.facet_output.specs.Telling.{closed_by, durable_by, failed, failed_by, shows, stood, stood_by}
+use Rattle.facet_output.specs.Reported.{closed_by, durable_by, failed, failed_by, shows, stood, stood_by}
 use Rattle.facet_replies.specs.Replies.{no_memory, numbered, refused}
-use Rattle.facet_words.specs.Commands.{Settings}
-use Rattle.facet_words.specs.Sessions.Commands.{Command, Order, commit}
-use Rattle.facet_words.specs.Sessions.Laws.{orders_in}
+use Rattle.facet_words.specs.Commands.{Settings, Command, Order, commit}
+use Rattle.facet_words.specs.ScriptOrder.{orders_in}
 use Rattle.pair_manager.specs.declared.point.CommitPoint.{CommitPoint}
 use Rattle.store_opening.specs.Files.{greatest_number}
 use Rattle.store_opening.specs.Newest.{next_after}

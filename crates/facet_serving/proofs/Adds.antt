@@ -12,13 +12,12 @@ use Rattle.facet_output.specs.Answered.{Answered, comes_after, is_of, of_session
 use Rattle.facet_output.specs.Held.{Held, held_after}
 use Rattle.facet_output.specs.Output.{IsOutput, Opened, Published, is_fresh}
 use Rattle.facet_output.specs.Replying.{IsAdded, IsResolved, IsRight, RightReplies, RightReply}
-use Rattle.facet_output.specs.Telling.{placed_operation, shows, stood}
+use Rattle.facet_output.specs.Reported.{placed_operation, shows, stood}
 use Rattle.facet_output.proofs.Placing.{placed_session}
 use Rattle.facet_replies.specs.Replies.{Reply, docs_full, no_memory, placed, refused}
-use Rattle.facet_words.specs.Commands.{Settings}
-use Rattle.facet_words.specs.Sessions.Commands.{Command, Order, add}
+use Rattle.facet_words.specs.Commands.{Settings, Command, Order, add}
 use Rattle.facet_serving.proofs.Lone.{in_filtered, is_placed}
-use Rattle.facet_output.proofs.Exact.{implied_so}
+use Rattle.facet_output.proofs.Fresh.{implied_so}
 
 -- ---- lists
 

@@ -27,11 +27,10 @@ use Rattle.facet_output.specs.Held.{held_under, is_numbered}
 use Rattle.facet_output.specs.OneSession.{AddLeaves, Leaves, LeavesFirst, is_resolved, room}
 use Rattle.facet_output.specs.OutputLines.{answered_line, reply_lines}
 use Rattle.facet_output.specs.Replying.{IsAdded, IsCommitted, IsFound, IsHold, IsOf, IsRelease, IsResolved, IsRight, IsShown, RightReply, docs_of, first_refused, numbers_of, pair_seen}
-use Rattle.facet_output.specs.Telling.{says_full, stood_by}
+use Rattle.facet_output.specs.Reported.{says_full, stood_by}
 use Rattle.facet_replies.specs.Replies.{Reply, broken, docs_full, found, held_already, labels_full, numbered, placed, refused, shown, stats as numbers}
 use Rattle.facet_words.specs.Answers.{first_hits, hits_of, with_labels}
-use Rattle.facet_words.specs.Commands.{Search, Settings}
-use Rattle.facet_words.specs.Sessions.Commands.{Command, Order, add, commit, document, hold, merge, refresh, release, search, stats}
+use Rattle.facet_words.specs.Commands.{Search, Settings, Command, Order, add, commit, document, hold, merge, refresh, release, search, stats}
 use Rattle.facet_serving.proofs.Lone.{Goes, State, after, goes_on, is_in, labels_begin}
 use Rattle.facet_serving.specs.Alike.{AreAlike, IsOfStore, is_plain}
 use Rattle.facet_output.proofs.Served.{all_known}

@@ -8,15 +8,15 @@ use Rattle.std.proofs.lemmas.List.Elements.{All-cons, All-nil}
 use Rattle.std.proofs.lemmas.List.Folds.{list_all-append}
 use Rattle.chronicle.specs.History.{NumbersUpTo}
 use Rattle.facet_engine.specs.Steps.{point_of, seen_of}
-use Rattle.facet_engine.specs.Telling.{AreCounted, HaveMade}
+use Rattle.facet_engine.specs.Exchange.{AreCounted, HaveMade}
 use Rattle.facet_model.specs.Histories.{Operation}
 use Rattle.facet_output.specs.Output.{Opened, opened_pair}
 use Rattle.facet_output.specs.Seen.{CommitPoint, Seen, opened_seen}
-use Rattle.facet_words.specs.Sessions.CommandViews.{order_view}
-use Rattle.facet_words.specs.Sessions.Commands as plain
-use Rattle.facet_words.specs.Sessions.Laws.{AreInOrder, lines_rise, orders_in}
+use Rattle.facet_words.specs.CommandViews.{order_view}
+use Rattle.facet_words.specs.Commands as plain
+use Rattle.facet_words.specs.ScriptOrder.{AreInOrder, lines_rise, orders_in}
 use Rattle.facet_words.specs.Shapes.{is_within}
-use Rattle.facet_words.specs.declared.sessions.command.Order.{Order}
+use Rattle.facet_words.specs.declared.command.Order.{Order}
 use Rattle.pair_manager.specs.declared.pass.Pass.{Pass}
 use Rattle.pair_manager.specs.Published.{numbers}
 

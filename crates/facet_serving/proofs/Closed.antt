@@ -24,8 +24,7 @@ use Rattle.facet_phases.specs.Runs.{EndedSo, HasRun, IsCutOff, StoppedWith}
 use Rattle.facet_phases.specs.declared.fault.PhaseFault.{PhaseFault}
 use Rattle.facet_phases.specs.declared.fault.PhaseFault.TheVariants as phases
 use Rattle.facet_replies.specs.LastLine.{last_line as line_of}
-use Rattle.facet_words.specs.Commands.{Settings}
-use Rattle.facet_words.specs.Sessions.Commands.{Order, Script}
+use Rattle.facet_words.specs.Commands.{Settings, Order, Script}
 use Rattle.facet_phases.specs.declared.outcome.RanToEnd.{RanToEnd}
 use Rattle.facet_serving.proofs.Opened.{HasOpened, HasRoom, has_opened, has_room}
 use Rattle.pair_manager.specs.declared.pass.Pass.{Pass}

@@ -6,10 +6,9 @@ use Rattle.std.proofs.lemmas.Bool.{and_parts}
 use Rattle.facet_output.proofs.Among.{In, of_all, of_any}
 use Rattle.facet_output.specs.Answered.{Answered, may_come_after}
 use Rattle.facet_output.specs.Output.{IsOutput, Opened, Published, has_failure}
-use Rattle.facet_output.specs.Telling.{closed_at, failed, is_number}
+use Rattle.facet_output.specs.Reported.{closed_at, failed, is_number}
 use Rattle.facet_output.proofs.Exact.{wanted, of_number}
-use Rattle.facet_words.specs.Commands.{Settings}
-use Rattle.facet_words.specs.Sessions.Commands.{Order}
+use Rattle.facet_words.specs.Commands.{Settings, Order}
 use Rattle.facet_model.specs.Histories.{Operation}
 
 module _ (settings : Settings) (phases : List (List Order)) (opened : Opened) (labels : List (List (List ℕ))) (history : List Operation) (published : Published) (answered : List Answered)

@@ -8,10 +8,9 @@ use Rattle.std.proofs.lemmas.Nat.{row_fits}
 use Rattle.std.proofs.Math.Nat.{le_trans}
 use Rattle.facet_output.specs.Answered.{by_session, in_writing_order}
 use Rattle.facet_words.specs.Lines.{lines_of, onto_first}
-use Rattle.facet_words.specs.Scripts.{◌>>=◌, config_at}
-use Rattle.facet_words.specs.Sessions.Commands.{Order, Script}
-use Rattle.facet_words.specs.Sessions.Laws.{orders_in}
-use Rattle.facet_words.specs.Sessions.Scripts.{Phases, before, line_at, phases_from, phases_of, script, script_of}
+use Rattle.facet_words.specs.Scripts.{◌>>=◌, config_at, Phases, before, line_at, phases_from, phases_of, script, script_of}
+use Rattle.facet_words.specs.Commands.{Order, Script}
+use Rattle.facet_words.specs.ScriptOrder.{orders_in}
 use Rattle.generator.specs.Generated.{add_order, closing_orders, generated, generated_phases}
 use Rattle.facet_serving.specs.Acknowledged.{HaveFewOrders}
 use Rattle.facet_words.proofs.Rising.{first_then, of_ok}

@@ -13,8 +13,7 @@ use Rattle.facet_output.specs.Output.{Opened}
 use Rattle.facet_output.specs.OutputLines.{last_line}
 use Rattle.facet_output.specs.Outputs.{sessions_in}
 use Rattle.facet_output.specs.Seen.{history_of, labels_of}
-use Rattle.facet_words.specs.Commands.{Settings}
-use Rattle.facet_words.specs.Sessions.Commands.{Order}
+use Rattle.facet_words.specs.Commands.{Settings, Order}
 use Rattle.store_opening.specs.Files.{Found}
 use Rattle.facet_output.proofs.Exact.{key_of}
 use Rattle.facet_serving.proofs.Alike.{alike, same_lines, whole}

@@ -20,11 +20,10 @@ use Rattle.facet_output.specs.Held.{Held, after_command, is_numbered}
 use Rattle.facet_output.specs.OneSession.{AddLeaves, AreExact, AreExactLabels, Leaves, LeavesFirst, after_placing, room}
 use Rattle.facet_output.specs.Output.{IsOutput, Opened, Published, opened_operations, opened_pair}
 use Rattle.facet_output.specs.Replying.{IsAdded, IsResolved, IsRight, RightReplies}
-use Rattle.facet_output.specs.Telling.{placed_by, placed_operation, refreshed, refreshed_by, stood_by}
+use Rattle.facet_output.specs.Reported.{placed_by, placed_operation, refreshed, refreshed_by, stood_by}
 use Rattle.facet_replies.specs.Replies.{Reply, found, merged, numbered, placed, refused, shown, stats as numbers}
 use Rattle.facet_words.specs.Answers.{with_labels}
-use Rattle.facet_words.specs.Commands.{Settings}
-use Rattle.facet_words.specs.Sessions.Commands.{Command, Order, add, commit, document, hold, merge, refresh, release, search, stats}
+use Rattle.facet_words.specs.Commands.{Settings, Command, Order, add, commit, document, hold, merge, refresh, release, search, stats}
 use Rattle.generator.specs.Summaries.{is_placed as tells_place}
 use Rattle.facet_output.proofs.Served.{all_known}
 use Rattle.chronicle.proofs.Prefixes.{prefix_self, prefix_trans, prefix_length, prefix_shorter}

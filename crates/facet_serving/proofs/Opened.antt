@@ -16,8 +16,7 @@ use Rattle.facet_output.specs.Output.{Opened}
 use Rattle.facet_output.specs.Seen.{Seen, Sees, history_of, labels_of, opened_seen}
 use Rattle.facet_output.specs.Sessions.{AllRan, own_steps, steps_of}
 use Rattle.facet_output.specs.Steps.{Step}
-use Rattle.facet_words.specs.Commands.{Settings}
-use Rattle.facet_words.specs.Sessions.Commands.{Order}
+use Rattle.facet_words.specs.Commands.{Settings, Order}
 use Rattle.store_opening.specs.Files.{files}
 use Rattle.facet_serving.specs.Sessions.{IsTraceOf}
 use Rattle.facet_serving.specs.Stores.{Opens}

@@ -8,10 +8,9 @@ use Rattle.facet_output.proofs.Among.{In}
 use Rattle.facet_output.proofs.Answers.{get_map}
 use Rattle.facet_output.specs.Answered.{Answered}
 use Rattle.facet_output.specs.Seen.{history_of, labels_of}
-use Rattle.facet_output.specs.Telling.{placed_by, placed_operation}
+use Rattle.facet_output.specs.Reported.{placed_by, placed_operation}
 use Rattle.facet_replies.specs.Replies.{placed}
-use Rattle.facet_words.specs.Commands.{Settings}
-use Rattle.facet_words.specs.Sessions.Commands.{Order, add}
+use Rattle.facet_words.specs.Commands.{Settings, Order, add}
 use Rattle.facet_serving.proofs.Adds.{each_once, placed_or, stands_there}
 use Rattle.facet_serving.specs.Added.{AddsArePlaced, EachAddStands, EachIsAddedOnce, IsPlacedWhereItFits, Stands}
 use Rattle.facet_serving.specs.Sessions.{Ran}

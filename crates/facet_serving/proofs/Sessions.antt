@@ -21,17 +21,12 @@ use Rattle.facet_output.specs.Output.{Opened}
 use Rattle.facet_output.specs.Seen.{Seen, history_of, labels_of}
 use Rattle.facet_output.specs.Sessions.{AllRan, answers_of, is_by, steps_of}
 use Rattle.facet_output.specs.Steps.{Step}
-use Rattle.facet_words.specs.Commands.{Settings}
-use Rattle.facet_words.specs.Sessions.Commands.{Order}
+use Rattle.facet_words.specs.Commands.{Settings, Order}
 use Rattle.store_opening.specs.Files.{greatest_number}
 use Rattle.store_opening.specs.Newest.{next_after}
 use Rattle.facet_serving.specs.Sessions.{IsAlone, IsTraceOf, Ran, SpendsFrom}
 use Rattle.facet_serving.specs.Stores.{Keeps, Opens}
 use Rattle.chronicle.proofs.Prefixes.{prefix_length}
-
-orders_are : (xs : List Step) → map (λ (x : Step). x.answered.order) xs ≡ map (λ a. a.order) (map (λ (x : Step). x.answered) xs)
-orders_are [] = refl
-orders_are (x ∷ xs) = ap (λ (l : List Order). x.answered.order ∷ l) (orders_are xs)
 
 -- more commits may take more numbers
 within_more : (each number next some all : ℕ) → some ≤ all → number < next + each * some → number < next + each * all
@@ -57,7 +52,7 @@ module _ (settings : Settings) (phases : List (List Order)) (opened : Opened) (r
       record {
         exact = one_session_is_exact settings phases opened (labels_of last) (history_of last) last.pairs (answers_of ran) session (sessions_give_output settings phases opened ran last all) all.in_line_order one;
         labels = one_session_has_its_labels settings phases opened ran last session all by;
-        served = λ orders are. one_session_is_served settings phases opened ran last session orders all by (orders_are (steps_of ran) ∙ are);
+        served = λ none. one_session_is_served settings phases opened ran last session all by none;
       }
 
   abbrev pub ran_so : {D : Type 0} (ghosts : Ghosts D) (trace : Trace) (old new : D) → Opens ghosts settings.config old opened → IsTraceOf trace last → ((t : Told) → ghosts.told old ≡ Some t → All (SpendsFrom (next_after (greatest_number t.files)) last) (answers_of ran))

@@ -7,7 +7,7 @@ use Rattle.facet_disk.specs.declared.disk.Disk.{Ghosts}
 use Rattle.facet_engine.specs.declared.ending.Trace.{Trace}
 use Rattle.facet_io.specs.declared.sink.Sink.{Ghosts as SinkGhosts}
 use Rattle.facet_model.specs.Flags.{Config}
-use Rattle.facet_words.specs.Sessions.Commands.{Script}
+use Rattle.facet_words.specs.Commands.{Script}
 use Rattle.store_opening.specs.Faults.{IsSound}
 use Rattle.store_opening.specs.Files.{files}
 use Rattle.store_opening.specs.Quiet.{IsQuiet}

@@ -14,7 +14,7 @@ use Rattle.facet_phases.specs.declared.fault.PhaseFault.{PhaseFault}
 use Rattle.facet_phases.specs.declared.fault.PhaseFault.TheVariants as phases
 use Rattle.facet_phases.specs.declared.outcome.RanToEnd.{RanToEnd}
 use Rattle.facet_replies.specs.Summaries.{summary_line}
-use Rattle.facet_words.specs.Sessions.Commands.{Order, Script}
+use Rattle.facet_words.specs.Commands.{Order, Script}
 use Rattle.generator.specs.Tallies.{IsTallyOf}
 use Rattle.generator.specs.declared.tally.Tally.{Tally}
 use Rattle.facet_serving.proofs.Sessions.{ran_so, spends}

@@ -12,7 +12,7 @@ use Rattle.facet_output.specs.OutputLines.{reply_lines}
 use Rattle.facet_output.specs.Steps.{Step}
 use Rattle.facet_phases.specs.Phases.{asked, answers_in}
 use Rattle.facet_phases.specs.Runs.{IsCutOff}
-use Rattle.facet_words.specs.Sessions.Commands.{Order}
+use Rattle.facet_words.specs.Commands.{Order}
 use Rattle.facet_serving.specs.Sessions.{lines_before, lines_in}
 
 from_append : (n : ℕ) (xs ys : List (List Order)) → from_phase n (xs ++ ys) ≡ from_phase n xs ++ from_phase (n + length xs) ys

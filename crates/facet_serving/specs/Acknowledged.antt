@@ -11,10 +11,9 @@ use Rattle.facet_output.specs.Answered.{Answered, comes_after, in_writing_order}
 use Rattle.facet_output.specs.Output.{has_shown}
 use Rattle.facet_output.specs.Seen.{Seen, history_of, labels_of}
 use Rattle.facet_replies.specs.Replies.{no_memory, numbered, placed, refused}
-use Rattle.facet_words.specs.Commands.{Settings}
-use Rattle.facet_words.specs.Sessions.Commands.{Order, Script, add, commit}
-use Rattle.facet_words.specs.Sessions.Laws.{orders_in}
-use Rattle.facet_words.specs.Sessions.Scripts.{script}
+use Rattle.facet_words.specs.Commands.{Settings, Order, Script, add, commit}
+use Rattle.facet_words.specs.ScriptOrder.{orders_in}
+use Rattle.facet_words.specs.Scripts.{script}
 use Rattle.generator.specs.Generated.{generated}
 use Rattle.store_opening.specs.Files.{Found, files, greatest_number}
 use Rattle.store_opening.specs.Newest.{next_after}
@@ -24,48 +23,62 @@ use Rattle.facet_serving.specs.Sessions.{Ran}
 
 -- ---- what was acknowledged stays
 
--- of an add that came before a commit, of its session or of an earlier phase, and was answered with a place: of these documents its own stands there
+-- of an add that came before a commit, of its session or of an earlier phase, and was answered with a place: of these
+-- documents its own stands there
 abbrev pub HasAdd : Answered → List Doc → Answered → Type 0
-HasAdd a documents b = (doc : Doc) (place : ℕ) → IsTrue (comes_after a b) → b.order.command ≡ add doc → b.reply ≡ placed place
+HasAdd a documents b = (doc : Doc) (place : ℕ) → IsTrue (comes_after a b) → b.order.command ≡ add doc
+    → b.reply ≡ placed place
     → slice_get documents place ≡ Some doc
 
--- An image opens as the first of the labels and the first of the documents at the end, with all that a commit acknowledged which was answered this number.
-pub record Holds (settings : Settings) (last : Seen) (answered : List Answered) (a : Answered) (n : ℕ) (c : Image) : Type 0 where
+-- An image opens as the first of the labels and the first of the documents at the end, with all that a commit
+-- acknowledged which was answered this number.
+pub record Holds (settings : Settings) (last : Seen) (answered : List Answered) (a : Answered) (n : ℕ)
+    (c : Image) : Type 0 where
   pub recovers : Recovers settings.config (labels_of last) (docs (history_of last)) c
   -- so many documents, or more
   pub many : n ≤ length (docs_found recovers.found)
   -- all labels that its session had been shown
-  pub labels : (m : ℕ) × (m ≤ length recovers.found.labels) × IsTrue (has_shown (labels_of last) last.pairs answered a m)
+  pub labels : (m : ℕ) × (m ≤ length recovers.found.labels)
+      × IsTrue (has_shown (labels_of last) last.pairs answered a m)
   pub adds : All (HasAdd a (docs_found recovers.found)) answered
 
 -- of a commit that was acknowledged: the image holds that
 abbrev pub IsHeld : Settings → Seen → List Answered → Image → Answered → Type 0
-IsHeld settings last answered c a = (n : ℕ) → a.order.command ≡ commit → a.reply ≡ numbered n → Holds settings last answered a n c
+IsHeld settings last answered c a =
+    (n : ℕ) → a.order.command ≡ commit → a.reply ≡ numbered n → Holds settings last answered a n c
 
--- Over a disk that tells its files and was settled, whatever a crash leaves at the end holds all that each acknowledged commit has acknowledged.
+-- Over a disk that tells its files and was settled, whatever a crash leaves at the end holds all that each acknowledged
+-- commit has acknowledged.
 abbrev pub AcknowledgedStays : {D : Type 0} → Ghosts D → Type 0
-AcknowledgedStays {D} ghosts = (settings : Settings) (phases : List (List Order)) (trace : Trace) (old new : D) (t : Told) → ghosts.told old ≡ Some t
+AcknowledgedStays {D} ghosts = (settings : Settings) (phases : List (List Order)) (trace : Trace) (old new : D)
+    (t : Told) → ghosts.told old ≡ Some t
     → IsSettled ghosts settings.config t old
-    → (ran : Ran ghosts settings phases trace old new) → (c : Image) → ghosts.may_leave new c → All (IsHeld settings ran.last ran.answered c) ran.answered
+    → (ran : Ran ghosts settings phases trace old new) → (c : Image) → ghosts.may_leave new c
+    → All (IsHeld settings ran.last ran.answered c) ran.answered
 
--- Of a commit that was acknowledged so: there was a moment at which whatever a crash left had just so many documents, and whatever a crash at any moment since
--- then left holds all that it acknowledged.
-pub record HeldSince {D : Type 0} (ghosts : Ghosts D) (settings : Settings) (last : Seen) (answered : List Answered) (now : D) (a : Answered) (n : ℕ) : Type 0 where
+-- Of a commit that was acknowledged so: there was a moment at which whatever a crash left had just so many documents,
+-- and whatever a crash at any moment since then left holds all that it acknowledged.
+pub record HeldSince {D : Type 0} (ghosts : Ghosts D) (settings : Settings) (last : Seen) (answered : List Answered)
+    (now : D) (a : Answered) (n : ℕ) : Type 0 where
   -- the disk as it was at that moment
   pub at : D
   pub earlier : ghosts.moment at ≤ ghosts.moment now
-  pub just : (c : Image) → ghosts.may_leave at c → (f : Found) × (files settings.config c ≡ Ok f) × (length (docs_found f) ≡ n)
+  pub just : (c : Image) → ghosts.may_leave at c
+      → (f : Found) × (files settings.config c ≡ Ok f) × (length (docs_found f) ≡ n)
   pub since : (c : Image) → ghosts.left_since now (ghosts.moment at) c → Holds settings last answered a n c
 
 -- of a commit that was acknowledged: it holds since then
 abbrev pub IsHeldSince : {D : Type 0} → Ghosts D → Settings → Seen → List Answered → D → Answered → Type 0
-IsHeldSince ghosts settings last answered now a = (n : ℕ) → a.order.command ≡ commit → a.reply ≡ numbered n → HeldSince ghosts settings last answered now a n
+IsHeldSince ghosts settings last answered now a =
+    (n : ℕ) → a.order.command ≡ commit → a.reply ≡ numbered n → HeldSince ghosts settings last answered now a n
 
 -- Over such a disk each acknowledged commit survives a crash at every later moment.
 abbrev pub AcknowledgedSurvives : {D : Type 0} → Ghosts D → Type 0
-AcknowledgedSurvives {D} ghosts = (settings : Settings) (phases : List (List Order)) (trace : Trace) (old new : D) (t : Told) → ghosts.told old ≡ Some t
+AcknowledgedSurvives {D} ghosts = (settings : Settings) (phases : List (List Order)) (trace : Trace) (old new : D)
+    (t : Told) → ghosts.told old ≡ Some t
     → IsSettled ghosts settings.config t old
-    → (ran : Ran ghosts settings phases trace old new) → All (IsHeldSince ghosts settings ran.last ran.answered new) ran.answered
+    → (ran : Ran ghosts settings phases trace old new)
+    → All (IsHeldSince ghosts settings ran.last ran.answered new) ran.answered
 
 -- ---- commits are acknowledged
 
@@ -82,10 +95,12 @@ abbrev pub HaveFewOrders : Type 0
 HaveFewOrders = ((input : List ℕ) (s : Script) → script input ≡ Ok s → length input ≤ script_limit → HasFewOrders s)
     × ((documents sessions : ℕ) → documents ≤ 1000000 → HasFewOrders (generated documents sessions))
 
--- Each commit of such a script is acknowledged, where the disk tells files whose numbers are below 2^62 and its count of faults does not rise.
--- So it is of the script's phases, and of the first of them.
+-- Each commit of such a script is acknowledged, where the disk tells files whose numbers are below 2^62 and its count
+-- of faults does not rise. So it is of the script's phases, and of the first of them.
 abbrev pub CommitsAreAcknowledged : {D : Type 0} → Ghosts D → Type 0
-CommitsAreAcknowledged {D} ghosts = (s : Script) (phases : List (List Order)) (trace : Trace) (old new : D) (t : Told) → HasFewOrders s
-    → length (in_writing_order phases) ≤ length (in_writing_order s.phases) → ghosts.told old ≡ Some t → next_after (greatest_number t.files) ≤ 2 ^ 62
+CommitsAreAcknowledged {D} ghosts =
+    (s : Script) (phases : List (List Order)) (trace : Trace) (old new : D) (t : Told) → HasFewOrders s
+    → length (in_writing_order phases) ≤ length (in_writing_order s.phases) → ghosts.told old ≡ Some t
+    → next_after (greatest_number t.files) ≤ 2 ^ 62
     → ¬ Rose (ghosts.faults old) (ghosts.faults new)
     → (ran : Ran ghosts s.settings phases trace old new) → All IsAcknowledged ran.answered

@@ -15,7 +15,8 @@ module _ {K : Type 0} where
   abbrev pub IsWritten : List ℕ → SinkGhosts K → K → K → Status → Type 0
   IsWritten line sink before now status =
       ((status ≡ Done) × Appends (sink.written before) (sink.written now) line × (sink.faults now ≡ sink.faults before))
-      ⊎ ((status ≡ WriteFault) × Rose (sink.faults before) (sink.faults now) × ((n : ℕ) × Appends (sink.written before) (sink.written now) (take n line)))
+      ⊎ ((status ≡ WriteFault) × Rose (sink.faults before) (sink.faults now)
+      × ((n : ℕ) × Appends (sink.written before) (sink.written now) (take n line)))
 
   -- memory was wanting, and the line of that was written
   abbrev pub IsWithoutMemory : SinkGhosts K → K → K → Status → Type 0
@@ -23,6 +24,7 @@ module _ {K : Type 0} where
 
   -- Behind phases that ended so: the last line, or at a fault nothing, or without memory the line of that.
   abbrev pub Closes : List ℕ → Result (Unit {0}) PhaseFault → SinkGhosts K → K → K → Status → Type 0
-  Closes line (Ok u) sink before now status = IsWritten line sink before now status ⊎ IsWithoutMemory sink before now status
+  Closes line (Ok u) sink before now status =
+      IsWritten line sink before now status ⊎ IsWithoutMemory sink before now status
   Closes line (Err phases.Write) sink before now status = (status ≡ WriteFault) × (now ≡ before)
   Closes line (Err phases.NoMemory) sink before now status = IsWithoutMemory sink before now status

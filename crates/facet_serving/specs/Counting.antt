@@ -9,13 +9,16 @@ use Rattle.facet_serving.specs.Alike.{replies_of}
 
 -- These replies were added behind those that it had.
 abbrev pub GoesOn : Tally → Tally → List Answered → Type 0
-GoesOn before now answered = (earlier : List Reply) → IsTallyOf earlier before → IsTallyOf (earlier ++ replies_of answered) now
+GoesOn before now answered =
+    (earlier : List Reply) → IsTallyOf earlier before → IsTallyOf (earlier ++ replies_of answered) now
 
 pub goes_on_none : (t : Tally) → GoesOn t t []
 goes_on_none t earlier is = subst (λ (l : List Reply). IsTallyOf l t) (sym (append-nil earlier)) is
 
 pub goes_on_then : (a b c : Tally) (xs ys : List Answered) → GoesOn a b xs → GoesOn b c ys → GoesOn a c (xs ++ ys)
 goes_on_then a b c xs ys p q earlier is =
-    let both : replies_of (xs ++ ys) ≡ replies_of xs ++ replies_of ys = map-append {B = Reply} (λ (x : Answered). x.reply) xs ys in
-    subst (λ (l : List Reply). IsTallyOf l c) (append_assoc earlier (replies_of xs) (replies_of ys) ∙ ap (λ (l : List Reply). earlier ++ l) (sym both))
+    let both : replies_of (xs ++ ys) ≡ replies_of xs ++ replies_of ys =
+    map-append {B = Reply} (λ (x : Answered). x.reply) xs ys in
+    subst (λ (l : List Reply). IsTallyOf l c)
+    (append_assoc earlier (replies_of xs) (replies_of ys) ∙ ap (λ (l : List Reply). earlier ++ l) (sym both))
     (q (earlier ++ replies_of xs) (p earlier is))

@@ -10,7 +10,7 @@ use Rattle.facet_phases.specs.Runs.{IsCutOff}
 use Rattle.facet_phases.specs.declared.fault.PhaseFault.{PhaseFault}
 use Rattle.facet_replies.specs.Replies.{Reply}
 use Rattle.facet_replies.specs.Summaries.{Summary, summary_line}
-use Rattle.facet_words.specs.Sessions.Commands.{Order, Script}
+use Rattle.facet_words.specs.Commands.{Order, Script}
 use Rattle.generator.specs.Generated.{generated}
 use Rattle.generator.specs.Summaries.{summary_of}
 use Rattle.generator.specs.Tallies.{IsTallyOf}
@@ -32,11 +32,12 @@ generated_by words = option_and_then (λ w. option_map (λ documents. generated 
 module _ {D K : Type 0} (ghosts : Ghosts D) (s : Script) (old new : D) (sink : SinkGhosts K) (before now : K) where
   -- All orders were carried out, and memory was wanting for none. Of the line of their summary this is so.
   abbrev pub SumsUp : Trace → (List ℕ → Type 0) → Type 0
-  SumsUp trace Line = (ran : Ran ghosts s.settings s.phases trace old new) × (summary : Summary) × (summary_of (replies_of ran.answered) ≡ Some summary)
+  SumsUp trace Line = (ran : Ran ghosts s.settings s.phases trace old new) × (summary : Summary)
+      × (summary_of (replies_of ran.answered) ≡ Some summary)
       × Line (summary_line summary)
 
-  -- The first phases were carried out, and of the next one, if any, the first orders of each session. Memory was wanting, and nothing but the line of that was
-  -- written, or where a count of faults rose a beginning of it.
+  -- The first phases were carried out, and of the next one, if any, the first orders of each session. Memory was
+  -- wanting, and nothing but the line of that was written, or where a count of faults rose a beginning of it.
   pub record IsUnsummed (trace : Trace) : Type 0 where
     pub many : ℕ
     pub cut : List (List Order)
@@ -44,9 +45,11 @@ module _ {D K : Type 0} (ghosts : Ghosts D) (s : Script) (old new : D) (sink : S
     pub ran : Ran ghosts s.settings (take many s.phases ++ cut) trace old new
     pub written : WritesLine sink before now (status_line NoMemory)
 
-  -- by the status: the line of the summary was written; or a write failed behind a beginning of it; or memory was wanting
+  -- by the status: the line of the summary was written; or a write failed behind a beginning of it; or memory was
+  -- wanting
   abbrev pub SummedAs : Trace → Status → Type 0
-  SummedAs trace Done = SumsUp trace (λ line. Appends (sink.written before) (sink.written now) line × (sink.faults now ≡ sink.faults before))
+  SummedAs trace Done = SumsUp trace
+      (λ line. Appends (sink.written before) (sink.written now) line × (sink.faults now ≡ sink.faults before))
   SummedAs trace WriteFault = Rose (sink.faults before) (sink.faults now)
       × SumsUp trace (λ line. (n : ℕ) × Appends (sink.written before) (sink.written now) (take n line))
   SummedAs trace NoMemory = IsUnsummed trace
@@ -62,12 +65,14 @@ module _ {D K : Type 0} (ghosts : Ghosts D) (s : Script) (old new : D) (sink : S
 
 -- the line of the summary of the replies that are tallied
 abbrev pub IsLineOf : Tally → List ℕ → Type 0
-IsLineOf total line = (replies : List Reply) → IsTallyOf replies total → (summary : Summary) × (summary_of replies ≡ Some summary) × (line ≡ summary_line summary)
+IsLineOf total line = (replies : List Reply) → IsTallyOf replies total
+    → (summary : Summary) × (summary_of replies ≡ Some summary) × (line ≡ summary_line summary)
 
 module _ {K : Type 0} (total : Tally) (sink : SinkGhosts K) (before now : K) (status : Status) where
   -- the line of the summary, or without memory the line of that
   abbrev pub WritesSummary : Type 0
-  WritesSummary = ((line : List ℕ) × IsLineOf total line × IsWritten line sink before now status) ⊎ IsWithoutMemory sink before now status
+  WritesSummary = ((line : List ℕ) × IsLineOf total line × IsWritten line sink before now status)
+      ⊎ IsWithoutMemory sink before now status
 
   -- the same behind phases that ended so
   abbrev pub ClosesSummed : Result (Unit {0}) PhaseFault → Type 0

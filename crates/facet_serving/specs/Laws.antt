@@ -9,8 +9,7 @@ use Rattle.facet_model.specs.Histories.{docs}
 use Rattle.facet_names.specs.Labels.{GoesOn}
 use Rattle.facet_output.specs.Output.{Opened}
 use Rattle.facet_output.specs.Seen.{Seen, history_of, labels_of}
-use Rattle.facet_words.specs.Commands.{Settings}
-use Rattle.facet_words.specs.Sessions.Commands.{Order}
+use Rattle.facet_words.specs.Commands.{Settings, Order}
 use Rattle.store_opening.specs.Files.{Found, files}
 use Rattle.store_opening.specs.Settled.{IsSettled}
 use Rattle.facet_serving.specs.Sessions.{Ran}
@@ -18,23 +17,28 @@ use Rattle.facet_serving.specs.Stores.{points_of}
 
 -- ---- one run after another
 
--- What a run left is opened: the first of its labels and documents, at least those of each commit that was acknowledged; where none failed on the disk, just
--- those of the last one.
+-- What a run left is opened: the first of its labels and documents, at least those of each commit that was
+-- acknowledged; where none failed on the disk, just those of the last one.
 pub record IsReopened (last : Seen) (next : Opened) : Type 0 where
   pub labels : GoesOn next.labels (labels_of last)
   pub docs : AreFirst next.docs (docs (history_of last))
   pub all : All (λ p. (p.labels ≤ length next.labels) × (p.operations ≤ length next.docs)) (points_of last.commits)
   pub exact : (last_of (points_of last.commits)).failed ≡ None
-      → (length next.labels ≡ (last_of (points_of last.commits)).labels) × (length next.docs ≡ (last_of (points_of last.commits)).operations)
+      → (length next.labels ≡ (last_of (points_of last.commits)).labels)
+      × (length next.docs ≡ (last_of (points_of last.commits)).operations)
 
 -- what a run acknowledged, the next one under the same flags opens
 abbrev pub AcknowledgedIsReopened : {D : Type 0} → Ghosts D → Type 0
-AcknowledgedIsReopened {D} ghosts = (settings again : Settings) (phases later : List (List Order)) (trace more : Trace) (start between end : D) (t : Told)
+AcknowledgedIsReopened {D} ghosts = (settings again : Settings) (phases later : List (List Order)) (trace more : Trace)
+    (start between end : D) (t : Told)
     → ghosts.told start ≡ Some t → IsSettled ghosts settings.config t start → again.config ≡ settings.config
-    → (first : Ran ghosts settings phases trace start between) → (second : Ran ghosts again later more between end) → IsReopened first.last second.opened
+    → (first : Ran ghosts settings phases trace start between) → (second : Ran ghosts again later more between end)
+    → IsReopened first.last second.opened
 
 -- and the files that it left stand for a store under these flags, so that no later run finds a fault in them
 abbrev pub LeavesStore : {D : Type 0} → Ghosts D → Type 0
-LeavesStore {D} ghosts = (settings : Settings) (phases : List (List Order)) (trace : Trace) (start between : D) (t u : Told) → ghosts.told start ≡ Some t
-    → IsSettled ghosts settings.config t start → Ran ghosts settings phases trace start between → ghosts.told between ≡ Some u
+LeavesStore {D} ghosts = (settings : Settings) (phases : List (List Order)) (trace : Trace) (start between : D)
+    (t u : Told) → ghosts.told start ≡ Some t
+    → IsSettled ghosts settings.config t start → Ran ghosts settings phases trace start between
+    → ghosts.told between ≡ Some u
     → (f : Found) × (files settings.config u.files ≡ Ok f)

@@ -2,8 +2,8 @@
 use Rattle.std.specs.Prelude.{◌≡◌, ◌≤◌, ◌+◌, ℕ, List, length, Ok}
 use Rattle.std.specs.Io.KnownBytes.{Consumes, IsAtEnd}
 use Rattle.facet_io.specs.declared.source.Source.{Ghosts as SourceGhosts}
-use Rattle.facet_words.specs.Sessions.Commands.{Script}
-use Rattle.facet_words.specs.Sessions.Scripts.{script}
+use Rattle.facet_words.specs.Commands.{Script}
+use Rattle.facet_words.specs.Scripts.{script}
 
 -- the bytes that a script has at most
 abbrev pub script_limit : ℕ
@@ -17,15 +17,18 @@ pub record ReadsWhole {S : Type 0} (source : SourceGhosts S) (from to : S) (inpu
 
 -- some bytes were read, at most one more than a script has
 abbrev pub ReadsSome : {S : Type 0} → SourceGhosts S → S → S → Type 0
-ReadsSome source from to = (input : List ℕ) × (length input ≤ script_limit + 1) × Consumes (source.left from) (source.left to) input
+ReadsSome source from to = (input : List ℕ) × (length input ≤ script_limit + 1)
+    × Consumes (source.left from) (source.left to) input
 
 -- some bytes were read, at most as many as a script has
 abbrev pub ReadsWithin : {S : Type 0} → SourceGhosts S → S → S → Type 0
-ReadsWithin source from to = (input : List ℕ) × (length input ≤ script_limit) × Consumes (source.left from) (source.left to) input
+ReadsWithin source from to =
+    (input : List ℕ) × (length input ≤ script_limit) × Consumes (source.left from) (source.left to) input
 
 -- one byte more than a script has was read
 abbrev pub ReadsTooMuch : {S : Type 0} → SourceGhosts S → S → S → Type 0
-ReadsTooMuch source from to = (input : List ℕ) × (length input ≡ script_limit + 1) × Consumes (source.left from) (source.left to) input
+ReadsTooMuch source from to =
+    (input : List ℕ) × (length input ≡ script_limit + 1) × Consumes (source.left from) (source.left to) input
 
 -- what was read is a script
 abbrev pub ReadsScript : {S : Type 0} → SourceGhosts S → S → S → Type 0

@@ -14,7 +14,7 @@ use Rattle.facet_output.specs.Seen.{Seen}
 use Rattle.facet_phases.specs.Runs.{EndedSo, HasRun}
 use Rattle.facet_phases.specs.declared.outcome.RanToEnd.{RanToEnd}
 use Rattle.pair_manager.specs.declared.pass.Pass.{Pass}
-use Rattle.facet_words.specs.Sessions.Commands.{Script}
+use Rattle.facet_words.specs.Commands.{Script}
 use Rattle.store_opening.specs.Faults.{IsSound}
 use Rattle.store_opening.specs.Files.{files, greatest_number}
 use Rattle.store_opening.specs.Newest.{next_after}
@@ -31,11 +31,13 @@ use Rattle.facet_serving.specs.declared.status.Status.TheVariants.{Done, WriteFa
 
 -- where the disk of a store told its files, the next file takes the number behind all of theirs
 abbrev pub GoesOnBehind : {D : Type 0} → Ghosts D → Store D → Type 0
-GoesOnBehind ghosts store = (t : Told) → ghosts.told store.start.value ≡ Some t → store.committer.state.next ≡ next_after (greatest_number t.files)
+GoesOnBehind ghosts store = (t : Told) → ghosts.told store.start.value ≡ Some t
+    → store.committer.state.next ≡ next_after (greatest_number t.files)
 
--- The sessions of a script were carried out on a store that was opened: the numbers of what was opened, and how they ended. Handing over what was kept of all
--- replies of some phases is so, and that it failed for those of the last one.
-pub record IsCarried {D : Type 0} (ghosts : Ghosts D) (s : Script) (start : D) (Flushes : List Answered → Type 0) (Breaks : List Answered → List Answered → Type 0)
+-- The sessions of a script were carried out on a store that was opened: the numbers of what was opened, and how they
+-- ended. Handing over what was kept of all replies of some phases is so, and that it failed for those of the last one.
+pub record IsCarried {D : Type 0} (ghosts : Ghosts D) (s : Script) (start : D) (Flushes : List Answered → Type 0)
+    (Breaks : List Answered → List Answered → Type 0)
     (pair : ℕ × ℕ) (ran : RanToEnd D) : Type 0 where
   pub opened : Opened
   pub last : Seen
@@ -67,15 +69,16 @@ module _ {D K : Type 0} (ghosts : Ghosts D) (s : Script) (old new : D) (sink : S
     pub trace_is : left ≡ Some trace
     pub ended : EndsAs trace status
 
--- Why a store was not opened: the disk failed, there was no memory, or where the disk tells its files, they have this fault. Unless the disk failed, its count of
--- faults stays.
+-- Why a store was not opened: the disk failed, there was no memory, or where the disk tells its files, they have this
+-- fault. Unless the disk failed, its count of faults stays.
 abbrev pub IsCause : {D : Type 0} → Ghosts D → Config → D → D → OpenFault → Type 0
 IsCause ghosts config old new fault = (fault ≡ OfDisk → disk.Rose (ghosts.faults old) (ghosts.faults new))
     × (fault ≢ NoRoom → fault ≢ OfDisk → (t : Told) → ghosts.told old ≡ Some t → files config t.files ≡ Err fault)
     × (fault ≢ OfDisk → ghosts.faults new ≡ ghosts.faults old) × IsSound fault
 
 -- The store was not opened, and its disk is as before: for a fault, whose line was written; or because memory ran out.
-pub record StaysShut {D K : Type 0} (ghosts : Ghosts D) (s : Script) (old new : D) (sink : SinkGhosts K) (before now : K) (left : Option Trace) (status : Status) : Type 0 where
+pub record StaysShut {D K : Type 0} (ghosts : Ghosts D) (s : Script) (old new : D) (sink : SinkGhosts K)
+    (before now : K) (left : Option Trace) (status : Status) : Type 0 where
   pub no_trace : left ≡ None
   pub quiet : IsQuiet ghosts old new
   pub cause : ((fault : OpenFault) × (fault_status fault ≡ status) × IsCause ghosts s.settings.config old new fault

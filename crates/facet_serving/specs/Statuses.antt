@@ -5,7 +5,8 @@ use Rattle.facet_replies.specs.NamedFaults.{text_field, number_field, digest_fie
 use Rattle.store_opening.specs.declared.fault.OpenFault.{OpenFault}
 use Rattle.store_opening.specs.declared.fault.OpenFault.TheVariants as faults
 use Rattle.facet_serving.specs.declared.status.Status.{Status}
-use Rattle.facet_serving.specs.declared.status.Status.TheVariants.{Done, BadWords, ReadFault, WriteFault, BadScript, DiskFault, BadStore, NoMemory, TooLong, OtherConfig}
+use Rattle.facet_serving.specs.declared.status.Status.TheVariants.{Done, BadWords, ReadFault, WriteFault, BadScript}
+use Rattle.facet_serving.specs.declared.status.Status.TheVariants.{DiskFault, BadStore, NoMemory, TooLong, OtherConfig}
 
 -- the exit status of the program
 abbrev pub exit_code : Status → ℕ
@@ -49,9 +50,14 @@ abbrev pub open_line : OpenFault → List ℕ
 open_line faults.Disk = status_line DiskFault
 open_line (faults.Missing name) = named_fault_line (codes "missing") (text_field (codes "file") (name_text name) ∷ [])
 open_line (faults.Damaged name kept digest) =
-    named_fault_line (codes "damaged") (text_field (codes "file") (name_text name) ∷ digest_field (codes "kept") kept ∷ digest_field (codes "found") digest ∷ [])
-open_line (faults.Malformed name at) = named_fault_line (codes "malformed") (text_field (codes "file") (name_text name) ∷ number_field (codes "at") at ∷ [])
-open_line (faults.Uncovered needs has) = named_fault_line (codes "uncovered") (number_field (codes "needs") needs ∷ number_field (codes "has") has ∷ [])
-open_line (faults.NumbersSpent greatest) = named_fault_line (codes "numbers_spent") (number_field (codes "number") greatest ∷ [])
+    named_fault_line (codes "damaged")
+    (text_field (codes "file") (name_text name) ∷ digest_field (codes "kept") kept
+    ∷ digest_field (codes "found") digest ∷ [])
+open_line (faults.Malformed name at) = named_fault_line (codes "malformed")
+    (text_field (codes "file") (name_text name) ∷ number_field (codes "at") at ∷ [])
+open_line (faults.Uncovered needs has) =
+    named_fault_line (codes "uncovered") (number_field (codes "needs") needs ∷ number_field (codes "has") has ∷ [])
+open_line (faults.NumbersSpent greatest) =
+    named_fault_line (codes "numbers_spent") (number_field (codes "number") greatest ∷ [])
 open_line (faults.OtherConfig dim) = named_fault_line (codes "other_config") (text_field (codes "dim") dim ∷ [])
 open_line faults.NoMemory = status_line NoMemory

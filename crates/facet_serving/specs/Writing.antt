@@ -8,10 +8,13 @@ use Rattle.facet_io.specs.declared.sink.Sink.{Ghosts as SinkGhosts}
 abbrev pub WritesLine : {K : Type 0} → SinkGhosts K → K → K → List ℕ → Type 0
 WritesLine sink before now line =
     (Appends (sink.written before) (sink.written now) line × (sink.faults now ≡ sink.faults before))
-    ⊎ (Rose (sink.faults before) (sink.faults now) × ((n : ℕ) × Appends (sink.written before) (sink.written now) (take n line)))
+    ⊎ (Rose (sink.faults before) (sink.faults now)
+    × ((n : ℕ) × Appends (sink.written before) (sink.written now) (take n line)))
 
--- the lines were written and then one more, and no fault counted, or where the count of faults rose a prefix of that one
+-- the lines were written and then one more, and no fault counted, or where the count of faults rose a prefix of that
+-- one
 abbrev pub WritesBehind : {K : Type 0} → SinkGhosts K → K → K → List ℕ → List ℕ → Type 0
 WritesBehind sink before now lines line =
     (Appends (sink.written before) (sink.written now) (lines ++ line) × (sink.faults now ≡ sink.faults before))
-    ⊎ (Rose (sink.faults before) (sink.faults now) × ((n : ℕ) × Appends (sink.written before) (sink.written now) (lines ++ take n line)))
+    ⊎ (Rose (sink.faults before) (sink.faults now)
+    × ((n : ℕ) × Appends (sink.written before) (sink.written now) (lines ++ take n line)))

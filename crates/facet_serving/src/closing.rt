@@ -2,8 +2,8 @@ ghost use Rattle.std.specs.Prelude.{◌≡◌, ◌≤◌, ◌<◌, Some, length,
 ghost use Rattle.facet_replies.specs.LastLine.{last_line};
 ghost use Rattle.facet_serving.specs.Closing.{Closes, IsWritten};
 
+use crate::reporting::write_status;
 use crate::status::{Ended, Status};
-use crate::telling::tell_line;
 use facet_disk::Disk;
 use facet_engine::{EndedSystem, Trace};
 use facet_io::{Sink, write_all};
@@ -16,7 +16,8 @@ use std::alloc::Global;
 fn end_line(alloc: Global, opened: (u64, u32), trace: &Trace) -> Result<Vec<u8>, NoMemory>
     requires documents { opened.0 ≤ length trace.now.sessions.items }
     requires labels { (0 < opened.1) × (opened.1 ≤ length trace.now.labels) }
-    ensures { IfOk result (λ line. line.items ≡ last_line opened.0 opened.1 trace.now.labels (drop opened.0 trace.now.sessions.items)) }
+    ensures { IfOk result (λ line. line.items
+        ≡ last_line opened.0 opened.1 trace.now.labels (drop opened.0 trace.now.sessions.items)) }
 {
     let mut line = Vec::new(alloc);
     let added = &trace.sessions[opened.0 as usize..];
@@ -34,7 +35,8 @@ pub(crate) fn write<K: Sink>(sink: &mut K, line: &[u8]) -> Status
     }
 }
 
-/// Ends an invocation after its phases: writes the last line if all were carried out, or the line of `NoMemory` if memory ran out.
+/// Ends an invocation after its phases: writes the last line if all were carried out, or the line of `NoMemory` if
+/// memory ran out.
 pub(crate) fn close<K: Sink, D: Disk>(
     alloc: Global,
     sink: &mut K,
@@ -45,7 +47,8 @@ pub(crate) fn close<K: Sink, D: Disk>(
     requires labels { (0 < opened.1) × (opened.1 ≤ length ran.ended.trace.labels) }
     ensures trace { result.trace ≡ Some ran.ended.trace }
     ensures disk { result.disk ≡ ran.ended.disk }
-    ensures closes { Closes (last_line opened.0 opened.1 ran.ended.trace.labels (drop opened.0 ran.ended.trace.sessions.items))
+    ensures closes { Closes (last_line opened.0 opened.1 ran.ended.trace.labels
+        (drop opened.0 ran.ended.trace.sessions.items))
         ran.result K.Sink sink.old sink.new result.status }
 {
     let RanToEnd { result, ended } = ran;
@@ -57,10 +60,10 @@ pub(crate) fn close<K: Sink, D: Disk>(
     let status = match result {
         Ok(()) => match end_line(alloc, opened, &trace) {
             Ok(line) => write(sink, &line),
-            Err(NoMemory) => tell_line(sink, Status::NoMemory),
+            Err(NoMemory) => write_status(sink, Status::NoMemory),
         },
         Err(PhaseFault::Write) => Status::WriteFault,
-        Err(PhaseFault::NoMemory) => tell_line(sink, Status::NoMemory),
+        Err(PhaseFault::NoMemory) => write_status(sink, Status::NoMemory),
     };
     Ended {
         status,

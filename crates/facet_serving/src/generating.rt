@@ -2,17 +2,17 @@ ghost use Rattle.std.specs.Prelude.{◌≡◌, ◌≤◌, ◌⊎◌, Some, IfOk}
 ghost use Rattle.facet_disk.specs.Calls.{Rose};
 ghost use Rattle.facet_disk.specs.Images.{Told};
 ghost use Rattle.facet_engine.specs.Opening.{IsReady};
-ghost use Rattle.facet_words.specs.Sessions.CommandViews.{script_view};
-ghost use Rattle.facet_words.specs.Sessions.Laws.{AreInOrder};
+ghost use Rattle.facet_words.specs.CommandViews.{script_view};
+ghost use Rattle.facet_words.specs.ScriptOrder.{AreInOrder};
 ghost use Rattle.generator.specs.Generated.{generated};
 ghost use Rattle.facet_serving.specs.Generating.{ClosesSummed, Generates, IsLineOf, WritesSummary};
 ghost use Rattle.facet_serving.specs.Serving.{GoesOnBehind, StaysShut};
 
 use crate::closing::write;
-use crate::serving::carry_out;
+use crate::reporting::{report_open_fault, report_status, write_status};
+use crate::serving::run_on_store;
 use crate::status::{Ended, Status};
 use crate::tallying::Counted;
-use crate::telling::{tell, tell_line, tell_of_store};
 use commit_store::NotOpened;
 use facet_disk::Disk;
 use facet_engine::{EndedSystem, Store};
@@ -20,7 +20,7 @@ use facet_io::Sink;
 use facet_names::NoMemory;
 use facet_phases::{Gate, PhaseFault, RanToEnd};
 use facet_replies::write_summary;
-use facet_words::sessions::Script;
+use facet_words::Script;
 use generator::{Tally, script_for};
 use std::alloc::Global;
 use std::hash::RandomState;
@@ -45,7 +45,7 @@ fn write_summed<K: Sink>(alloc: Global, sink: &mut K, total: Tally) -> Status
 {
     match summary_line(alloc, total) {
         Ok(line) => write(sink, &line),
-        Err(NoMemory) => tell_line(sink, Status::NoMemory),
+        Err(NoMemory) => write_status(sink, Status::NoMemory),
     }
 }
 
@@ -60,11 +60,12 @@ fn close_summed<K: Sink>(
 {
     match phases {
         Ok(()) => write_summed(alloc, sink, total),
-        Err(_) => tell_line(sink, Status::NoMemory),
+        Err(_) => write_status(sink, Status::NoMemory),
     }
 }
 
-// Ends a run whose phases ended so, with the line of the summary where all were carried out, and without memory with the line of that.
+// Ends a run whose phases ended so, with the line of the summary where all were carried out, and without memory with
+// the line of that.
 fn sum_up<K: Sink, D: Disk>(alloc: Global, sink: &mut K, total: Tally, ran: RanToEnd<D>) -> Ended<D>
     ensures trace { result.trace ≡ Some ran.ended.trace }
     ensures disk { result.disk ≡ ran.ended.disk }
@@ -96,14 +97,16 @@ fn serve_generated<R: Threads + Wait + Sync, K: Sink, D: Disk, G: Gate + Sync>(
     requires ready { IsReady D.Disk script.settings.config store }
     requires order { AreInOrder (script_view script).phases }
     requires next { GoesOnBehind D.Disk store }
-    ensures { Generates D.Disk (script_view script) store.start.value result.disk K.Sink sink.old sink.new result.trace result.status
+    ensures { Generates D.Disk (script_view script) store.start.value result.disk K.Sink sink.old sink.new
+        result.trace result.status
         ⊎ ((result.status ≡ Status.NoMemory)
-        × StaysShut D.Disk (script_view script) store.start.value result.disk K.Sink sink.old sink.new result.trace result.status) }
+        × StaysShut D.Disk (script_view script) store.start.value result.disk K.Sink sink.old sink.new result.trace
+        result.status) }
 {
     let mut total = Tally::new();
-    match carry_out::<R, Tally, D, G, Counted>(rt, alloc, store, script, &mut total, gate) {
+    match run_on_store::<R, Tally, D, G, Counted>(rt, alloc, store, script, &mut total, gate) {
         Ok(carried) => sum_up(alloc, sink, total, carried.ran),
-        Err(disk) => tell(sink, Status::NoMemory, disk),
+        Err(disk) => report_status(sink, Status::NoMemory, disk),
     }
 }
 
@@ -118,20 +121,23 @@ fn run_generated_script<R: Threads + Wait + Sync, K: Sink, D: Disk, G: Gate + Sy
     script: Script,
 ) -> Ended<D>
     requires { AreInOrder (script_view script).phases }
-    ensures served { Generates D.Disk (script_view script) disk result.disk K.Sink sink.old sink.new result.trace result.status
+    ensures served { Generates D.Disk
+        (script_view script) disk result.disk K.Sink sink.old sink.new result.trace result.status
         ⊎ StaysShut D.Disk (script_view script) disk result.disk K.Sink sink.old sink.new result.trace result.status }
-    ensures failed { result.status ≡ Status.DiskFault → (t : Told) → D.told disk ≡ Some t → Rose (D.failures disk) (D.failures result.disk) }
+    ensures failed { result.status ≡ Status.DiskFault → (t : Told) → D.told disk ≡ Some t
+        → Rose (D.failures disk) (D.failures result.disk) }
 {
     let Ok(config) = script.settings.config.dup() else {
-        return tell(sink, Status::NoMemory, disk);
+        return report_status(sink, Status::NoMemory, disk);
     };
     match Store::open(alloc, keys, disk, config) {
         Ok(store) => serve_generated(rt, alloc, store, script, sink, gate),
-        Err(NotOpened { fault, disk }) => tell_of_store(alloc, sink, fault, disk),
+        Err(NotOpened { fault, disk }) => report_open_fault(alloc, sink, fault, disk),
     }
 }
 
-/// Generates documents on the store of a disk with concurrent sessions, and writes one line, the summary of the replies. It keeps all documents in memory.
+/// Generates documents on the store of a disk with concurrent sessions, and writes one line, the summary of the
+/// replies. It keeps all documents in memory.
 ///
 /// If a command runs out of memory, the line of `NoMemory` is written in place of the summary.
 pub fn run_generated<R: Threads + Wait + Sync, K: Sink, D: Disk, G: Gate + Sync>(
@@ -146,12 +152,15 @@ pub fn run_generated<R: Threads + Wait + Sync, K: Sink, D: Disk, G: Gate + Sync>
 ) -> Ended<D>
     requires some { 1 ≤ sessions }
     requires few { sessions ≤ 64 }
-    ensures served { Generates D.Disk (generated documents sessions) disk result.disk K.Sink sink.old sink.new result.trace result.status
-        ⊎ StaysShut D.Disk (generated documents sessions) disk result.disk K.Sink sink.old sink.new result.trace result.status }
-    ensures failed { result.status ≡ Status.DiskFault → (t : Told) → D.told disk ≡ Some t → Rose (D.failures disk) (D.failures result.disk) }
+    ensures served { Generates D.Disk
+        (generated documents sessions) disk result.disk K.Sink sink.old sink.new result.trace result.status
+        ⊎ StaysShut D.Disk (generated documents sessions) disk result.disk K.Sink sink.old sink.new result.trace
+        result.status }
+    ensures failed { result.status ≡ Status.DiskFault → (t : Told) → D.told disk ≡ Some t
+        → Rose (D.failures disk) (D.failures result.disk) }
 {
     match script_for(alloc, keys, documents, sessions) {
         Ok(script) => run_generated_script(rt, alloc, keys, sink, disk, gate, script),
-        Err(NoMemory) => tell(sink, Status::NoMemory, disk),
+        Err(NoMemory) => report_status(sink, Status::NoMemory, disk),
     }
 }

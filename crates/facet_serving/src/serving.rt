@@ -5,23 +5,23 @@ ghost use Rattle.facet_disk.specs.Calls.{Rose};
 ghost use Rattle.facet_disk.specs.Images.{Told};
 ghost use Rattle.facet_engine.specs.Opening.{IsReady};
 ghost use Rattle.facet_phases.specs.Ending.{BreaksBehind};
-ghost use Rattle.facet_words.specs.Sessions.CommandViews.{script_view};
-ghost use Rattle.facet_words.specs.Sessions.Laws.{AreInOrder};
+ghost use Rattle.facet_words.specs.CommandViews.{script_view};
+ghost use Rattle.facet_words.specs.ScriptOrder.{AreInOrder};
 ghost use Rattle.store_opening.specs.Quiet.{IsQuiet};
 ghost use Rattle.store_opening.specs.Settled.{IsSettled};
 ghost use Rattle.facet_serving.specs.Serving.{GoesOnBehind, IsCarried, Serves, StaysShut};
 
 use crate::closing::close;
-use crate::counting::count_sessions;
+use crate::reporting::{report_open_fault, report_status};
+use crate::session_numbers::greatest_session;
 use crate::status::{Ended, Status};
-use crate::telling::{tell, tell_of_store};
 use commit_store::NotOpened;
 use commit_turns::Start;
 use facet_disk::Disk;
 use facet_engine::{Store, System};
 use facet_io::Sink;
 use facet_phases::{Collector, Gate, Lines, Output, RanToEnd, run_to_end};
-use facet_words::sessions::Script;
+use facet_words::Script;
 use std::alloc::Global;
 use std::hash::RandomState;
 use std::marker::Brand;
@@ -37,7 +37,7 @@ pub(crate) struct Carried<D: Disk> {
 }
 
 // Carries out a script on a store, whose labels the name names. Without memory for the system it gives the disk back.
-fn carry_out_over<
+fn run_with_name<
     N: Name + Start + Send + Sync,
     R: Threads + Wait + Sync,
     O: Output<C>,
@@ -56,11 +56,15 @@ fn carry_out_over<
     requires order { AreInOrder (script_view script).phases }
     requires next { GoesOnBehind D.Disk store }
     requires name { store.labels ≡ N.labels }
-    requires told { (N.told → (t : Told) × (D.told store.start.value ≡ Some t)) × ((t : Told) → D.told store.start.value ≡ Some t → N.told) }
+    requires told { (N.told → (t : Told) × (D.told store.start.value ≡ Some t))
+        × ((t : Told) → D.told store.start.value ≡ Some t → N.told) }
     requires settled { (N.settled → WasSettled D.Disk script.settings.config store.start.value)
-        × ((t : Told) → D.told store.start.value ≡ Some t → IsSettled D.Disk script.settings.config t store.start.value → N.settled) }
-    requires quiet { N.quiet (state_of D.Disk store.committer.disk) × ((d : D) → N.quiet (state_of D.Disk d) → IsQuiet D.Disk store.start.value d) }
-    ensures carried { IfOk result (λ c. IsCarried D.Disk (script_view script) store.start.value (O.flushes out.old out.new)
+        × ((t : Told) → D.told store.start.value ≡ Some t → IsSettled D.Disk script.settings.config t store.start.value
+        → N.settled) }
+    requires quiet { N.quiet (state_of D.Disk store.committer.disk)
+        × ((d : D) → N.quiet (state_of D.Disk d) → IsQuiet D.Disk store.start.value d) }
+    ensures carried { IfOk result
+        (λ c. IsCarried D.Disk (script_view script) store.start.value (O.flushes out.old out.new)
         (BreaksBehind O.flushes O.breaks out.old out.new) c.opened c.ran) }
     ensures quiet { IfErr result (λ disk. IsQuiet D.Disk store.start.value disk) }
     ensures still { OnErr result (out.new ≡ out.old) }
@@ -68,7 +72,7 @@ fn carry_out_over<
     let Script { settings, phases } = script;
     match System::<D, N>::open(alloc, store, settings) {
         Ok((system, first)) => {
-            let sessions = count_sessions(&phases);
+            let sessions = greatest_session(&phases);
             let ran = run_to_end::<D, N, R, G, O, C>(
                 rt, alloc, &system, gate, first, sessions, phases, out,
             );
@@ -82,7 +86,7 @@ fn carry_out_over<
 /// Carries out a script on a store, and hands over what is kept of the replies after each phase.
 ///
 /// Errors: out of memory for the system. The error is the disk.
-pub(crate) fn carry_out<
+pub(crate) fn run_on_store<
     R: Threads + Wait + Sync,
     O: Output<C>,
     D: Disk,
@@ -99,12 +103,13 @@ pub(crate) fn carry_out<
     requires ready { IsReady D.Disk script.settings.config store }
     requires order { AreInOrder (script_view script).phases }
     requires next { GoesOnBehind D.Disk store }
-    ensures carried { IfOk result (λ c. IsCarried D.Disk (script_view script) store.start.value (O.flushes out.old out.new)
+    ensures carried { IfOk result
+        (λ c. IsCarried D.Disk (script_view script) store.start.value (O.flushes out.old out.new)
         (BreaksBehind O.flushes O.breaks out.old out.new) c.opened c.ran) }
     ensures quiet { IfErr result (λ disk. IsQuiet D.Disk store.start.value disk) }
     ensures still { OnErr result (out.new ≡ out.old) }
 {
-    carry_out_over::<Brand, R, O, D, G, C>(rt, alloc, store, script, out, gate)
+    run_with_name::<Brand, R, O, D, G, C>(rt, alloc, store, script, out, gate)
 }
 
 // Carries out a script on a store, and writes the replies after each phase.
@@ -119,18 +124,20 @@ fn serve<R: Threads + Wait + Sync, K: Sink, D: Disk, G: Gate + Sync>(
     requires ready { IsReady D.Disk script.settings.config store }
     requires order { AreInOrder (script_view script).phases }
     requires next { GoesOnBehind D.Disk store }
-    ensures { Serves D.Disk (script_view script) store.start.value result.disk K.Sink sink.old sink.new result.trace result.status
+    ensures { Serves D.Disk (script_view script) store.start.value result.disk K.Sink sink.old sink.new
+        result.trace result.status
         ⊎ ((result.status ≡ Status.NoMemory)
-        × StaysShut D.Disk (script_view script) store.start.value result.disk K.Sink sink.old sink.new result.trace result.status) }
+        × StaysShut D.Disk (script_view script) store.start.value result.disk K.Sink sink.old sink.new result.trace
+        result.status) }
 {
-    match carry_out::<R, K, D, G, Lines>(rt, alloc, store, script, sink, gate) {
+    match run_on_store::<R, K, D, G, Lines>(rt, alloc, store, script, sink, gate) {
         Ok(carried) => close(alloc, sink, carried.opened, carried.ran),
-        Err(disk) => tell(sink, Status::NoMemory, disk),
+        Err(disk) => report_status(sink, Status::NoMemory, disk),
     }
 }
 
-/// Carries out a script on the store of a disk: runs the sessions concurrently, phase after phase, and writes the replies after each phase. The status of the
-/// result says how it ended.
+/// Carries out a script on the store of a disk: runs the sessions concurrently, phase after phase, and writes the
+/// replies after each phase. The status of the result says how it ended.
 pub fn run_script<R: Threads + Wait + Sync, K: Sink, D: Disk, G: Gate + Sync>(
     rt: &R,
     alloc: Global,
@@ -141,15 +148,17 @@ pub fn run_script<R: Threads + Wait + Sync, K: Sink, D: Disk, G: Gate + Sync>(
     script: Script,
 ) -> Ended<D>
     requires { AreInOrder (script_view script).phases }
-    ensures served { Serves D.Disk (script_view script) disk result.disk K.Sink sink.old sink.new result.trace result.status
+    ensures served { Serves D.Disk
+        (script_view script) disk result.disk K.Sink sink.old sink.new result.trace result.status
         ⊎ StaysShut D.Disk (script_view script) disk result.disk K.Sink sink.old sink.new result.trace result.status }
-    ensures failed { result.status ≡ Status.DiskFault → (t : Told) → D.told disk ≡ Some t → Rose (D.failures disk) (D.failures result.disk) }
+    ensures failed { result.status ≡ Status.DiskFault → (t : Told) → D.told disk ≡ Some t
+        → Rose (D.failures disk) (D.failures result.disk) }
 {
     let Ok(config) = script.settings.config.dup() else {
-        return tell(sink, Status::NoMemory, disk);
+        return report_status(sink, Status::NoMemory, disk);
     };
     match Store::open(alloc, keys, disk, config) {
         Ok(store) => serve(rt, alloc, store, script, sink, gate),
-        Err(NotOpened { fault, disk }) => tell_of_store(alloc, sink, fault, disk),
+        Err(NotOpened { fault, disk }) => report_open_fault(alloc, sink, fault, disk),
     }
 }

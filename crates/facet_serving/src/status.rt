@@ -65,8 +65,8 @@ impl Status {
         }
     }
 
-    /// Returns the line that reports the status. It is empty at `Done` and `WriteFault`, and at `BadScript`, `BadStore` and `OtherConfig`, which have a line
-    /// with details.
+    /// Returns the line that reports the status. It is empty at `Done` and `WriteFault`, and at `BadScript`, `BadStore`
+    /// and `OtherConfig`, which have a line with details.
     pub fn line(self) -> &'static [u8]
         ensures { result.now ≡ status_line self }
     {
@@ -85,11 +85,14 @@ impl Status {
     }
 }
 
-/// What remains of an invocation: how it ended, and the disk. If its sessions began, the trace has all labels, and the number of the session of each
-/// operation.
+/// What remains of an invocation: how it ended, and the disk. If its sessions began, the trace has all labels, and the
+/// number of the session of each operation.
 #[derive(Drop)]
 pub struct Ended<D: Disk> {
+    /// How the invocation ended.
     pub status: Status,
+    /// The disk, which can be opened again.
     pub disk: D,
+    /// What the sessions added. `None` if no session began.
     pub trace: Option<Trace>,
 }

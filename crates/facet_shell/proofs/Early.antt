@@ -9,10 +9,10 @@ use Rattle.facet_io.specs.declared.sink.Sink.{Ghosts as SinkGhosts}
 use Rattle.facet_io.specs.declared.source.ReadFault.{ReadFault as Unread}
 use Rattle.facet_io.specs.declared.source.ReadFault.TheVariants as reads
 use Rattle.facet_io.specs.declared.source.Source.{Ghosts as SourceGhosts}
-use Rattle.facet_replies.specs.ReplyLines.{fault_line}
-use Rattle.facet_replies.specs.declared.fault.ScriptFault.{ScriptFault}
-use Rattle.facet_words.specs.Sessions.Commands.{Script}
-use Rattle.facet_words.specs.Sessions.Scripts.{script}
+use Rattle.facet_words.specs.FaultLines.{fault_line}
+use Rattle.facet_words.specs.declared.fault.ScriptFault.{ScriptFault}
+use Rattle.facet_words.specs.Commands.{Script}
+use Rattle.facet_words.specs.Scripts.{script}
 use Rattle.store_opening.specs.Quiet.{IsQuiet}
 use Rattle.facet_serving.specs.Ends.{EndsBefore, TellsOfScript, expected}
 use Rattle.facet_serving.specs.Reading.{ReadsSome, ReadsTooMuch, ReadsWhole, ReadsWithin}

@@ -6,8 +6,8 @@ use Rattle.facet_engine.specs.declared.ending.Trace.{Trace}
 use Rattle.facet_io.specs.Faults.{Rose}
 use Rattle.facet_io.specs.declared.sink.Sink.{Ghosts as SinkGhosts}
 use Rattle.facet_io.specs.declared.source.Source.{Ghosts as SourceGhosts}
-use Rattle.facet_words.specs.Sessions.Commands.{Order, Script}
-use Rattle.facet_words.specs.Sessions.Scripts.{script}
+use Rattle.facet_words.specs.Commands.{Order, Script}
+use Rattle.facet_words.specs.Scripts.{script}
 use Rattle.store_opening.specs.Files.{files}
 use Rattle.store_opening.specs.declared.fault.OpenFault.{OpenFault}
 use Rattle.store_opening.specs.declared.fault.OpenFault.TheVariants as faults

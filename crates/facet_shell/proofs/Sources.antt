@@ -5,9 +5,9 @@ use Rattle.std.proofs.lemmas.Bool.{lt-ltb, le-ltb}
 use Rattle.std.specs.Io.KnownBytes.{Consumes, IsAtEnd}
 use Rattle.facet_disk.specs.Images.{Image}
 use Rattle.facet_io.specs.declared.source.Source.{Ghosts as SourceGhosts}
-use Rattle.facet_replies.specs.declared.fault.ScriptFault.{ScriptFault}
-use Rattle.facet_words.specs.Sessions.Commands.{Script}
-use Rattle.facet_words.specs.Sessions.Scripts.{script}
+use Rattle.facet_words.specs.declared.fault.ScriptFault.{ScriptFault}
+use Rattle.facet_words.specs.Commands.{Script}
+use Rattle.facet_words.specs.Scripts.{script}
 use Rattle.facet_serving.specs.Ends.{expected, script_status}
 use Rattle.facet_serving.specs.Reading.{ReadsSome, ReadsTooMuch, ReadsWhole, script_limit}
 use Rattle.facet_serving.specs.declared.status.Status.TheVariants.{TooLong}

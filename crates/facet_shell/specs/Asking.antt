@@ -10,5 +10,6 @@ use Rattle.facet_shell.specs.declared.program.Asked.TheVariants as asked
 abbrev pub IsAsked : Option Words → Option Asked → Type 0
 IsAsked words None = (reads_script words ≡ false) × (generated_by words ≡ None)
 IsAsked words (Some asked.Script) = (reads_script words ≡ true) × (generated_by words ≡ None)
-IsAsked words (Some (asked.Generated documents sessions)) = (reads_script words ≡ false) × (generated_by words ≡ Some (generated documents sessions))
+IsAsked words (Some (asked.Generated documents sessions)) =
+    (reads_script words ≡ false) × (generated_by words ≡ Some (generated documents sessions))
     × (1 ≤ sessions) × (sessions ≤ 8)

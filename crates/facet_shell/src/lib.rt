@@ -1,5 +1,5 @@
-//! The program as a function: [`run`] reads a script from a source, carries it out on the store of a disk with concurrent sessions, and writes the replies to
-//! a sink.
+//! The program as a function: [`run`] reads a script from a source, carries it out on the store of a disk with
+//! concurrent sessions, and writes the replies to a sink.
 #![tactic(auto)]
 
 mod program;

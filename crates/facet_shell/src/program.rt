@@ -2,7 +2,7 @@ ghost use Rattle.std.specs.Prelude.{◌≡◌, Some, None, IfOk, map, option_map
 ghost use Rattle.std.specs.String.{string_bytes};
 ghost use Rattle.command_line.specs.Words.{reads_script, words_of};
 ghost use Rattle.facet_serving.specs.Generating.{generated_by};
-ghost use Rattle.facet_words.specs.Sessions.Commands.{Script};
+ghost use Rattle.facet_words.specs.Commands.{Script};
 ghost use Rattle.facet_shell.specs.Asking.{IsAsked};
 ghost use Rattle.facet_shell.specs.Runs.{RefusesWords, RunsGenerated, RunsScript, resources};
 
@@ -11,9 +11,8 @@ use facet_disk::Disk;
 use facet_io::{ReadFault, Sink, Source, read_to_end};
 use facet_names::NoMemory;
 use facet_phases::Gate;
-use facet_serving::{Ended, Status, run_generated, run_script, tell, tell_of_script};
-use facet_words::ScriptFault;
-use facet_words::sessions::read_script;
+use facet_serving::{Ended, Status, report_script_fault, report_status, run_generated, run_script};
+use facet_words::{ScriptFault, read_script};
 use std::alloc::Global;
 use std::hash::RandomState;
 use std::sync::Wait;
@@ -25,7 +24,8 @@ const SCRIPT_LIMIT: usize = 67_108_864;
 ///
 /// Errors: out of memory.
 pub fn place(alloc: Global, words: &[String]) -> Result<Option<String>, NoMemory>
-    ensures { IfOk result (λ place. option_map string_bytes place ≡ option_map (λ w. w.dir) (words_of (map string_bytes words.now))) }
+    ensures { IfOk result (λ place. option_map string_bytes place
+        ≡ option_map (λ w. w.dir) (words_of (map string_bytes words.now))) }
 {
     match read_words(alloc, words)? {
         Some(line) => Ok(Some(line.dir)),
@@ -58,7 +58,8 @@ fn asked_by(alloc: Global, words: &[String]) -> Result<Option<Asked>, NoMemory>
     }
 }
 
-// Reads a script from the source to its end, carries it out on the store of the disk, and writes the replies to the sink. What was read is let go before.
+// Reads a script from the source to its end, carries it out on the store of the disk, and writes the replies to the
+// sink. What was read is let go before.
 fn run_read<R: Threads + Wait + Sync, S: Source, K: Sink, D: Disk, G: Gate + Sync>(
     rt: &R,
     alloc: Global,
@@ -68,15 +69,16 @@ fn run_read<R: Threads + Wait + Sync, S: Source, K: Sink, D: Disk, G: Gate + Syn
     disk: D,
     gate: &G,
 ) -> Ended<D>
-    ensures { RunsScript S.Source K.Sink D.Disk (resources source.old sink.old disk) (resources source.new sink.new result.disk) result.trace result.status }
+    ensures { RunsScript S.Source K.Sink D.Disk (resources source.old sink.old disk)
+        (resources source.new sink.new result.disk) result.trace result.status }
 {
     match read_to_end(alloc, source, SCRIPT_LIMIT) {
-        Err(ReadFault::Failed) => tell(sink, Status::ReadFault, disk),
-        Err(ReadFault::TooLong) => tell(sink, Status::TooLong, disk),
-        Err(ReadFault::NoMemory) => tell(sink, Status::NoMemory, disk),
+        Err(ReadFault::Failed) => report_status(sink, Status::ReadFault, disk),
+        Err(ReadFault::TooLong) => report_status(sink, Status::TooLong, disk),
+        Err(ReadFault::NoMemory) => report_status(sink, Status::NoMemory, disk),
         Ok(input) => match read_script(alloc, keys, &input) {
-            Err(ScriptFault::NoMemory) => tell(sink, Status::NoMemory, disk),
-            Err(fault) => tell_of_script(alloc, sink, fault, disk),
+            Err(ScriptFault::NoMemory) => report_status(sink, Status::NoMemory, disk),
+            Err(fault) => report_script_fault(alloc, sink, fault, disk),
             Ok(script) => {
                 drop(input);
                 run_script(rt, alloc, keys, sink, disk, gate, script)
@@ -85,15 +87,20 @@ fn run_read<R: Threads + Wait + Sync, S: Source, K: Sink, D: Disk, G: Gate + Syn
     }
 }
 
-/// Reads a script to its end, opens the store of the disk, carries out the commands of its sessions, and writes their replies. If the arguments ask for
-/// generated documents, it reads nothing, generates them, and writes one line, the summary of the replies.
+/// Reads a script to its end, opens the store of the disk, carries out the commands of its sessions, and writes their
+/// replies. If the arguments ask for generated documents, it reads nothing, generates them, and writes one line, the
+/// summary of the replies.
 ///
-/// - `rt` provides memory and threads. `keys` are hash keys; no result depends on them. `words` are the command-line arguments without the program's name.
-/// - The sessions of a phase run concurrently, each on its own thread. The gate is called before and after each command.
+/// - `rt` provides memory and threads. `keys` are hash keys; no result depends on them. `words` are the command-line
+/// arguments without the program's name.
+/// - The sessions of a phase run concurrently, each on its own thread. The gate is called before and after each
+/// command.
 /// - The replies of a phase are written before the next one begins, and the last line at the end.
-/// - It keeps the script, the documents and the replies of one phase in memory. For generated documents it keeps a summary of the replies.
+/// - It keeps the script, the documents and the replies of one phase in memory. For generated documents it keeps a
+/// summary of the replies.
 /// - It waits for the sessions of each phase, and where the gate waits.
-/// - A commit is written to the disk when it is carried out. Acknowledged commits are durable however the invocation ends.
+/// - A commit is written to the disk when it is carried out. Acknowledged commits are durable however the invocation
+/// ends.
 ///
 /// The result is the status, the disk, and, if sessions began, a trace of what they added. A failure is a status.
 pub fn run<R: AllocGlobal + Threads + Wait + Sync, S: Source, K: Sink, D: Disk, G: Gate + Sync>(
@@ -105,13 +112,18 @@ pub fn run<R: AllocGlobal + Threads + Wait + Sync, S: Source, K: Sink, D: Disk, 
     disk: D,
     gate: &G,
 ) -> Ended<D>
-    // Which promise is kept depends on the words: a script is to be read, or documents are to be generated, or they are refused.
+    // Which promise is kept depends on the words: a script is to be read, or documents are to be generated, or they are
+    // refused.
     ensures script { reads_script (words_of (map string_bytes words.now)) ≡ true
-        → RunsScript S.Source K.Sink D.Disk (resources source.old sink.old disk) (resources source.new sink.new result.disk) result.trace result.status }
+        → RunsScript S.Source K.Sink D.Disk (resources source.old sink.old disk)
+        (resources source.new sink.new result.disk) result.trace result.status }
     ensures generated { (s : Script) → generated_by (words_of (map string_bytes words.now)) ≡ Some s
-        → RunsGenerated S.Source K.Sink D.Disk (resources source.old sink.old disk) (resources source.new sink.new result.disk) result.trace result.status s }
-    ensures refused { reads_script (words_of (map string_bytes words.now)) ≡ false → generated_by (words_of (map string_bytes words.now)) ≡ None
-        → RefusesWords S.Source K.Sink D.Disk (resources source.old sink.old disk) (resources source.new sink.new result.disk) result.trace result.status }
+        → RunsGenerated S.Source K.Sink D.Disk (resources source.old sink.old disk)
+        (resources source.new sink.new result.disk) result.trace result.status s }
+    ensures refused { reads_script (words_of (map string_bytes words.now)) ≡ false
+        → generated_by (words_of (map string_bytes words.now)) ≡ None
+        → RefusesWords S.Source K.Sink D.Disk (resources source.old sink.old disk)
+        (resources source.new sink.new result.disk) result.trace result.status }
 {
     let alloc = rt.alloc();
     match asked_by(alloc, words) {
@@ -124,7 +136,7 @@ pub fn run<R: AllocGlobal + Threads + Wait + Sync, S: Source, K: Sink, D: Disk, 
                 },
             ),
         ) => run_generated(rt, alloc, keys, sink, disk, gate, documents, sessions),
-        Ok(None) => tell(sink, Status::BadWords, disk),
-        Err(NoMemory) => tell(sink, Status::NoMemory, disk),
+        Ok(None) => report_status(sink, Status::BadWords, disk),
+        Err(NoMemory) => report_status(sink, Status::NoMemory, disk),
     }
 }

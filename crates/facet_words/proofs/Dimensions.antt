@@ -10,7 +10,7 @@ use Rattle.facet_model.specs.declared.flags.DimFlags.{DimFlags}
 use Rattle.facet_model.specs.Flags.{Config}
 use Rattle.facet_config.specs.Faults.{declare_fault}
 use Rattle.facet_config.specs.declared.fault.DeclareFault.TheVariants.{BadName, Twice}
-use Rattle.facet_words.specs.Orders.{is_new, config_from}
+use Rattle.facet_words.specs.ConfigLines.{is_new, config_from}
 use Rattle.facet_words.specs.Shapes.{when}
 
 abbrev pub names_of : Config → List (List ℕ)

@@ -1,9 +1,8 @@
 -- Phases, read line by line.
 use Rattle.std.proofs.Common.{◌≡◌, ℕ, ◌+◌, List, [], ◌∷◌, ◌++◌, Some, None, Result, Ok, Err, refl, sym, ap, ◌∙◌, append_assoc, append-nil}
-use Rattle.facet_replies.specs.declared.fault.ScriptFault.{ScriptFault}
-use Rattle.facet_words.specs.Scripts.{◌>>=◌}
-use Rattle.facet_words.specs.Sessions.Commands.{Order}
-use Rattle.facet_words.specs.Sessions.Scripts.{Phases, phases_from, before, line_at}
+use Rattle.facet_words.specs.declared.fault.ScriptFault.{ScriptFault}
+use Rattle.facet_words.specs.Scripts.{◌>>=◌, Phases, phases_from, before, line_at}
+use Rattle.facet_words.specs.Commands.{Order}
 
 -- these phases and these orders of the next one, and then what was read
 abbrev pub behind : List (List Order) → List Order → Result Phases ScriptFault → Result (List (List Order)) ScriptFault

@@ -2,7 +2,7 @@
 use Rattle.std.proofs.Common.{◌≡◌, Bool, true, false, [], ◌∷◌, option_map, refl}
 use Rattle.std.specs.Prelude.{codes}
 use Rattle.serde_json.specs.Data.{Data}
-use Rattle.facet_words.specs.Orders.{plain_of}
+use Rattle.facet_words.specs.CommandLines.{plain_of}
 use Rattle.facet_words.specs.Shapes.{when, keys_among}
 
 pub plain_viewed : {A B : Type 0} (f : A → B) (command : A) (d : Data) → option_map f (plain_of command d) ≡ plain_of (f command) d

@@ -13,14 +13,13 @@ use Rattle.serde_json.specs.Data.{Members, unsigned, object}
 use Rattle.serde_json.specs.Read.{number_of, read, of_json}
 use Rattle.facet_names.specs.declared.fault.NoMemory.{NoMemory}
 use Rattle.facet_words.specs.Lines.{line_data}
-use Rattle.facet_words.specs.Orders.{heading_of, added_of}
+use Rattle.facet_words.specs.CommandLines.{heading_of, added_of, command_of, command_named}
 use Rattle.facet_words.specs.Quick.{IsFound, HasFound, AreMembers}
-use Rattle.facet_words.specs.Sessions.CommandViews.{order_view}
-use Rattle.facet_words.specs.Sessions.Commands.{add}
-use Rattle.facet_words.specs.Sessions.Orders.{command_of, command_named}
-use Rattle.facet_words.specs.Sessions.Scripts.{order_of, ends_phase, line_of, line_at}
+use Rattle.facet_words.specs.CommandViews.{order_view}
+use Rattle.facet_words.specs.Commands.{add}
+use Rattle.facet_words.specs.Scripts.{order_of, ends_phase, line_of, line_at}
 use Rattle.facet_words.specs.declared.quick.found.Found.{Found}
-use Rattle.facet_words.specs.declared.sessions.command.Order.{Order}
+use Rattle.facet_words.specs.declared.command.Order.{Order}
 
 -- ---- numbers
 

@@ -4,15 +4,14 @@ use Rattle.std.specs.Prelude.{◌&&◌, nat_le, if◌then◌else◌}
 use Rattle.std.specs.List.{list_all}
 use Rattle.std.proofs.lemmas.Bool.{lt-ltb, le-leb, leb-true, and_from, and_parts}
 use Rattle.serde_json.specs.Data.{Data}
-use Rattle.facet_replies.specs.declared.fault.ScriptFault.{ScriptFault}
-use Rattle.facet_replies.specs.declared.fault.ScriptFault.TheVariants.{NotJson, BadShape, BadSession}
+use Rattle.facet_words.specs.declared.fault.ScriptFault.{ScriptFault}
+use Rattle.facet_words.specs.declared.fault.ScriptFault.TheVariants.{NotJson, BadShape, BadSession}
 use Rattle.facet_words.specs.Lines.{line_data}
-use Rattle.facet_words.specs.Scripts.{◌>>=◌, or_fault}
+use Rattle.facet_words.specs.Scripts.{◌>>=◌, or_fault, in_session, order_of, ends_phase, line_of, line_at, Phases, before, phases_from, phases_of}
 use Rattle.facet_words.specs.Shapes.{is_within}
-use Rattle.facet_words.specs.Sessions.Commands.{Command, Order}
-use Rattle.facet_words.specs.Sessions.Laws.{lines_rise, orders_in, AreInOrder}
-use Rattle.facet_words.specs.Sessions.Orders.{command_of}
-use Rattle.facet_words.specs.Sessions.Scripts.{in_session, order_of, ends_phase, line_of, line_at, Phases, before, phases_from, phases_of}
+use Rattle.facet_words.specs.Commands.{Command, Order}
+use Rattle.facet_words.specs.ScriptOrder.{lines_rise, orders_in, AreInOrder}
+use Rattle.facet_words.specs.CommandLines.{command_of}
 use Rattle.std.proofs.lemmas.Option.{same_Some}
 
 -- ---- what was read, step by step

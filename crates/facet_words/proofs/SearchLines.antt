@@ -2,10 +2,8 @@
 use Rattle.std.proofs.Common.{◌≡◌, ℕ, List, [], ◌∷◌, Option, Some, option_map}
 use Rattle.std.specs.Prelude.{codes}
 use Rattle.serde_json.specs.Data.{Data}
-use Rattle.facet_words.specs.Commands.{Search}
-use Rattle.facet_words.specs.Orders.{search_with}
-use Rattle.facet_words.specs.Sessions.Commands.{search}
-use Rattle.facet_words.specs.Sessions.Orders.{on_of, search_of}
+use Rattle.facet_words.specs.Commands.{Search, search}
+use Rattle.facet_words.specs.CommandLines.{search_with, on_of, search_of}
 use Rattle.facet_words.specs.Shapes.{◌>>=◌}
 
 pub searched : (d : Data) (on : Option (List ℕ)) (s : Option Search) → Some on ≡ on_of d

@@ -6,7 +6,7 @@ use Rattle.serde_json.specs.Find.{as_bool}
 use Rattle.facet_model.specs.Asks.{Asked}
 use Rattle.facet_model.specs.Queries.{QueryTree, all}
 use Rattle.facet_words.specs.Commands.{Search}
-use Rattle.facet_words.specs.Orders.{ask_of, search_parts, search_with}
+use Rattle.facet_words.specs.CommandLines.{ask_of, search_parts, search_with}
 use Rattle.facet_words.specs.Queries.{query_of}
 use Rattle.facet_words.specs.Shapes.{◌>>=◌, when, whole_within, list_within, path, key_or, keys_among}
 

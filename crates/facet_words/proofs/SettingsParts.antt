@@ -5,7 +5,7 @@ use Rattle.serde_json.specs.Data.{Data}
 use Rattle.serde_json.specs.Find.{as_bool}
 use Rattle.facet_model.specs.Flags.{Config}
 use Rattle.facet_words.specs.Commands.{Settings}
-use Rattle.facet_words.specs.Orders.{dimension_of, config_from, settings_of}
+use Rattle.facet_words.specs.ConfigLines.{dimension_of, config_from, settings_of}
 use Rattle.facet_words.specs.Shapes.{◌>>=◌, when, whole_within, list_of, key_or, keys_among}
 
 abbrev made : Config → ℕ → ℕ → ℕ → ℕ → Bool → Settings

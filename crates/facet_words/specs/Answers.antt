@@ -1,5 +1,7 @@
 -- Which replies to a session that runs alone are right, and which lines they are.
-use Rattle.std.specs.Prelude.{◌≡◌, ◌≤◌, ◌⊎◌, ◌^◌, ℕ, max, nat_le, nat_lt, if◌then◌else◌, List, [], ◌∷◌, ◌++◌, length, take, map, filter, filter_map, flat_map, fold, slice_get, Option, Some, None, option_map}
+use Rattle.std.specs.Prelude.{◌≡◌, ◌≤◌, ◌⊎◌, ◌^◌, ℕ, max, nat_le, nat_lt, if◌then◌else◌, Bool, true, false, List, []}
+use Rattle.std.specs.Prelude.{◌∷◌, ◌++◌, length, take, map, filter, filter_map, flat_map, fold, slice_get, Option, Some}
+use Rattle.std.specs.Prelude.{None, is_none, option_map}
 use Rattle.std.specs.List.{AllZip, enumerate_from}
 use Rattle.facet_names.specs.Labels.{with_label, prefixes, place}
 use Rattle.facet_model.specs.Flags.{Config}
@@ -8,11 +10,15 @@ use Rattle.facet_model.specs.Accepts.{Broken, first_broken}
 use Rattle.facet_model.specs.Asks.{Asked, AskFault, top_of_none, value_not_kept, ask_fault}
 use Rattle.facet_model.specs.Results.{Answer, IsAnswer}
 use Rattle.facet_model.specs.Hits.{hits, is_hit, docs_for}
-use Rattle.facet_words.specs.Commands.{Settings, Search, Command, add, refresh, search, document, stats, commit, merge, Order}
-use Rattle.facet_replies.specs.Replies.{Refusal, broken, labels_full, docs_full, top_zero, dim_value_not_kept, no_such_document, disk_failed, closed, numbers_spent, no_memory, Reply, placed, numbered, found, shown, stats as numbers, merged, refused}
+use Rattle.facet_words.specs.Commands.{Settings, Search, Command, add, refresh, hold, release, search, document, stats}
+use Rattle.facet_words.specs.Commands.{commit, merge, Order}
+use Rattle.facet_replies.specs.Replies.{Refusal, broken, labels_full, docs_full, top_zero, dim_value_not_kept}
+use Rattle.facet_replies.specs.Replies.{no_such_document, disk_failed, closed, numbers_spent, no_memory, Reply, placed}
+use Rattle.facet_replies.specs.Replies.{numbered, found, shown, stats as numbers, merged, refused}
 use Rattle.facet_replies.specs.ReplyLines.{reply_line}
 
--- what a session works on: the labels with the root, the documents, how many documents and labels the last refresh took, and the disk's count of faults at which a commit failed, after which none is made
+-- what a session works on: the labels with the root, the documents, how many documents and labels the last refresh
+-- took, and the disk's count of faults at which a commit failed, after which none is made
 pub record Shelf : Type 0 where
   pub labels : List (List (List ℕ))
   pub docs : List Doc
@@ -22,7 +28,8 @@ pub record Shelf : Type 0 where
 
 -- what was opened, all of which searches see
 abbrev pub opened_shelf : List (List (List ℕ)) → List Doc → Shelf
-opened_shelf labels docs = record { labels = labels; docs = docs; taken = length docs; taken_labels = length labels; closed = None }
+opened_shelf labels docs = record
+    { labels = labels; docs = docs; taken = length docs; taken_labels = length labels; closed = None }
 
 -- the documents that a search sees
 abbrev pub snapshot : Shelf → List Doc
@@ -30,7 +37,8 @@ snapshot shelf = take shelf.taken shelf.docs
 
 -- ---- add
 
--- the labels, and at their end each prefix of a label of the document that is missing, facet by facet, the dimension first
+-- the labels, and at their end each prefix of a label of the document that is missing, facet by facet, the dimension
+-- first
 abbrev pub with_labels : List (List (List ℕ)) → Doc → List (List (List ℕ))
 with_labels labels doc = fold with_label labels (flat_map prefixes doc.labels)
 
@@ -43,14 +51,17 @@ abbrev pub added : Settings → Shelf → Doc → Option Broken → Reply × She
 added settings shelf doc (Some b) = (refused (broken b), shelf)
 added settings shelf doc None =
     let all = with_labels shelf.labels doc in
-    if nat_lt (room settings shelf) (length all) then (refused (labels_full (room settings shelf)), record shelf { labels = take (room settings shelf) all })
-    else (if nat_le settings.max_docs (length shelf.docs) then (refused (docs_full (length shelf.docs)), record shelf { labels = all })
+    if nat_lt (room settings shelf) (length all)
+    then (refused (labels_full (room settings shelf)), record shelf { labels = take (room settings shelf) all })
+    else (if nat_le settings.max_docs (length shelf.docs)
+    then (refused (docs_full (length shelf.docs)), record shelf { labels = all })
     else (placed (length shelf.docs), record shelf { labels = all; docs = shelf.docs ++ doc ∷ [] }))
 
 -- without memory an add leaves the first of the labels that it would have left
 abbrev pub LeavesSome : Settings → Shelf → Doc → Option Broken → Shelf → Type 0
 LeavesSome settings shelf doc (Some b) next = next ≡ shelf
-LeavesSome settings shelf doc None next = (k : ℕ) × (length shelf.labels ≤ k) × (k ≤ room settings shelf) × (next ≡ record shelf { labels = take k (with_labels shelf.labels doc) })
+LeavesSome settings shelf doc None next = (k : ℕ) × (length shelf.labels ≤ k) × (k ≤ room settings shelf)
+    × (next ≡ record shelf { labels = take k (with_labels shelf.labels doc) })
 
 -- ---- search
 
@@ -60,7 +71,8 @@ hits_of docs s = hits docs s.query s.drill
 
 -- the first hits, each with its place among all the documents and its id
 abbrev pub first_hits : List Doc → Search → List (ℕ × List ℕ)
-first_hits docs s = take s.hits (map (λ e. (e.0, e.1.id)) (filter (λ e. is_hit s.query s.drill e.1) (enumerate_from 0 docs)))
+first_hits docs s = take s.hits
+    (map (λ e. (e.0, e.1.id)) (filter (λ e. is_hit s.query s.drill e.1) (enumerate_from 0 docs)))
 
 -- why the ask at a place is refused
 abbrev pub ask_refusal : ℕ → AskFault → Refusal
@@ -69,17 +81,25 @@ ask_refusal at value_not_kept = dim_value_not_kept at
 
 -- the first ask that is refused
 abbrev pub first_refused : Config → List Asked → Option Refusal
-first_refused config asks = slice_get (filter_map (λ e. option_map (ask_refusal e.0) (ask_fault config e.1)) (enumerate_from 0 asks)) 0
+first_refused config asks = slice_get
+    (filter_map (λ e. option_map (ask_refusal e.0) (ask_fault config e.1)) (enumerate_from 0 asks)) 0
 
 -- The reply to a search over these documents, which so many operations made.
 abbrev pub IsFound : Config → ℕ → List Doc → Search → Option Refusal → Reply → Type 0
 IsFound config operations docs s (Some r) reply = reply ≡ refused r
-IsFound config operations docs s None reply = (answers : List Answer) × AllZip (IsAnswer config docs (docs_for s.sideways docs s.query s.drill)) s.asks answers
-    × (reply ≡ found (record { operations = operations; hit_count = length (hits_of docs s); hits = first_hits docs s; answers = answers }))
+IsFound config operations docs s None reply =
+    (answers : List Answer) × AllZip (IsAnswer config docs (docs_for s.sideways docs s.query s.drill)) s.asks answers
+    × (reply ≡ found (record {
+      operations = operations;
+      hit_count = length (hits_of docs s);
+      hits = first_hits docs s;
+      answers = answers;
+    }))
 
 -- ---- document
 
--- The reply that shows what stands at a place: the document with the ordinals of its labels, or else how many documents there are.
+-- The reply that shows what stands at a place: the document with the ordinals of its labels, or else how many documents
+-- there are.
 abbrev pub IsShown : Shelf → ℕ → Option Doc → Reply → Type 0
 IsShown shelf at None reply = reply ≡ refused (no_such_document (length (snapshot shelf)))
 IsShown shelf at (Some doc) reply = (ordinals : List ℕ) × (map (place shelf.labels) doc.labels ≡ map Some ordinals)
@@ -89,7 +109,8 @@ IsShown shelf at (Some doc) reply = (ordinals : List ℕ) × (map (place shelf.l
 
 -- what the last refresh took
 abbrev pub numbers_of : Shelf → Reply
-numbers_of shelf = numbers (record { operations = shelf.taken; labels = shelf.taken_labels; documents = length (snapshot shelf) })
+numbers_of shelf = numbers (record
+    { operations = shelf.taken; labels = shelf.taken_labels; documents = length (snapshot shelf) })
 
 -- ---- commit
 
@@ -103,7 +124,8 @@ IsSpent shelf reply next = (number : ℕ) × (2 ^ 63 ≤ number) × (reply ≡ r
 
 -- the disk failed, at this count, and no later commit is made
 abbrev pub IsFailed : Shelf → Reply → Shelf → Type 0
-IsFailed shelf reply next = (count : ℕ) × (reply ≡ refused (disk_failed count)) × (next ≡ record shelf { closed = Some count })
+IsFailed shelf reply next = (count : ℕ) × (reply ≡ refused (disk_failed count))
+    × (next ≡ record shelf { closed = Some count })
 
 -- The reply to a commit and what it leaves, given the count at which an earlier one failed.
 abbrev pub IsCommitted : Shelf → Option ℕ → Reply → Shelf → Type 0
@@ -112,29 +134,46 @@ IsCommitted shelf None reply next = IsDurable shelf reply next ⊎ IsSpent shelf
 
 -- ---- each command
 
--- the reply is right, and leaves the next shelf
+-- a command that names no held pair
+abbrev pub names_no_pair : Command → Bool
+names_no_pair (hold name) = false
+names_no_pair (release name) = false
+names_no_pair (search on s) = is_none on
+names_no_pair (document on at) = is_none on
+names_no_pair (stats on) = is_none on
+names_no_pair _ = true
+
+-- The reply is right, and leaves the next shelf. A shelf has no held pairs, so no reply to a command that names one is
+-- right.
 abbrev pub IsRight : Settings → Shelf → Command → Reply → Shelf → Type 0
-IsRight settings shelf (add doc) reply next = let r = added settings shelf doc (first_broken settings.config doc) in (reply ≡ r.0) × (next ≡ r.1)
-IsRight settings shelf refresh reply next = (reply ≡ numbered (length shelf.docs)) × (next ≡ record shelf { taken = length shelf.docs; taken_labels = length shelf.labels })
-IsRight settings shelf (search s) reply next = IsFound settings.config shelf.taken (snapshot shelf) s (first_refused settings.config s.asks) reply × (next ≡ shelf)
-IsRight settings shelf (document at) reply next = IsShown shelf at (slice_get (snapshot shelf) at) reply × (next ≡ shelf)
-IsRight settings shelf stats reply next = (reply ≡ numbers_of shelf) × (next ≡ shelf)
+IsRight settings shelf (add doc) reply next =
+    let r = added settings shelf doc (first_broken settings.config doc) in (reply ≡ r.0) × (next ≡ r.1)
+IsRight settings shelf refresh reply next =
+    (reply ≡ numbered (length shelf.docs))
+    × (next ≡ record shelf { taken = length shelf.docs; taken_labels = length shelf.labels })
+IsRight settings shelf (search None s) reply next =
+    IsFound settings.config shelf.taken (snapshot shelf) s (first_refused settings.config s.asks) reply × (next ≡ shelf)
+IsRight settings shelf (document None at) reply next =
+    IsShown shelf at (slice_get (snapshot shelf) at) reply × (next ≡ shelf)
+IsRight settings shelf (stats None) reply next = (reply ≡ numbers_of shelf) × (next ≡ shelf)
 IsRight settings shelf commit reply next = IsCommitted shelf shelf.closed reply next
 IsRight settings shelf merge reply next = (reply ≡ merged) × (next ≡ shelf)
+IsRight settings shelf _ reply next = ⊥
 
--- what a command leaves that found no memory
+-- what a command leaves that found no memory; stats takes none
 abbrev pub IsLeft : Settings → Shelf → Command → Shelf → Type 0
 IsLeft settings shelf (add doc) next = LeavesSome settings shelf doc (first_broken settings.config doc) next
 IsLeft settings shelf refresh next = next ≡ shelf
-IsLeft settings shelf (search s) next = next ≡ shelf
-IsLeft settings shelf (document at) next = next ≡ shelf
-IsLeft settings shelf stats next = ⊥
+IsLeft settings shelf (search None s) next = next ≡ shelf
+IsLeft settings shelf (document None at) next = next ≡ shelf
 IsLeft settings shelf commit next = next ≡ shelf
 IsLeft settings shelf merge next = next ≡ shelf
+IsLeft settings shelf _ next = ⊥
 
 -- it is right, or there was no memory
 abbrev pub RightReply : Settings → Shelf → Command → Reply → Shelf → Type 0
-RightReply settings shelf command reply next = IsRight settings shelf command reply next ⊎ ((reply ≡ refused no_memory) × IsLeft settings shelf command next)
+RightReply settings shelf command reply next =
+    IsRight settings shelf command reply next ⊎ ((reply ≡ refused no_memory) × IsLeft settings shelf command next)
 
 -- ---- a run
 
@@ -143,7 +182,8 @@ abbrev pub RightReplies : Settings → Shelf → List Order → List Reply → S
 RightReplies settings shelf [] [] last = last ≡ shelf
 RightReplies settings shelf [] (r ∷ rs) last = ⊥
 RightReplies settings shelf (o ∷ os) [] last = ⊥
-RightReplies settings shelf (o ∷ os) (r ∷ rs) last = (next : Shelf) × RightReply settings shelf o.command r next × RightReplies settings next os rs last
+RightReplies settings shelf (o ∷ os) (r ∷ rs) last =
+    (next : Shelf) × RightReply settings shelf o.command r next × RightReplies settings next os rs last
 
 -- the lines of the replies to these orders, in their order
 abbrev pub reply_lines : List Order → List Reply → List ℕ

@@ -1,11 +1,12 @@
 -- Scripts, as plain data.
-use Rattle.std.specs.Prelude.{ℕ, List, Bool}
+use Rattle.std.specs.Prelude.{ℕ, List, Bool, Option}
 use Rattle.facet_model.specs.Flags.{Config}
 use Rattle.facet_model.specs.Documents.{Doc}
 use Rattle.facet_model.specs.Asks.{Asked}
 use Rattle.facet_model.specs.Queries.{QueryTree}
 
--- what the config line sets: the declared dimensions, how many documents and labels there may be, the latter with the root, and how the cache of labels is made
+-- what the config line sets: the declared dimensions, how many documents and labels there may be, the latter with the
+-- root, and how the cache of labels is made
 pub record Settings : Type 0 where
   pub config : Config
   pub max_docs : ℕ
@@ -15,7 +16,8 @@ pub record Settings : Type 0 where
   -- whether a refresh and a commit first merge segments, where there are too many
   pub auto_merge : Bool
 
--- What a search has to match and to be under, what it asks to be counted, and how many hits it lists. Sideways each dimension is counted as if the drill did not name it.
+-- What a search has to match and to be under, what it asks to be counted, and how many hits it lists. Sideways each
+-- dimension is counted as if the drill did not name it.
 pub record Search : Type 0 where
   pub query : QueryTree
   pub drill : List (List (List ℕ))
@@ -23,12 +25,15 @@ pub record Search : Type 0 where
   pub asks : List Asked
   pub hits : ℕ
 
+-- With a name, a command sees the pair that the session holds under it; without one, the pair that was published last.
 pub data Command : Type 0 where
   add : Doc → Command
   refresh : Command
-  search : Search → Command
-  document : ℕ → Command
-  stats : Command
+  hold : List ℕ → Command
+  release : List ℕ → Command
+  search : Option (List ℕ) → Search → Command
+  document : Option (List ℕ) → ℕ → Command
+  stats : Option (List ℕ) → Command
   commit : Command
   merge : Command
 
@@ -37,3 +42,8 @@ pub record Order : Type 0 where
   pub session : ℕ
   pub line : ℕ
   pub command : Command
+
+-- the settings, and phase by phase the orders, in line order
+pub record Script : Type 0 where
+  pub settings : Settings
+  pub phases : List (List Order)

@@ -1,10 +1,12 @@
 pub mod Lines
 pub mod Shapes
 pub mod Commands
-pub mod Queries
-pub mod Orders
-pub mod Scripts
 pub mod CommandViews
-pub mod Sessions
+pub mod Queries
+pub mod ConfigLines
+pub mod CommandLines
+pub mod Scripts
+pub mod ScriptOrder
+pub mod FaultLines
 pub mod Answers
 pub mod Quick

@@ -1,5 +1,6 @@
 -- What the value of a query is.
-use Rattle.std.specs.Prelude.{◌≡◌, ◌≤◌, ◌↔◌, ℕ, zero, suc, ◌&&◌, nat_le, if◌then◌else◌, [], ◌∷◌, codes, Option, Some, None}
+use Rattle.std.specs.Prelude.{◌≡◌, ◌≤◌, ◌↔◌, ℕ, zero, suc, ◌&&◌, nat_le, if◌then◌else◌, [], ◌∷◌, codes, Option, Some}
+use Rattle.std.specs.Prelude.{None}
 use Rattle.std.specs.Option.{option_or}
 use Rattle.serde_json.specs.Data.{Data}
 use Rattle.serde_json.specs.Find.{as_str, as_bool}
@@ -26,7 +27,8 @@ lists_of inner d = do
   must ← key_or (codes "must") [] (list_of inner) d
   should ← key_or (codes "should") [] (list_of inner) d
   must_not ← key_or (codes "must_not") [] (list_of inner) d
-  when (keys_among (codes "must" ∷ codes "should" ∷ codes "must_not" ∷ []) d) (bool (queries must) (queries should) (queries must_not))
+  when (keys_among (codes "must" ∷ codes "should" ∷ codes "must_not" ∷ []) d)
+      (bool (queries must) (queries should) (queries must_not))
 
 -- likewise, whatever other keys there are
 unfoldable pub three_of : (Data → Option QueryTree) → Data → Option QueryTree
@@ -53,4 +55,5 @@ query_of d = do
 
 -- what is read with some number of levels is read with another exactly where it has no more
 abbrev pub LevelsAreCounted : Type 0
-LevelsAreCounted = (m n : ℕ) (d : Data) (q : QueryTree) → query_within m d ≡ Some q → (query_within n d ≡ Some q) ↔ (levels q ≤ n)
+LevelsAreCounted = (m n : ℕ) (d : Data) (q : QueryTree) → query_within m d ≡ Some q
+    → (query_within n d ≡ Some q) ↔ (levels q ≤ n)

@@ -1,9 +1,11 @@
 -- What is found in a line that adds a document, as its tokens are read one by one.
-use Rattle.std.specs.Prelude.{◌≡◌, ℕ, ◌≤◌, ◌++◌, Bool, true, List, [], ◌∷◌, codes, Option, Some, None, option_map, if◌then◌else◌}
+use Rattle.std.specs.Prelude.{◌≡◌, ℕ, ◌≤◌, ◌++◌, Bool, true, List, [], ◌∷◌, codes, Option, Some, None, option_map}
+use Rattle.std.specs.Prelude.{if◌then◌else◌}
 use Rattle.json.specs.Token.{Token}
 use Rattle.json.specs.Json as json
 use Rattle.json.specs.Tree.{json_tokens, members_tokens, depth, members_depth}
-use Rattle.serde_json.specs.Data.{Data, Items, no_items, item, Members, no_members, unsigned, number, string, array, put}
+use Rattle.serde_json.specs.Data.{Data, Items, no_items, item, Members, no_members, unsigned, number, string, array}
+use Rattle.serde_json.specs.Data.{put}
 use Rattle.serde_json.specs.Find.{get_member}
 use Rattle.serde_json.specs.Read.{of_json, of_members}
 use Rattle.facet_words.specs.Shapes.{list_within, path, members_among}
@@ -31,7 +33,8 @@ list_items [] = no_items
 list_items (l ∷ ls) = item (array (text_items l)) (list_items ls)
 
 -- these are the members' values under the keys that an add may have, and there is no other key
-pub record IsFound (found : Members) (session : Option ℕ) (adds : Bool) (id text : Option (List ℕ)) (labels : Option (List (List (List ℕ)))) : Type 0 where
+pub record IsFound (found : Members) (session : Option ℕ) (adds : Bool) (id text : Option (List ℕ))
+    (labels : Option (List (List (List ℕ)))) : Type 0 where
   pub s_is : get_member (codes "s") found ≡ option_map (λ n. number (unsigned n)) session
   pub cmd_is : get_member (codes "cmd") found ≡ (if adds then Some (string (codes "add")) else None)
   pub id_is : get_member (codes "id") found ≡ option_map string id
@@ -41,12 +44,15 @@ pub record IsFound (found : Members) (session : Option ℕ) (adds : Bool) (id te
   pub among : members_among add_names found ≡ true
 
 abbrev pub HasFound : Members → Found → Type 0
-HasFound ms f = IsFound ms f.session f.adds (option_map (λ s. s.now) f.id) (option_map (λ s. s.now) f.text) (option_map (λ v. v.items) f.facets)
+HasFound ms f = IsFound ms f.session f.adds (option_map (λ s. s.now) f.id) (option_map (λ s. s.now) f.text)
+    (option_map (λ v. v.items) f.facets)
 
 -- the value of a key comes first among the tokens, and what was found has it
 abbrev pub IsMember : List ℕ → List Token → List Token → Found → Found → Type 0
-IsMember k old new f g = (j : json.Json) × (d : Data) × (old ≡ json_tokens j ++ new) × (of_json j ≡ Some d) × (depth j ≤ 2) × ((ms : Members) → HasFound ms f → HasFound (put k d ms) g)
+IsMember k old new f g = (j : json.Json) × (d : Data) × (old ≡ json_tokens j ++ new) × (of_json j ≡ Some d)
+    × (depth j ≤ 2) × ((ms : Members) → HasFound ms f → HasFound (put k d ms) g)
 
 -- members come first among the tokens, with the brace that closes them, and this was found in them
 abbrev pub AreMembers : List Token → List Token → Found → Type 0
-AreMembers old new f = (all : json.Members) × (ms : Members) × (old ≡ members_tokens all ++ new) × (members_depth all ≤ 2) × (of_members all no_members ≡ Some ms) × HasFound ms f
+AreMembers old new f = (all : json.Members) × (ms : Members) × (old ≡ members_tokens all ++ new)
+    × (members_depth all ≤ 2) × (of_members all no_members ≡ Some ms) × HasFound ms f

@@ -1,5 +1,6 @@
 -- The shapes of values, and the keys of an object, each in its shape. A shape gives what a value means, or None.
-use Rattle.std.specs.Prelude.{◌&&◌, ℕ, nat_le, if◌then◌else◌, Bool, true, false, List, [], ◌∷◌, length, map, Option, Some, None, is_none, option_and_then, option_map}
+use Rattle.std.specs.Prelude.{◌&&◌, ℕ, nat_le, if◌then◌else◌, Bool, true, false, List, [], ◌∷◌, length, map, Option}
+use Rattle.std.specs.Prelude.{Some, None, is_none, option_and_then, option_map}
 use Rattle.std.specs.Option.{option_map_or}
 use Rattle.std.specs.List.{list_any}
 use Rattle.std.specs.Str.{bytes_eq}

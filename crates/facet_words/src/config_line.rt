@@ -1,18 +1,19 @@
-ghost use Rattle.std.specs.Prelude.{◌≡◌, ◌≢◌, [], Ok, Err, IfOk, IfErr, IsTrue, length, option_and_then, option_map, map, string_bytes, codes};
+ghost use Rattle.std.specs.Prelude.{◌≡◌, ◌≢◌, [], Ok, Err, IfOk, IfErr, IsTrue, length, option_and_then, option_map};
+ghost use Rattle.std.specs.Prelude.{map, string_bytes, codes};
 ghost use Rattle.serde_json.specs.View.{view};
 ghost use Rattle.facet_words.specs.CommandViews.{settings_view};
-ghost use Rattle.facet_words.specs.Orders.{dimension_of, config_from, settings_of};
+ghost use Rattle.facet_words.specs.ConfigLines.{dimension_of, config_from, settings_of};
 ghost use Rattle.facet_words.specs.Scripts.{config_of, config_at};
 ghost use Rattle.facet_words.specs.Shapes.{is_within, key_or, list_of};
-ghost use Rattle.facet_replies.specs.declared.fault.ScriptFault.TheVariants.{NoMemory as Memory};
+ghost use Rattle.facet_words.specs.declared.fault.ScriptFault.TheVariants.{NoMemory as Memory};
 
+use crate::fault::ScriptFault;
 use crate::lines::line_value;
 use crate::settings::Settings;
 use crate::shape::{Shaped, flag_at, keys_among, list_of_in, text_in, whole_or};
 use facet_config::{DeclareFault, FacetsConfig};
 use facet_model::DimFlags;
 use facet_names::NoMemory;
-use facet_replies::ScriptFault;
 use serde_json::Value;
 use std::alloc::Global;
 use std::hash::RandomState;
@@ -28,7 +29,7 @@ struct Dimension {
 impl Shaped for Dimension {
     ghost use Rattle.std.specs.Prelude.{ℕ, List, string_bytes};
     ghost use Rattle.facet_model.specs.declared.flags.DimFlags.{DimFlags};
-    ghost use Rattle.facet_words.specs.Orders.{dimension_of};
+    ghost use Rattle.facet_words.specs.ConfigLines.{dimension_of};
 
     ghost Plain = { List ℕ × DimFlags };
 
@@ -41,7 +42,7 @@ impl Shaped for Dimension {
     }
 }
 
-#[tactic(auto, unfolding(crate::specs::Orders::dimension_of))]
+#[tactic(auto, unfolding(crate::specs::ConfigLines::dimension_of))]
 fn dimension_in(alloc: Global, value: &Value) -> Result<Option<Dimension>, NoMemory>
     ensures { IfOk result (λ o. option_map (λ d. (string_bytes d.name, d.flags)) o ≡ dimension_of (view value.now)) }
 {
@@ -110,7 +111,8 @@ fn config_at(
     keys: RandomState,
     value: &Value,
 ) -> Result<Option<FacetsConfig>, NoMemory>
-    ensures { IfOk result (λ o. o ≡ option_and_then config_from (key_or (codes "dims") [] (list_of dimension_of) (view value.now))) }
+    ensures { IfOk result (λ o. o
+        ≡ option_and_then config_from (key_or (codes "dims") [] (list_of dimension_of) (view value.now))) }
 {
     match dimensions_in(alloc, value)? {
         Some(dims) => declared(alloc, keys, &dims),
@@ -182,7 +184,8 @@ fn config_in(alloc: Global, keys: RandomState, value: &Value) -> Result<Settings
     }
 }
 
-/// Reads the settings of the first line, or the fault of that line. `keys` are hash keys for the declared dimensions; no result depends on them.
+/// Reads the settings of the first line, or the fault of that line. `keys` are hash keys for the declared dimensions;
+/// no result depends on them.
 #[tactic(auto, unfolding(crate::specs::Scripts::config_at))]
 pub fn read_settings(alloc: Global, keys: RandomState, line: &[u8]) -> Result<Settings, ScriptFault>
     ensures ok { IfOk result (λ s. config_at line.now ≡ Ok (settings_view s)) }

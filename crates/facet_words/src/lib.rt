@@ -1,18 +1,25 @@
-//! Reads scripts: the lines, their commands, and the first fault. Its specs define which replies to the commands are right.
+//! Reads scripts: the lines, their commands, and the first fault. Its specs define which replies to the commands are
+//! right.
 #![tactic(auto)]
 
-mod asking;
+mod asks;
+mod command;
 mod config_line;
+mod fault;
+mod held_name;
 mod laws;
 mod lines;
+mod order;
 mod parts;
 mod query;
 mod quick;
-pub mod sessions;
+mod script;
 mod settings;
 mod shape;
 
-pub use facet_replies::{Detail, ScriptFault, write_fault, write_named_fault};
+pub use command::{Command, Order, Script};
+pub use fault::{ScriptFault, write_fault};
 pub use laws::levels_are_counted;
 pub use parts::SearchLine;
+pub use script::read_script;
 pub use settings::Settings;

@@ -1,10 +1,10 @@
-//! The parts of commands, whichever sessions a script has.
+//! The parts of commands.
 ghost use Rattle.std.specs.Prelude.{◌≡◌, ◌≤◌, [], IfOk, IsTrue, option_map, length, map, codes};
 ghost use Rattle.serde_json.specs.View.{view};
 ghost use Rattle.facet_model.specs.Queries.{all};
 ghost use Rattle.facet_model.specs.QueryViews.{query_view};
 ghost use Rattle.facet_words.specs.CommandViews.{search_view};
-ghost use Rattle.facet_words.specs.Orders.{added_of, heading_of, place_with, plain_of, search_parts, search_with};
+ghost use Rattle.facet_words.specs.CommandLines.{added_of, heading_of, place_with, plain_of, search_parts, search_with};
 ghost use Rattle.facet_words.specs.Queries.{query_of};
 ghost use Rattle.facet_words.specs.Shapes.{key_or, is_within, list_within, path};
 
@@ -17,10 +17,15 @@ use std::alloc::Global;
 /// A search, whatever documents it sees.
 #[derive(Debug, Drop)]
 pub struct SearchLine {
+    /// Which documents match.
     pub query: Query,
+    /// The paths that the search is drilled down to.
     pub drill: Drill,
+    /// Whether a drilled dimension is counted as if it were not drilled.
     pub sideways: bool,
+    /// The counts that it asks for.
     pub asks: Vec<Ask>,
+    /// How many hits to list, at most.
     pub hits: u32,
 }
 
@@ -48,7 +53,7 @@ pub(crate) fn new_document(
 /// Reads the document of an add, or returns `None` if the object does not have the form of one.
 ///
 /// Errors: out of memory.
-#[tactic(auto, unfolding(crate::specs::Orders::added_of))]
+#[tactic(auto, unfolding(crate::specs::CommandLines::added_of))]
 pub fn added_in(alloc: Global, value: &Value) -> Result<Option<Document>, NoMemory>
     ensures { IfOk result (λ o. o ≡ added_of (view value.now)) }
 {
@@ -91,7 +96,7 @@ fn drill_at(alloc: Global, value: &Value) -> Result<Option<Drill>, NoMemory>
 }
 
 // A search by its parts that take memory, beside the two that do not.
-#[tactic(auto, unfolding(crate::specs::Orders::search_parts))]
+#[tactic(auto, unfolding(crate::specs::CommandLines::search_parts))]
 fn parts_in(
     alloc: Global,
     value: &Value,
@@ -140,8 +145,9 @@ pub fn searched_in(
     parts_in(alloc, value, sideways, hits as u32)
 }
 
-/// Returns the place that a `document` asks for, or `None` if it is not a number of 32 bits or the object has keys that are not in `keys`.
-#[tactic(auto, unfolding(crate::specs::Orders::place_with))]
+/// Returns the place that a `document` asks for, or `None` if it is not a number of 32 bits or the object has keys that
+/// are not in `keys`.
+#[tactic(auto, unfolding(crate::specs::CommandLines::place_with))]
 pub fn place_in(value: &Value, keys: &[&str]) -> Option<u32>
     ensures { result ≡ place_with (map (λ k. k.now) keys.now) (view value.now) }
 {
@@ -154,7 +160,7 @@ pub fn place_in(value: &Value, keys: &[&str]) -> Option<u32>
 }
 
 /// Returns a command that has no further keys, or `None` if the object has some.
-#[tactic(auto, unfolding(crate::specs::Orders::plain_of))]
+#[tactic(auto, unfolding(crate::specs::CommandLines::plain_of))]
 pub fn plain_in<C: Drop>(value: &Value, command: C) -> Option<C>
     ensures { result ≡ plain_of command (view value.now) }
 {
@@ -165,8 +171,9 @@ pub fn plain_in<C: Drop>(value: &Value, command: C) -> Option<C>
     }
 }
 
-/// Returns the number of the session, whether it is valid or not, and the name of the command; or `None` if one of them is missing or has another type.
-#[tactic(auto, unfolding(crate::specs::Orders::heading_of))]
+/// Returns the number of the session, whether it is valid or not, and the name of the command; or `None` if one of them
+/// is missing or has another type.
+#[tactic(auto, unfolding(crate::specs::CommandLines::heading_of))]
 pub fn heading_in<'a>(value: &'a Value) -> Option<(u64, &'a str)>
     ensures { option_map (λ h. (h.0, h.1.now)) result ≡ heading_of (view value.now) }
 {

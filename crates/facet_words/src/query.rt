@@ -44,7 +44,8 @@ fn term_in(alloc: Global, value: &Value) -> Result<Option<Query>, NoMemory>
 
 // A query that has no queries in it.
 fn leaf_in(alloc: Global, value: &Value) -> Result<Option<Query>, NoMemory>
-    ensures { IfOk result (λ o. option_map query_view o ≡ option_or (all_query (view value.now)) (term_query (view value.now))) }
+    ensures { IfOk result (λ o. option_map query_view o
+        ≡ option_or (all_query (view value.now)) (term_query (view value.now))) }
 {
     match all_in(value) {
         Some(query) => Ok(Some(query)),
@@ -73,7 +74,8 @@ fn lists_at(value: &Value) -> Option<&Value>
 // The values of the list under a key, none where the key is not there.
 fn list_at<'a>(value: &'a Value, name: &str) -> Option<&'a [Value]>
     ensures { (shape : Data → Option QueryTree)
-        → option_and_then (λ vs. all_some (map (λ v. shape (view v)) vs)) (option_map (λ s. s.now) result) ≡ key_or name.now [] (list_of shape) (view value.now) }
+        → option_and_then (λ vs. all_some (map (λ v. shape (view v)) vs)) (option_map (λ s. s.now) result)
+        ≡ key_or name.now [] (list_of shape) (view value.now) }
 {
     match value.get(name) {
         Some(found) => {
@@ -130,7 +132,8 @@ fn queries_at(
     name: &str,
     levels: u32,
 ) -> Result<Option<Vec<Query>>, NoMemory>
-    ensures { IfOk result (λ o. option_map (λ v. map query_view v.items) o ≡ key_or name.now [] (list_of (query_within levels)) (view value.now)) }
+    ensures { IfOk result (λ o. option_map (λ v. map query_view v.items) o
+        ≡ key_or name.now [] (list_of (query_within levels)) (view value.now)) }
 {
     match list_at(value, name) {
         Some(list) => each_query(alloc, list, levels),
@@ -140,7 +143,8 @@ fn queries_at(
 
 #[cycle(query_reading)]
 fn each_query(alloc: Global, list: &[Value], levels: u32) -> Result<Option<Vec<Query>>, NoMemory>
-    ensures { IfOk result (λ o. option_map (λ v. map query_view v.items) o ≡ all_some (map (λ v. query_within levels (view v)) list.now)) }
+    ensures { IfOk result (λ o. option_map (λ v. map query_view v.items) o
+        ≡ all_some (map (λ v. query_within levels (view v)) list.now)) }
 {
     let mut out = Vec::new(alloc);
     for value in list {
@@ -175,7 +179,8 @@ fn left_by(query: &Query, left: u32) -> Option<u32>
 
 #[cycle(node_count)]
 fn left_by_all(list: &[Query], left: u32) -> Option<u32>
-    ensures { SomeIff result (list_nodes (queries (map query_view list.now)) ≤ left) (left - list_nodes (queries (map query_view list.now))) }
+    ensures { SomeIff result (list_nodes (queries (map query_view list.now)) ≤ left)
+        (left - list_nodes (queries (map query_view list.now))) }
 {
     let mut left = left;
     for query in list {

@@ -1,4 +1,5 @@
-//! Reads the usual form of a line that adds a document, token by token, without making a JSON value. Every other line is read from its value.
+//! Reads the usual form of a line that adds a document, token by token, without making a JSON value. Every other line
+//! is read from its value.
 mod found;
 mod line;
 mod member;

@@ -5,6 +5,7 @@ use facet_config::FacetsConfig;
 /// The settings of the first line of a script.
 #[derive(Drop)]
 pub struct Settings {
+    /// The flags of the dimensions.
     pub config: FacetsConfig,
     /// The greatest number of documents: 1 to 1,000,000.
     pub max_docs: u32,

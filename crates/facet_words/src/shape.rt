@@ -6,7 +6,8 @@ ghost use Rattle.serde_json.specs.Data.{Data};
 ghost use Rattle.serde_json.specs.Find.{as_bool, as_str};
 ghost use Rattle.serde_json.specs.View.{view};
 ghost use Rattle.facet_names.specs.Paths.{texts};
-ghost use Rattle.facet_words.specs.Shapes.{key, key_or, whole, whole_within, text_within, list_of, list_within, all_some, path, path_from, keys_among as among};
+ghost use Rattle.facet_words.specs.Shapes.{key, key_or, whole, whole_within, text_within, list_of, list_within};
+ghost use Rattle.facet_words.specs.Shapes.{all_some, path, path_from, keys_among as among};
 
 use facet_names::{NoMemory, Path, PathFault};
 use serde_json::{Map, Value};
@@ -30,7 +31,8 @@ pub fn index_in(value: &Value) -> Option<u32>
     }
 }
 
-/// Returns the whole number under a key, or the default if there is no such key. `None` if the value is not a whole number in these limits.
+/// Returns the whole number under a key, or the default if there is no such key. `None` if the value is not a whole
+/// number in these limits.
 pub fn whole_or(value: &Value, name: &str, default: u64, low: u64, high: u64) -> Option<u64>
     requires low { low ≤ default }
     requires high { default ≤ high }
@@ -102,7 +104,8 @@ pub trait Shaped: Drop {
 }
 
 fn each_in<T: Shaped>(alloc: Global, list: &[Value]) -> Result<Option<Vec<T>>, NoMemory>
-    ensures each { IfOk result (λ o. option_map (λ v. map T.plain v.items) o ≡ all_some (map (λ v. T.shape (view v)) list.now)) }
+    ensures each { IfOk result (λ o. option_map (λ v. map T.plain v.items) o
+        ≡ all_some (map (λ v. T.shape (view v)) list.now)) }
     ensures count { IfOk result (λ o. IfSome o (λ v. length v.items ≡ length list.now)) }
 {
     let mut out = Vec::with_capacity(alloc, list.len())?;
@@ -137,7 +140,8 @@ pub fn list_in<T: Shaped>(
     low: usize,
     high: usize,
 ) -> Result<Option<Vec<T>>, NoMemory>
-    ensures each { IfOk result (λ o. option_map (λ v. map T.plain v.items) o ≡ list_within low high T.shape (view value.now)) }
+    ensures each { IfOk result (λ o. option_map (λ v. map T.plain v.items) o
+        ≡ list_within low high T.shape (view value.now)) }
     ensures count { IfOk result (λ o. IfSome o (λ v. length v.items ≤ high)) }
 {
     let Some(list) = value.as_array() else {
@@ -162,7 +166,8 @@ pub fn read_at<T: Shaped>(alloc: Global, value: &Value, name: &str) -> Result<Op
     }
 }
 
-/// Reads the values of an array of at most `high` under a key. No values if there is no such key. `None` if it is not such an array.
+/// Reads the values of an array of at most `high` under a key. No values if there is no such key. `None` if it is not
+/// such an array.
 ///
 /// Errors: out of memory.
 pub fn list_or<T: Shaped>(
@@ -171,7 +176,8 @@ pub fn list_or<T: Shaped>(
     name: &str,
     high: usize,
 ) -> Result<Option<Vec<T>>, NoMemory>
-    ensures each { IfOk result (λ o. option_map (λ v. map T.plain v.items) o ≡ key_or name.now [] (list_within 0 high T.shape) (view value.now)) }
+    ensures each { IfOk result (λ o. option_map (λ v. map T.plain v.items) o
+        ≡ key_or name.now [] (list_within 0 high T.shape) (view value.now)) }
     ensures count { IfOk result (λ o. IfSome o (λ v. length v.items ≤ high)) }
 {
     match value.get(name) {

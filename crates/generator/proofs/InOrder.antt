@@ -6,8 +6,8 @@ use Rattle.std.proofs.lemmas.List.{append-nil}
 use Rattle.std.proofs.lemmas.List.Folds.{list_all-append}
 use Rattle.std.proofs.lemmas.Bool.{lt-ltb, le-leb}
 use Rattle.std.proofs.lemmas.Nat.{mod_below}
-use Rattle.facet_words.specs.Sessions.Commands.{Order}
-use Rattle.facet_words.specs.Sessions.Laws.{AreInOrder, lines_rise}
+use Rattle.facet_words.specs.Commands.{Order}
+use Rattle.facet_words.specs.ScriptOrder.{AreInOrder, lines_rise}
 use Rattle.facet_words.specs.Shapes.{is_within}
 use Rattle.generator.specs.Generated.{add_order, closing_orders, generated_phases}
 

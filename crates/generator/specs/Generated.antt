@@ -1,4 +1,5 @@
--- The script of generated documents: they are added by sessions in turn, and then refreshed, committed and searched by the first session.
+-- The script of generated documents: sessions take turns in adding them, and then the first session refreshes, commits
+-- and searches.
 use Rattle.std.specs.Prelude.{◌==◌, ◌+◌, ◌%◌, ◌++◌, ℕ, if◌then◌else◌, true, false, List, [], ◌∷◌, codes, map, None}
 use Rattle.std.specs.Fmt.{decimal}
 use Rattle.std.specs.List.{range_with_len}
@@ -6,15 +7,15 @@ use Rattle.facet_model.specs.Asks.{Asked, top}
 use Rattle.facet_model.specs.Documents.{Doc}
 use Rattle.facet_model.specs.Flags.{no_flags}
 use Rattle.facet_model.specs.Queries.{term}
-use Rattle.facet_words.specs.Commands.{Settings, Search}
-use Rattle.facet_words.specs.Sessions.Commands.{Order, Script, add, refresh, commit, stats, search}
+use Rattle.facet_words.specs.Commands.{Settings, Search, Order, Script, add, refresh, commit, stats, search}
 
 -- ---- the settings
 
 -- Dates are hierarchical, and tags are multi-valued. Shelves need no declaration.
 abbrev pub generated_settings : Settings
 generated_settings = record {
-  config = (codes "Date", record no_flags { hierarchical = true }) ∷ (codes "Tag", record no_flags { multi_valued = true }) ∷ [];
+  config = (codes "Date", record no_flags { hierarchical = true })
+      ∷ (codes "Tag", record no_flags { multi_valued = true }) ∷ [];
   max_docs = 1000000;
   max_labels = 1000000;
   stripes = 16;
@@ -24,7 +25,7 @@ generated_settings = record {
 
 -- ---- the documents, by their numbers from 0
 
--- its text tells whether the number is even
+-- its text says whether the number is even
 abbrev pub generated_text : ℕ → List ℕ
 generated_text i = if i % 2 == 0 then codes "item even" else codes "item odd"
 
@@ -50,9 +51,9 @@ generated_labels i = shelf_of i ∷ date_of i ∷ first_tag_of i ∷ second_tag_
 unfoldable pub generated_doc : ℕ → Doc
 generated_doc i = record { id = codes "g" ++ decimal i; text = generated_text i; labels = generated_labels i }
 
--- ---- the orders
+-- ---- the commands
 
--- The sessions add the documents in turn. The first document stands on the second line, behind the settings.
+-- The sessions take turns in adding the documents. The first document is on the second line, after the settings.
 unfoldable pub add_order : ℕ → ℕ → Order
 add_order sessions i = record { session = 1 + i % sessions; line = 2 + i; command = add (generated_doc i) }
 
@@ -70,7 +71,7 @@ generated_search = record {
   hits = 10;
 }
 
--- what the first session orders in the end, from this line on
+-- the last commands of the first session, from this line on
 unfoldable pub closing_orders : ℕ → List Order
 closing_orders line =
     record { session = 1; line = line; command = refresh }
@@ -79,9 +80,11 @@ closing_orders line =
     ∷ record { session = 1; line = line + 3; command = search None generated_search }
     ∷ []
 
--- The adds of so many documents by so many sessions, and then, behind the line of a phase, what the first session orders in the end.
+-- The adds of so many documents by so many sessions, and then, after the line of a phase, the last commands of the
+-- first session.
 unfoldable pub generated_phases : ℕ → ℕ → List (List Order)
-generated_phases documents sessions = map (add_order sessions) (range_with_len 0 documents) ∷ closing_orders (documents + 3) ∷ []
+generated_phases documents sessions =
+    map (add_order sessions) (range_with_len 0 documents) ∷ closing_orders (documents + 3) ∷ []
 
 abbrev pub generated : ℕ → ℕ → Script
 generated documents sessions = record { settings = generated_settings; phases = generated_phases documents sessions }

@@ -16,7 +16,7 @@ sizes_told s = (s.documents, s.labels)
 abbrev pub sizes_of : Numbers → ℕ × ℕ
 sizes_of n = (n.documents, n.labels)
 
--- how many documents were hit, and the answers to what was asked of them
+-- how many documents were found, and the answers to the asks
 abbrev pub counts_told : Counts → ℕ × List Answer
 counts_told c = (c.hit_count, map answer_view c.results.items)
 

@@ -2,14 +2,13 @@ ghost use Rattle.std.specs.Prelude.{◌≡◌, ◌≤◌, ◌+◌, ◌∷◌, []
 ghost use Rattle.facet_names.specs.Faults.{path_fault};
 ghost use Rattle.facet_model.specs.AskViews.{ask_view};
 ghost use Rattle.facet_model.specs.QueryViews.{query_view};
-ghost use Rattle.facet_words.specs.Sessions.CommandViews.{command_view, order_view};
-ghost use Rattle.facet_words.specs.Sessions.Commands.{search};
+ghost use Rattle.facet_words.specs.CommandViews.{command_view, order_view};
+ghost use Rattle.facet_words.specs.Commands.{search};
 ghost use Rattle.generator.specs.Generated.{closing_orders, first_ten, generated_search};
 
 use facet_model::{Ask, Drill, Query, Word};
 use facet_names::{NoMemory, Path};
-use facet_words::SearchLine;
-use facet_words::sessions::{Command, Order};
+use facet_words::{Command, Order, SearchLine};
 use std::alloc::Global;
 
 fn query(alloc: Global) -> Result<Query, NoMemory>
@@ -74,7 +73,7 @@ fn by_first(line: u64, command: Command) -> Order
     }
 }
 
-/// What the first session orders in the end, from this line on.
+/// Returns the last commands of the first session, from this line on.
 #[tactic(auto, unfolding(crate::specs::Generated::closing_orders))]
 pub(crate) fn closing_orders(alloc: Global, line: u64) -> Result<Vec<Order>, NoMemory>
     requires { line ≤ 4294967298 }

@@ -17,7 +17,7 @@ fn text(number: u32) -> &'static str
     }
 }
 
-// The labels of a document, copied from those of the first ones.
+// Returns the labels of a document, copied from those of the first documents.
 fn labels(alloc: Global, first: &[Vec<Path>], number: u32) -> Result<Vec<Path>, NoMemory>
     requires { map (λ l. l.items) first.now ≡ map generated_labels (range_with_len 0 60) }
     ensures { IfOk result (λ v. v.items ≡ generated_labels number) }
@@ -26,7 +26,7 @@ fn labels(alloc: Global, first: &[Vec<Path>], number: u32) -> Result<Vec<Path>, 
     dup_paths(alloc, &first[at as usize])
 }
 
-/// The document of this number. The labels of the first ones are at hand, so that no text but the id is made.
+/// Returns the document of this number. The labels of the first documents are given, so only the id is formatted.
 #[tactic(auto, using(crate::proofs::Fitting::doc_fits), unfolding(crate::specs::Generated::generated_doc))]
 pub(crate) fn document(
     alloc: Global,

@@ -5,7 +5,7 @@ ghost use Rattle.generator.specs.Generated.{date_of, first_tag_of, generated_lab
 use facet_names::{NoMemory, Path};
 use std::alloc::Global;
 
-/// After so many documents the labels are the same again.
+/// After this many documents the labels repeat.
 pub(crate) const PERIOD: u32 = 60;
 
 #[tactic(auto, using(crate::proofs::Fitting::shelf_fits))]
@@ -52,7 +52,7 @@ fn labels(alloc: Global, number: u32) -> Result<Vec<Path>, NoMemory>
     Ok(vec![in alloc; shelf, date, first, second]?)
 }
 
-/// The labels of the first documents, up to where they are the same again.
+/// Returns the labels of the first documents, up to where they repeat.
 pub(crate) fn first_labels(alloc: Global) -> Result<Vec<Vec<Path>>, NoMemory>
     ensures { IfOk result (λ v. map (λ l. l.items) v.items ≡ map generated_labels (range_with_len 0 60)) }
 {

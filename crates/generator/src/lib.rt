@@ -1,4 +1,4 @@
-//! A script of generated documents, in memory, and what is kept of the replies to it.
+//! A script of generated documents, in memory, and a summary of the replies to it.
 #![tactic(auto)]
 
 mod closing;

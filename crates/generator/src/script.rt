@@ -1,7 +1,7 @@
 ghost use Rattle.std.specs.Prelude.{◌≡◌, ◌≤◌, IfOk, map};
 ghost use Rattle.std.specs.List.{range_with_len};
-ghost use Rattle.facet_words.specs.Sessions.CommandViews.{order_view, script_view};
-ghost use Rattle.facet_words.specs.Sessions.Laws.{AreInOrder};
+ghost use Rattle.facet_words.specs.CommandViews.{order_view, script_view};
+ghost use Rattle.facet_words.specs.ScriptOrder.{AreInOrder};
 ghost use Rattle.generator.specs.Generated.{add_order, generated, generated_labels, generated_phases};
 
 use crate::closing::closing_orders;
@@ -9,7 +9,7 @@ use crate::documents::document;
 use crate::labels::first_labels;
 use crate::settings::settings;
 use facet_names::{NoMemory, Path};
-use facet_words::sessions::{Command, Order, Script};
+use facet_words::{Command, Order, Script};
 use std::alloc::Global;
 use std::hash::RandomState;
 
@@ -46,16 +46,20 @@ fn adds(alloc: Global, documents: u32, sessions: u32) -> Result<Vec<Order>, NoMe
 fn phases(alloc: Global, documents: u32, sessions: u32) -> Result<Vec<Vec<Order>>, NoMemory>
     requires some { 1 ≤ sessions }
     requires few { sessions ≤ 64 }
-    ensures { IfOk result (λ v. map (λ orders. map order_view orders.items) v.items ≡ generated_phases documents sessions) }
+    ensures { IfOk result (λ v. map (λ orders. map order_view orders.items) v.items
+        ≡ generated_phases documents sessions) }
 {
     let adds = adds(alloc, documents, sessions)?;
     let closing = closing_orders(alloc, documents as u64 + 3)?;
     Ok(vec![in alloc; adds, closing]?)
 }
 
-/// The script that generates so many documents: sessions add them in turn, and then the first of them refreshes, commits, asks for numbers and searches.
+/// Generates the script that adds `documents` documents: `sessions` sessions take turns in adding them, and then the
+/// first session refreshes, commits, asks for the numbers and searches.
 ///
-/// It takes memory for all of the documents. NoMemory where there is not enough. Look-ups of declared dimensions hash names with `keys`.
+/// It allocates memory for all documents. `keys` are hash keys; no result depends on them.
+///
+/// Errors: out of memory.
 pub fn script_for(
     alloc: Global,
     keys: RandomState,

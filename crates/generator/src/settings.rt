@@ -40,7 +40,7 @@ fn config(alloc: Global, keys: RandomState) -> Result<FacetsConfig, NoMemory>
     Ok(config)
 }
 
-/// The settings of generated documents.
+/// Returns the settings of generated documents.
 pub(crate) fn settings(alloc: Global, keys: RandomState) -> Result<Settings, NoMemory>
     ensures { IfOk result (λ s. settings_view s ≡ generated_settings) }
 {

@@ -17,14 +17,14 @@ struct Sizes {
     labels: u32,
 }
 
-/// How many documents a search hit, and the answers to what it asked.
+/// How many documents a search found, and the answers to its asks.
 #[derive(Debug, Drop)]
 struct Counts {
     hit_count: u64,
     results: Vec<FacetAnswer>,
 }
 
-/// What is kept of replies in place of their lines: what their summary needs. Of an add it keeps a count, and it takes no memory.
+/// What the summary of replies needs, in place of their lines. It counts adds and uses no memory for them.
 #[derive(Debug, Drop)]
 pub struct Tally {
     added: u64,
@@ -34,7 +34,7 @@ pub struct Tally {
     counts: Option<Counts>,
 }
 
-// That of one reply.
+// Returns the tally of one reply.
 fn tally_of(reply: Reply) -> Tally
     ensures { IsTallyOf (reply_view reply ∷ []) result }
 {
@@ -84,7 +84,7 @@ fn is_no_memory(refusal: Refusal) -> bool
 }
 
 impl Tally {
-    /// That of no reply.
+    /// Returns the tally of no reply. It allocates nothing.
     pub fn new() -> Tally
         ensures { IsTallyOf [] result }
     {
@@ -97,16 +97,20 @@ impl Tally {
         }
     }
 
-    /// Adds the reply behind those that it has. NoMemory where the count of adds is at its type's end; then it may have kept a part of the reply.
+    /// Adds a reply after the others. It allocates nothing. Errors: `NoMemory` if the count of adds is at 2^64 - 1;
+    /// then a part of the reply may have been added.
     pub fn add(&mut self, reply: Reply) -> Result<(), NoMemory>
-        ensures { OnOk result ((replies : List Answer) → IsTallyOf replies self.old → IsTallyOf (replies ++ reply_view reply ∷ []) self.new) }
+        ensures { OnOk result ((replies : List Answer) → IsTallyOf replies self.old
+            → IsTallyOf (replies ++ reply_view reply ∷ []) self.new) }
     {
         self.join(tally_of(reply))
     }
 
-    /// Adds the replies of another behind its own. NoMemory where the count of adds is at its type's end.
+    /// Adds the replies of another tally after its own. It allocates nothing. Errors: `NoMemory` if the count of adds
+    /// is at 2^64 - 1.
     pub fn join(&mut self, later: Tally) -> Result<(), NoMemory>
-        ensures { OnOk result ((first second : List Answer) → IsTallyOf first self.old → IsTallyOf second later → IsTallyOf (first ++ second) self.new) }
+        ensures { OnOk result ((first second : List Answer) → IsTallyOf first self.old → IsTallyOf second later
+            → IsTallyOf (first ++ second) self.new) }
     {
         let Some(added) = self.added.checked_add(later.added) else {
             return Err(NoMemory);
@@ -120,9 +124,10 @@ impl Tally {
     }
 
     #[tactic(auto)]
-    /// The summary of the replies. None where memory was wanting for one of them.
+    /// Returns the summary of the replies, or `None` if one of them was out of memory.
     pub fn summary(self, alloc: Global) -> Option<Summary>
-        ensures { (replies : List Answer) → IsTallyOf replies self → option_map summary_view result ≡ summary_of replies }
+        ensures { (replies : List Answer) → IsTallyOf replies self
+            → option_map summary_view result ≡ summary_of replies }
     {
         if self.starved {
             return None;

@@ -1,5 +1,5 @@
 -- What an index keeps true of its fields.
-use Rattle.std.specs.Prelude.{◌≡◌, ◌≤◌, ◌+◌, ℕ, true, false, List, length}
+use Rattle.std.specs.Prelude.{◌≡◌, ◌≤◌, ◌+◌, ℕ, true, false, List, length, take}
 use Rattle.facet_model.specs.Flags.{Config}
 use Rattle.facet_model.specs.Stored.{Records}
 use Rattle.seg_terms.specs.declared.entry.Entry.{Entry}
@@ -20,3 +20,7 @@ pub record IsKept (config : Config) (labels : Shown (List (List ℕ))) (segments
   pub each : length sessions ≡ length (docs_under labels segments) + length waiting
   pub few : length sessions ≤ 1000000
   pub most : max_docs ≤ 1000000
+
+-- these are the first of all segments
+abbrev pub IsFirst : List Records → List Records → Type 0
+IsFirst some all = some ≡ take (length some) all

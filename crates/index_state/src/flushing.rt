@@ -4,7 +4,9 @@ ghost use Rattle.std.specs.Arc.{arc_value};
 ghost use Rattle.seg_grammar.specs.Spelling.{IsSegment, seg_bytes};
 ghost use Rattle.seg_terms.specs.Entries.{segment_of};
 ghost use Rattle.seg_documents.specs.Decoding.{flushed, records_in};
+ghost use Rattle.index_state.specs.Kept.{IsFirst};
 
+use arc_list::ArcList;
 use facet_names::NoMemory;
 use seg_file::{Entry, Segment};
 use std::alloc::Global;
@@ -65,6 +67,25 @@ pub fn shared(alloc: Global, segments: &[Arc<Segment>]) -> Result<Vec<Arc<Segmen
         again.push(Arc::try_clone(segment)?)?;
     }
     Ok(again)
+}
+
+/// Returns all segments as a shared list. `shared` has the first of them, as the last such list did; it gets the others too.
+///
+/// It allocates eight bytes per segment that was not in it, per 256 segments, and per segment after the last full piece.
+///
+/// Errors: out of memory. Then `shared` may have got some of them, from the first on.
+pub fn share_all(
+    shared: &mut ArcList<Segment>,
+    segments: &[Arc<Segment>],
+) -> Result<ArcList<Segment>, NoMemory>
+    requires { IsFirst shared.old (map arc_value segments.now) }
+    ensures all { IfOk result (λ list. list ≡ map arc_value segments.now) }
+    ensures begins { IsFirst shared.new (map arc_value segments.now) }
+{
+    let (_, new) = segments.split_at(shared.len());
+    shared.extend_shared(new)?;
+    let list = shared.share()?;
+    Ok(list)
 }
 
 /// The segments from one on once more, and how many documents those before it have.

@@ -29,7 +29,7 @@ pub(crate) fn live_sizes(alloc: Global, segments: &[Arc<Segment>]) -> Result<Vec
 /// Returns one segment of the live documents of these segments, in their order, as [`seg_merge::merge`]. The segments decode under some labels, and at least one
 /// document is live. Under all labels and configs under which they decode, the merged segment decodes to the same documents.
 ///
-/// It needs no turn and waits for nobody. Its time is that of writing the merged segment, with a look-up for each term of each segment. In between it takes
+/// It needs no lock and waits for nobody. Its time is that of writing the merged segment, with a lookup for each term of each segment. Meanwhile it allocates
 /// memory for the terms with their places; the segments and the merged one are in memory together.
 pub fn merge_segments(
     alloc: Global,

@@ -10,16 +10,18 @@ ghost use Rattle.seg_documents.specs.Entries.{IsEntry};
 ghost use Rattle.merge_policy.specs.Tiers.{first_small};
 ghost use Rattle.taxo_cache.specs.Seen.{labels_of, SeesLabels};
 ghost use Rattle.index_state.specs.Index.{StandsFor, StandsForMore, opened, docs_under, DecodeUnder, AreOwn, IsAppended, IsFlushed};
+ghost use Rattle.index_state.specs.Kept.{IsFirst};
 ghost use Rattle.index_state.specs.Merging.{live_sizes, ComeAfter, IsRangeOf, HasNoPlace, IsInstalled};
 ghost use Rattle.index_state.specs.declared.fault.AppendFault.TheVariants.{DocsFull, NoMemory as Memory};
 
 use crate::fault::AppendFault;
-use crate::flushing::{count_documents, flush, put_merged, shared, shared_from, zeros};
+use crate::flushing::{count_documents, flush, put_merged, share_all, shared_from, zeros};
 use crate::merging::{live_sizes, merge_segments};
 use crate::operation::Operation;
 use crate::places::find_range;
 use crate::range::SegmentRange;
 use crate::view::IndexView;
+use arc_list::ArcList;
 use chronicle::{Chronicle, Standing, Token};
 use facet_config::FacetsConfig;
 use facet_names::{NoMemory, Path};
@@ -40,12 +42,15 @@ pub struct IndexState {
     alloc: Global,
     keys: RandomState,
     segments: Vec<Arc<Segment>>,
+    // the first of the segments, as the last snapshot shared them
+    shared: ArcList<Segment>,
     waiting: Vec<Entry>,
     // of each document
     sessions: Vec<u32>,
     config: Arc<FacetsConfig>,
     max_docs: u32,
     labels: Token<Path>,
+    ghost begins: { IsFirst shared (map arc_value segments.items) },
 }
 
 impl Model for IndexState {
@@ -74,7 +79,7 @@ impl Standing for IndexState {
     ghost frame = { λ index. frame_of index };
 }
 
-// A document waits, with its session, behind the others. Without memory both are as before.
+// Adds a document that waits, with its session, after the others. Without memory for both, nothing changes.
 fn add_waiting(
     sessions: &mut Vec<u32>,
     waiting: &mut Vec<Entry>,
@@ -123,6 +128,7 @@ impl IndexState {
             alloc,
             keys,
             segments,
+            shared: ArcList::new(alloc),
             waiting: Vec::new(alloc),
             sessions,
             config,
@@ -177,23 +183,25 @@ impl IndexState {
         Ok(docs)
     }
 
-    /// Returns the index as it is. The documents that wait become a segment first. All segments are shared and none is copied. It allocates eight bytes per
-    /// segment.
+    /// Returns the index as it is. The documents that wait become a segment first. All segments are shared and none is copied.
+    ///
+    /// The list of segments is shared with earlier snapshots in pieces of 256. So it allocates eight bytes per new segment, per 256 segments, and per segment
+    /// after the last full piece, of which there are fewer than 256. Where segments were replaced since the last snapshot, it goes over all of them once.
     ///
     /// Errors: out of memory. The documents that waited may be a segment then.
     pub fn snapshot(&mut self, chronicle: &Chronicle<LabelList>) -> Result<IndexView, NoMemory>
         requires own { self.old.labels.identity ≡ chronicle.now }
         ensures rest { (self.new ≡ self.old) ⊎ IsFlushed self.old self.new }
         ensures flushed { OnOk result (IsFlushed self.old self.new) }
-        ensures segments { IfOk result (λ v. map arc_value v.segments.items ≡ self.new.segments) }
+        ensures segments { IfOk result (λ v. v.segments ≡ self.new.segments) }
         ensures operations { IfOk result (λ v. v.operations ≡ length self.old.docs) }
         ensures note { IfOk result (λ v. IsNoteOf self.old.labels v.labels) }
         ensures labels { IfOk result (λ v. SeesLabels v.labels) }
-        ensures decodes { IfOk result (λ v. Decodes (labels_of v.labels.seen) self.old.config (map arc_value v.segments.items) self.old.docs) }
-        ensures own { IfOk result (λ v. AreOwn (map arc_value v.segments.items)) }
+        ensures decodes { IfOk result (λ v. Decodes (labels_of v.labels.seen) self.old.config v.segments self.old.docs) }
+        ensures own { IfOk result (λ v. AreOwn v.segments) }
     {
         self.flush()?;
-        let segments = shared(self.alloc, &self.segments)?;
+        let segments = share_all(&mut self.shared, &self.segments)?;
         Ok(IndexView {
             segments,
             operations: self.sessions.len() as u64,
@@ -213,13 +221,14 @@ impl IndexState {
         ensures rest { self.new ≡ record self.old { segments = self.new.segments } }
         ensures stands { (history : List Added) → StandsFor self.old history → StandsFor self.new history }
     {
+        self.shared = ArcList::new(self.alloc);
         put_merged(&mut self.segments, first, count, merged);
     }
 
     /// Returns the first segment that [`merge_from`] names: it becomes one with all segments after it. Where none is to be merged, it returns how many
     /// segments there are. A segment's size is the number of its live documents.
     ///
-    /// It goes over the list of segments once, and takes four bytes of memory for each.
+    /// It goes over the list of segments once, and allocates four bytes per segment.
     pub fn first_to_merge(&self) -> Result<usize, NoMemory>
         ensures first { IfOk result (λ n. n ≡ first_small (live_sizes self.now.segments)) }
         ensures within { IfOk result (λ n. n ≤ length self.now.segments) }
@@ -228,9 +237,9 @@ impl IndexState {
         Ok(merge_from(&sizes))
     }
 
-    /// Shares the segments from `first` on, so that they can be merged outside the index's turn. The index stays as it is.
+    /// Shares the segments from `first` on, so that they can be merged without the index's lock. The index stays as it is.
     ///
-    /// No segment is copied; it takes eight bytes of memory for each.
+    /// No segment is copied; it allocates eight bytes per segment.
     pub fn segments_from(
         &mut self,
         chronicle: &Chronicle<LabelList>,
@@ -283,14 +292,14 @@ impl IndexState {
         }
     }
 
-    /// Puts a merged segment in the place of the segments that it was merged of, which were shared in an earlier turn, and returns whether it did. `before` and
+    /// Puts a merged segment in the place of the segments that it was merged of, which were shared before, and returns whether it did. `before` and
     /// `labels` are those of their [`SegmentRange`]: the documents of the merged segment come after `before` others among all.
     ///
     /// The place is found by the number of documents. The history only grows, so neighbours that have as many documents, with as many before theirs, have the
-    /// same documents. Where the list was cut otherwise in between, as another merge does, there may be none: then the segments stay. All documents, and the
-    /// operations that the index stands for, stay in either case; the labels that `labels` has seen are noted.
+    /// same documents. If another merge replaced segments in between, there may be none: then the segments stay. All documents, and the
+    /// operations that the index represents, stay in either case; the labels that `labels` has seen are noted.
     ///
-    /// It goes over the list of segments a few times. It reads no segment, compares no bytes and takes no memory.
+    /// It goes over the list of segments a few times. It reads no segment, compares no bytes and allocates nothing.
     pub fn try_install(
         &mut self,
         chronicle: &Chronicle<LabelList>,
@@ -326,11 +335,12 @@ impl IndexState {
         merge_segments(self.alloc, self.keys, &self.segments)
     }
 
-    /// Turns the documents that wait into a segment, and then all segments into one. All documents, and the operations that the index stands for, stay. Where
-    /// memory is short, the documents that waited may have become a segment, and nothing else has changed.
+    /// Makes a segment of the documents that wait, and then one segment of all. All documents, and the operations that the index represents, stay.
     ///
-    /// It costs what [`merge_segments`] costs. Whoever waits for the index's turn waits for all of it: to merge outside the turn, use
+    /// It costs what [`merge_segments`] costs, and whoever waits for the index's lock waits for all of it. To merge without the lock, use
     /// [`segments_from`](IndexState::segments_from) and [`try_install`](IndexState::try_install).
+    ///
+    /// Errors: out of memory. The documents that waited may be a segment then, and nothing else has changed.
     pub fn merge(&mut self) -> Result<(), NoMemory>
         ensures rest { self.new ≡ record self.old { segments = self.new.segments; waiting = self.new.waiting } }
         ensures one { OnOk result ((self.new.waiting ≡ 0) × (length self.new.segments ≤ 1)) }

@@ -1,5 +1,5 @@
 -- Segments that are shared in one turn and replaced in a later one.
-use Rattle.std.proofs.Common.{◌≡◌, ℕ, List, [], ◌∷◌, ◌++◌, sym, ap, subst, ◌∙◌}
+use Rattle.std.proofs.Common.{◌≡◌, ◌⊎◌, inl, inr, ◌<◌, ℕ, Result, Ok, Err, IfOk, OnOk, List, [], ◌∷◌, ◌++◌, length, refl, sym, ap, subst, ◌∙◌}
 use Rattle.std.proofs.lemmas.List.{map-append}
 use mathlib.Core.List.{IsPrefix}
 use Rattle.atomic_table.specs.Seated.{TableId}
@@ -18,9 +18,20 @@ use Rattle.chronicle.proofs.Prefixes.{prefix_trans}
 use Rattle.taxo_cache.specs.Seen.{labels_of, SeesLabels}
 use Rattle.index_state.specs.Index.{Index, StandsFor, DecodeUnder, docs_under, IsFlushed}
 use Rattle.index_state.specs.Frames.{frame_of, index_frame}
-use Rattle.index_state.specs.Merging.{ComeAfter}
+use Rattle.index_state.specs.Merging.{ComeAfter, IsRangeOf}
 use Rattle.index_state.proofs.Keeping.{still_stands}
-use Rattle.pair_manager.specs.Merging.{AreShared}
+use Rattle.pair_manager.specs.Merging.{AreShared, AreFrom, IsReplaced, IsReplacedIn, first_in}
+use Rattle.pair_manager.specs.declared.merging.MergeScope.{MergeScope}
+
+-- ---- answers
+
+pub on_ok : {T E P : Type 0} (r : Result T E) → P → OnOk r P
+on_ok (Ok _) p = p
+on_ok (Err _) p = tt
+
+pub if_both : {T E : Type 0} (r : Result T E) (P Q R : T → Type 0) → ((x : T) → P x → Q x → R x) → IfOk r P → IfOk r Q → IfOk r R
+if_both (Ok x) P Q R more p q = more x p q
+if_both (Err _) P Q R more p q = tt
 
 -- ---- an index
 
@@ -86,3 +97,20 @@ module _ (labels : TableId) (note : Shown (List (List ℕ))) (before : ℕ) wher
 
     pub index_after : StandsFor index (entries token.seen) → ComeAfter before (docs_under note segments) index.docs
     index_after stands = subst (ComeAfter before (docs_under note segments)) (sym stands.documents) shared.after
+
+-- ---- what a merge did
+
+-- the segments of the index under the lock, as a token knows them that has given the index back
+pub taken_from : (scope : MergeScope) (old index : Index) (token given : Shown Operation) (note : Shown (List (List ℕ))) (before : ℕ) (segments : List Records) → StandsFor index (entries token.seen) → IsFlushed old index
+    → given.seen ≡ token.seen → IsRangeOf index (first_in scope index.segments) note before segments → AreFrom scope given note before segments
+taken_from scope old index token given note before segments stands flushed seen range = record {
+  index = index;
+  represents = subst (λ (l : List (ℕ × Operation)). StandsFor index (entries l)) (sym seen) stands;
+  waits = ap (λ (x : Index). x.waiting) flushed.rest;
+  range = range;
+}
+
+pub replaced_in : (scope : MergeScope) (before : ℕ) (merged : Records) (old new : Index) (token given : Shown Operation) → StandsFor old (entries token.seen) → ((history : List Operation) → StandsFor old history → StandsFor new history)
+    → given.seen ≡ token.seen → IsReplaced scope before merged old new → IsReplacedIn scope before merged (entries given.seen)
+replaced_in scope before merged old new token given stands keeps seen is =
+    subst (λ (l : List (ℕ × Operation)). IsReplacedIn scope before merged (entries l)) (sym seen) (old, new, stands, keeps (entries token.seen) stands, is)

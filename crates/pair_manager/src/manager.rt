@@ -22,7 +22,8 @@ ghost use Rattle.pair_manager.specs.Published.{ArePublications, publication_of, 
 ghost use Rattle.pair_manager.specs.Next.{Ends, GoOn, IsNext};
 ghost use Rattle.pair_manager.specs.Passes.{IsOf, IsFirst, SamePass, all_seen};
 ghost use Rattle.pair_manager.specs.Appended.{HasNoRoom, IsPlaced};
-ghost use Rattle.pair_manager.specs.Merging.{AreShared};
+ghost use Rattle.pair_manager.specs.Merging.{AreShared, AreFrom, IsReplacedIn, IsMerged};
+ghost use Rattle.pair_manager.specs.declared.merging.MergeScope.TheVariants.{All, Policy};
 
 use crate::lease::Lease;
 use crate::merging::{MergeScope, replace, share};
@@ -48,8 +49,11 @@ use taxo_writer::{LabelList, TaxoWriter};
 /// The numbers of the last published pair: operations, labels with the root, and documents.
 #[derive(Drop, Clone, Copy, Debug, PartialEq, Eq)]
 pub struct Stats {
+    /// How many operations.
     pub operations: u64,
+    /// How many labels, with the root.
     pub labels: u32,
+    /// How many documents.
     pub documents: u32,
 }
 
@@ -157,8 +161,8 @@ impl<N: Name> Manager<N> {
         ensures labels { IfOk result (λ v. SeesLabels v.labels) }
         ensures operations { IfOk result (λ v. v.operations ≡ length token.new.seen) }
         ensures decodes { IfOk result (λ v. (config : Config) → config_texts config ≡ token.old.frame.texts
-            → Decodes (labels_of v.labels.seen) config (map arc_value v.segments.items) (docs (entries token.new.seen))) }
-        ensures read { IfOk result (λ v. AreOwn (map arc_value v.segments.items)) }
+            → Decodes (labels_of v.labels.seen) config v.segments (docs (entries token.new.seen))) }
+        ensures read { IfOk result (λ v. AreOwn v.segments) }
     {
         let mut index = self.operations.take(rt, token);
         let view = index.snapshot(self.writer.labels());
@@ -166,7 +170,7 @@ impl<N: Name> Manager<N> {
         view
     }
 
-    // The segments that are to be merged, as they are in the operations' turn, after the documents that wait have become a segment.
+    // Shares the segments that are to be merged, under the lock of the operations, after the documents that wait have become a segment.
     fn share_segments<R: Wait>(
         &self,
         rt: &R,
@@ -179,6 +183,7 @@ impl<N: Name> Manager<N> {
         ensures token { SameToken token.old token.new × (token.new.holds_turn ≡ false) }
         ensures more { SeesOn token.old token.new }
         ensures shared { IfOk result (λ r. AreShared self.now.writer.labels token.new r.labels r.before (map arc_value r.segments.items)) }
+        ensures from { IfOk result (λ r. AreFrom scope token.new r.labels r.before (map arc_value r.segments.items)) }
         ensures some { IfOk result (λ r. 0 < length r.segments.items → 0 < length (records_in (map arc_value r.segments.items))) }
     {
         let mut index = self.operations.take(rt, token);
@@ -187,7 +192,7 @@ impl<N: Name> Manager<N> {
         range
     }
 
-    // Replaces segments that were shared in an earlier turn by their merged one, in the operations' turn.
+    // Replaces segments that were shared before by their merged one, under the lock of the operations.
     fn replace_segments<R: Wait>(
         &self,
         rt: &R,
@@ -205,6 +210,7 @@ impl<N: Name> Manager<N> {
         requires read { IsSegment (seg_bytes (arc_value merged)) (arc_value merged) }
         ensures token { SameToken token.old token.new × (token.new.holds_turn ≡ false) }
         ensures more { SeesOn token.old token.new }
+        ensures replaced { OnOk result (IsReplacedIn scope before (arc_value merged) (entries token.new.seen)) }
     {
         let mut index = self.operations.take(rt, token);
         let done = replace(
@@ -219,7 +225,7 @@ impl<N: Name> Manager<N> {
         done
     }
 
-    // Merges outside the turn, between one turn in which the segments are shared and one in which they are replaced.
+    // Shares the segments under the lock, merges them without it, and replaces them under the lock again.
     fn merge_scope<R: Wait>(
         &self,
         rt: &R,
@@ -231,6 +237,7 @@ impl<N: Name> Manager<N> {
         requires tied { token.old.frame.identities ≡ self.now.writer.labels ∷ [] }
         ensures token { SameToken token.old token.new × (token.new.holds_turn ≡ false) }
         ensures more { SeesOn token.old token.new }
+        ensures merged { OnOk result (IsMerged scope token.new) }
     {
         let SegmentRange {
             segments,
@@ -247,32 +254,38 @@ impl<N: Name> Manager<N> {
     /// Merges all segments into one. The documents that wait become a segment first. Documents and operations stay, and published pairs keep the segments that
     /// they have. With fewer than two segments nothing changes.
     ///
-    /// It waits twice for the operations' turn: to share the segments, and to put the merged one in their place. Between the two it merges, as
-    /// [`merge_segments`], and holds no turn: other sessions add and refresh meanwhile. What they add stays as further segments. Only where another merge came
-    /// between are all segments merged in the second turn, and then others wait for it. All old segments and the merged one are in memory together. Where memory
-    /// is short, the documents that waited may have become a segment, and nothing else has changed.
+    /// Locks: that of the operations, twice: to share the segments, and to put the merged one in their place. It merges in between, as [`merge_segments`], and
+    /// holds no lock: other sessions add and refresh meanwhile. What they add stays as further segments. If another merge has replaced the segments in between,
+    /// all segments are merged under the second lock, and then others wait for it. All old segments and the merged one are in memory together.
+    ///
+    /// Errors: out of memory. The documents that waited may be a segment then, and nothing else has changed.
     pub fn merge<R: Wait>(&self, rt: &R, token: &mut Token<Operation>) -> Result<(), NoMemory>
         requires own { token.old.identity ≡ self.now.operations }
         requires idle { MayTake token.old }
         requires tied { token.old.frame.identities ≡ self.now.writer.labels ∷ [] }
         ensures token { SameToken token.old token.new × (token.new.holds_turn ≡ false) }
         ensures more { SeesOn token.old token.new }
+        ensures merged { OnOk result (IsMerged All token.new) }
     {
         self.merge_scope(rt, token, MergeScope::All)
     }
 
     /// Merges the segments that the policy names, as [`IndexState::first_to_merge`]: from the first that has less than a third of the documents after it. The
-    /// documents that wait become a segment first. Where the policy names none, nothing else changes.
+    /// documents that wait become a segment first. If the policy names none, nothing else changes.
     ///
-    /// Called after each of many additions, it leaves few segments and moves each document a few times. It waits for the operations' turn and merges outside it,
-    /// as [`merge`](Manager::merge). Where another merge came between, it leaves the segments as they are and drops its own: adds of other sessions never wait
-    /// for a merge.
+    /// Called after each of many additions, it leaves few segments and moves each document a few times.
+    ///
+    /// Locks: that of the operations, twice, as [`merge`](Manager::merge). If another merge has replaced the segments in between, it leaves the segments as they
+    /// are and drops its own: adds of other sessions never wait for a merge.
+    ///
+    /// Errors: out of memory. The documents that waited may be a segment then, and nothing else has changed.
     pub fn merge_few<R: Wait>(&self, rt: &R, token: &mut Token<Operation>) -> Result<(), NoMemory>
         requires own { token.old.identity ≡ self.now.operations }
         requires idle { MayTake token.old }
         requires tied { token.old.frame.identities ≡ self.now.writer.labels ∷ [] }
         ensures token { SameToken token.old token.new × (token.new.holds_turn ≡ false) }
         ensures more { SeesOn token.old token.new }
+        ensures merged { OnOk result (IsMerged Policy token.new) }
     {
         self.merge_scope(rt, token, MergeScope::Policy)
     }
@@ -335,7 +348,7 @@ impl<N: Name> Manager<N> {
         }
     }
 
-    // The next pair, with all operations and labels as they then stand. It takes the view of the last one, where no label is new, and its config.
+    // Makes the next pair, of all operations and labels that there are. It shares the config of the last pair, and its view if no label is new.
     fn make_pair<R: Wait>(
         &self,
         rt: &R,
@@ -370,7 +383,7 @@ impl<N: Name> Manager<N> {
         ))
     }
 
-    // The next pair, with its notes once more.
+    // Makes the next pair, with its notes once more.
     fn make_next<R: Wait>(
         &self,
         rt: &R,
@@ -396,7 +409,7 @@ impl<N: Name> Manager<N> {
         )
     }
 
-    // Tells the tokens what the last pair has.
+    // Notes in the tokens what the last pair has.
     fn tell(
         &self,
         state: &mut PairState,
@@ -421,7 +434,7 @@ impl<N: Name> Manager<N> {
         self.writer.meet(labels, note);
     }
 
-    // The last pair, in its turn. The tokens have then seen what it has.
+    // Takes the last pair, under the lock of the pairs. The tokens have then seen what it has.
     fn take_last<R: Wait>(
         &self,
         rt: &R,
@@ -450,7 +463,7 @@ impl<N: Name> Manager<N> {
         last
     }
 
-    // Ends the turn of the pairs: publishes the next pair, or gives the last one back where none was made.
+    // Releases the lock of the pairs: publishes the next pair, or puts the last one back if none was made.
     fn end_turn(
         &self,
         pairs: &mut Token<Publication>,
@@ -481,7 +494,10 @@ impl<N: Name> Manager<N> {
     /// Publishes a pair of all operations and labels that there are, and returns the number of its operations. The pass has then seen exactly these.
     ///
     /// Locks: that of the pairs; in it, that of the operations and then that of the labels. So the labels cover the documents. The documents that wait become
-    /// a segment first. All labels are copied if one is new; others can add documents meanwhile. If nothing is new, it allocates eight bytes per segment.
+    /// a segment first. Each new label is copied, and at most 4,095 others; other sessions can add documents meanwhile.
+    ///
+    /// The list of segments is shared with earlier pairs, as [`IndexState::snapshot`] says: it allocates eight bytes per new
+    /// segment, per 256 segments, and per segment after the last full 256.
     ///
     /// Errors: out of memory. Then no pair is published.
     pub fn refresh<R: Wait>(&self, rt: &R, pass: &mut Pass) -> Result<u64, NoMemory>

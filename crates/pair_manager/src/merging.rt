@@ -1,12 +1,13 @@
-//! The two turns of a merge: in the first, segments are shared; in the second, the merged one replaces them.
-ghost use Rattle.std.specs.Prelude.{◌≡◌, ◌≤◌, ℕ, false, [], ◌∷◌, List, IfOk, length, map};
+//! What a merge does under the lock of the operations: first it shares segments, and later it replaces them by the merged one.
+ghost use Rattle.std.specs.Prelude.{◌≡◌, ◌≤◌, ◌⊎◌, false, [], ◌∷◌, List, IfOk, OnOk, length, map};
 ghost use Rattle.std.specs.Arc.{arc_value};
 ghost use Rattle.facet_model.specs.Histories.{Operation as Added};
 ghost use Rattle.seg_grammar.specs.Spelling.{IsSegment, seg_bytes};
 ghost use Rattle.taxo_cache.specs.Seen.{SeesLabels};
-ghost use Rattle.index_state.specs.Index.{StandsFor, DecodeUnder, docs_under};
+ghost use Rattle.index_state.specs.Index.{StandsFor, DecodeUnder, docs_under, IsFlushed};
 ghost use Rattle.index_state.specs.Frames.{frame_of};
 ghost use Rattle.index_state.specs.Merging.{ComeAfter, IsRangeOf};
+ghost use Rattle.pair_manager.specs.Merging.{first_in, IsReplaced};
 
 use chronicle::{Chronicle, Token};
 use facet_names::{NoMemory, Path};
@@ -24,9 +25,10 @@ pub(crate) enum MergeScope {
     Policy,
 }
 
-// The first segment that is merged.
+// Returns the first segment that becomes one with all segments after it.
 fn first_in(index: &IndexState, scope: MergeScope) -> Result<usize, NoMemory>
-    ensures { IfOk result (λ n. n ≤ length index.now.segments) }
+    ensures first { IfOk result (λ n. n ≡ first_in scope index.now.segments) }
+    ensures within { IfOk result (λ n. n ≤ length index.now.segments) }
 {
     match scope {
         MergeScope::All => Ok(0),
@@ -34,7 +36,8 @@ fn first_in(index: &IndexState, scope: MergeScope) -> Result<usize, NoMemory>
     }
 }
 
-/// Shares the segments that are to be merged. The documents that wait become a segment first, also where there is no memory for the rest.
+/// Shares the segments that are to be merged: all, or those from the policy's first one on. The documents that wait become a segment first, also where there is
+/// no memory for the rest.
 pub(crate) fn share(
     index: &mut IndexState,
     chronicle: &Chronicle<LabelList>,
@@ -43,15 +46,17 @@ pub(crate) fn share(
     requires own { index.old.labels.identity ≡ chronicle.now }
     ensures stands { (history : List Added) → StandsFor index.old history → StandsFor index.new history }
     ensures frame { frame_of index.new ≡ frame_of index.old }
-    ensures range { IfOk result (λ r. (first : ℕ) × IsRangeOf index.new first r.labels r.before (map arc_value r.segments.items)) }
+    ensures rest { (index.new ≡ index.old) ⊎ IsFlushed index.old index.new }
+    ensures flushed { OnOk result (IsFlushed index.old index.new) }
+    ensures range { IfOk result (λ r. IsRangeOf index.new (first_in scope index.new.segments) r.labels r.before (map arc_value r.segments.items)) }
 {
     index.flush()?;
     let first = first_in(index, scope)?;
     index.segments_from(chronicle, first)
 }
 
-/// Puts a merged segment in the place of those that were shared. Where these are no longer together, as another merge came between, all segments are merged in
-/// this turn if all were to be merged, and otherwise stay as they are.
+/// Puts a merged segment in the place of those that were shared. If another merge has replaced these in between, all segments are merged now if all were to be
+/// merged, and otherwise they stay as they are.
 pub(crate) fn replace(
     index: &mut IndexState,
     chronicle: &Chronicle<LabelList>,
@@ -68,6 +73,7 @@ pub(crate) fn replace(
     requires read { IsSegment (seg_bytes (arc_value merged)) (arc_value merged) }
     ensures stands { (history : List Added) → StandsFor index.old history → StandsFor index.new history }
     ensures frame { frame_of index.new ≡ frame_of index.old }
+    ensures replaced { OnOk result (IsReplaced scope before (arc_value merged) index.old index.new) }
 {
     if index.try_install(chronicle, before, labels, merged) {
         return Ok(());

@@ -50,7 +50,7 @@ pub fn open_index(
     ensures frame { IfOk result (λ r. frame_of r.0 ≡ index_frame (arc_value config.now) max_docs chronicle.now) }
     ensures noted { IfOk result (λ r. (r.1.labels.seen ≡ labels.old.seen) × (r.1.labels.identity ≡ chronicle.now)) }
     ensures operations { IfOk result (λ r. r.1.operations ≡ length r.0.docs) }
-    ensures decodes { IfOk result (λ r. Decodes (labels_of labels.old.seen) (arc_value config.now) (map arc_value r.1.segments.items) r.0.docs) }
+    ensures decodes { IfOk result (λ r. Decodes (labels_of labels.old.seen) (arc_value config.now) r.1.segments r.0.docs) }
 {
     let note = chronicle.note(labels);
     let mut index = IndexState::open(
@@ -101,7 +101,7 @@ pub fn open_pairs<N: Name>(
     requires list { SeesLabels labels.old }
     requires view { view ≡ labels_of labels.old.seen }
     requires count { taken.operations ≡ length first.old.seen }
-    requires decodes { Decodes (labels_of labels.old.seen) (arc_value config) (map arc_value taken.segments.items) (docs (entries first.old.seen)) }
+    requires decodes { Decodes (labels_of labels.old.seen) (arc_value config) taken.segments (docs (entries first.old.seen)) }
     ensures labels { labels.new ≡ labels.old }
     ensures first { first.new ≡ first.old }
     ensures pairs { IfOk result (λ r. IsFirst r.1 r.0 (seen_of first.old labels.old ∷ [])) }

@@ -1,4 +1,4 @@
-ghost use Rattle.std.specs.Prelude.{◌≡◌, ◌≤◌, length, map};
+ghost use Rattle.std.specs.Prelude.{◌≡◌, ◌≤◌, length};
 ghost use Rattle.std.specs.Arc.{arc_value};
 ghost use Rattle.facet_model.specs.Histories.{docs};
 ghost use Rattle.facet_model.specs.Stored.{Decodes};
@@ -8,6 +8,7 @@ ghost use Rattle.taxo_cache.specs.Seen.{labels_of, SeesLabels};
 ghost use Rattle.pair_manager.specs.Published.{published};
 ghost use Rattle.pair_manager.specs.Kept.{IsNote, IsPair, DecodesTo};
 
+use arc_list::ArcList;
 use chronicle::Token;
 use facet_config::FacetsConfig;
 use facet_names::Path;
@@ -20,11 +21,11 @@ use taxo_list::TaxoView;
 /// A published pair of an index and a taxonomy. It never changes, and threads may share it. Its segments decode, under its own view, to the documents of its
 /// operations.
 ///
-/// It shares its segments with the pairs before it, and its view if no label is new.
+/// It shares its segments with the pairs before it, the list of segments by pieces of 256, and its view if no label is new.
 #[derive(Drop)]
 pub struct Pair {
     view: Arc<TaxoView>,
-    segments: Vec<Arc<Segment>>,
+    segments: ArcList<Segment>,
     config: Arc<FacetsConfig>,
     operations: u64,
     history: Token<Operation>,
@@ -32,23 +33,22 @@ pub struct Pair {
 }
 
 impl Model for Pair {
-    ghost use Rattle.std.specs.Prelude.{map};
     ghost use Rattle.std.specs.Arc.{arc_value};
     ghost use Rattle.pair_manager.specs.Published.{Published, published};
     ghost use Rattle.pair_manager.specs.Kept.{IsKept};
 
     ghost Value = { Published };
 
-    ghost view = { λ p. published p.history p.labels (arc_value p.config) (map arc_value p.segments.items) };
+    ghost view = { λ p. published p.history p.labels (arc_value p.config) p.segments };
 
-    ghost invariant = { λ p. IsKept (published p.history p.labels (arc_value p.config) (map arc_value p.segments.items)) (arc_value p.view) p.operations };
+    ghost invariant = { λ p. IsKept (published p.history p.labels (arc_value p.config) p.segments) (arc_value p.view) p.operations };
 }
 
 impl Pair {
     // The pair of this view and of the segments of so many operations, with notes of these operations and of the labels.
     pub(crate) fn new(
         view: Arc<TaxoView>,
-        segments: Vec<Arc<Segment>>,
+        segments: ArcList<Segment>,
         config: Arc<FacetsConfig>,
         operations: u64,
         history: Token<Operation>,
@@ -58,9 +58,9 @@ impl Pair {
         requires list { SeesLabels labels }
         requires view { arc_value view ≡ labels_of labels.seen }
         requires operations { operations ≡ length history.seen }
-        requires decodes { DecodesTo labels (arc_value config) (map arc_value segments.items) history }
-        requires few { length (records_in (map arc_value segments.items)) ≤ 1000000 }
-        ensures pair { result ≡ published history labels (arc_value config) (map arc_value segments.items) }
+        requires decodes { DecodesTo labels (arc_value config) segments history }
+        requires few { length (records_in segments) ≤ 1000000 }
+        ensures pair { result ≡ published history labels (arc_value config) segments }
         ensures is { IsPair result }
     {
         Pair {
@@ -102,8 +102,8 @@ impl Pair {
     }
 
     /// Returns the segments, which have all documents.
-    pub fn segments(&self) -> &[Arc<Segment>]
-        ensures segments { map arc_value result.now ≡ self.now.segments }
+    pub fn segments(&self) -> &ArcList<Segment>
+        ensures segments { result.now ≡ self.now.segments }
         ensures decodes { DecodesTo self.now.labels self.now.config self.now.segments self.now.history }
         ensures few { length (records_in self.now.segments) ≤ 1000000 }
         ensures is { IsPair self.now }

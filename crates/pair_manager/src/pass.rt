@@ -14,9 +14,13 @@ use index_state::Operation;
 /// one config. The publications that it has seen are right in the labels and the operations that it has seen.
 #[derive(Drop)]
 pub struct Pass {
+    /// The token of the labels.
     pub labels: Token<Path>,
+    /// The token of the operations.
     pub operations: Token<Operation>,
+    /// The token of the published pairs.
     pub pairs: Token<Publication>,
+    /// The token of the commits.
     pub commits: Token<CommitPoint>,
     ghost labels_rest: { MayTake labels },
     ghost operations_rest: { MayTake operations },

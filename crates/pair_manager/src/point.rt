@@ -2,7 +2,10 @@
 /// one before it, and the disk's count of faults.
 #[derive(Drop, Clone, Copy, Debug, PartialEq, Eq)]
 pub struct CommitPoint {
+    /// How many operations the commit made durable.
     pub operations: u64,
+    /// How many labels it made durable, with the root.
     pub labels: u32,
+    /// The disk's count of faults when the commit failed. `None` if it did not fail.
     pub failed: Option<u64>,
 }

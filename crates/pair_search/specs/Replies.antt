@@ -1,4 +1,4 @@
--- The replies that the results of a search and of a document are.
+-- The replies to a search and to a document, by their results.
 use Rattle.std.specs.Prelude.{ℕ, map, Result, Ok, Err}
 use Rattle.facet_model.specs.ResultViews.{answer_view}
 use Rattle.facet_replies.specs.ReplyViews.{hit_view}

@@ -1,4 +1,4 @@
-//! What a published pair answers: a search over its documents, and the document at a place.
+//! Reading a published pair: a search over its documents, and the document at a place.
 #![tactic(auto)]
 
 mod searching;

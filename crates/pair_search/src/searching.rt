@@ -11,6 +11,7 @@ ghost use Rattle.sideways.specs.Searches.{question};
 ghost use Rattle.sideways.specs.declared.ask.AskRefused.TheVariants.{NoMemory as Memory};
 ghost use Rattle.facet_output.specs.Replies.{found as found_reply, refused as refused_reply};
 ghost use Rattle.facet_output.specs.Replying.{IsFound};
+ghost use Rattle.pair_manager.specs.Kept.{IsPair};
 ghost use Rattle.pair_search.specs.Replies.{found_view, search_reply};
 ghost use Rattle.pair_search.specs.Searches.{IsFoundIn, refusal_as, search_view};
 ghost use Rattle.pair_search.specs.declared.searching.SearchFault.TheVariants.{NoMemory as NoRoom};
@@ -26,25 +27,29 @@ use sideways::{AskRefused, DrillPlan, SearchAsk, SidewaysAnswer};
 use std::alloc::Global;
 use std::sync::Arc;
 
-/// What a search found: how many operations made the documents that it saw, how many of these it hit, the first hits with their places and ids, and an
-/// answer to each ask.
+/// The result of a search.
 #[derive(Debug, Drop)]
 pub struct SearchAnswer {
+    /// How many operations the documents come from.
     pub operations: u64,
+    /// How many documents the search found.
     pub hit_count: u64,
+    /// The first of these, with their places and ids, as many as the search asked for.
     pub hits: Vec<HitLine>,
+    /// The answer to each ask, in order.
     pub answers: Vec<FacetAnswer>,
 }
 
-/// Why a search is refused.
+/// Why a search is rejected.
 #[derive(Drop, Clone, Copy, Debug, PartialEq, Eq)]
 pub enum SearchFault {
-    /// Nothing is held under the name.
+    /// The session holds no pair under the name.
     NotHeld,
-    /// The ask at this place, from 0, wants no child.
+    /// The ask at this place, from 0, asks for the top 0 children.
     TopZero { ask: u64 },
-    /// The ask at this place wants the value of a dimension alone that is not kept.
+    /// The ask at this place, from 0, asks for the value of a whole dimension, and the config does not keep it.
     DimValueNotKept { ask: u64 },
+    /// Out of memory.
     NoMemory,
 }
 
@@ -59,7 +64,7 @@ fn fault_of(refused: AskRefused) -> SearchFault
     }
 }
 
-// The answers to these many asks, in their order.
+// Returns the answers to the first `asks` asks, in order.
 fn answers(
     alloc: Global,
     answer: &SidewaysAnswer<'_>,
@@ -90,7 +95,7 @@ fn hit_line(alloc: Global, segments: &[Arc<Segment>], at: u32) -> Result<HitLine
     }
 }
 
-// The hits at these places, each with its document's id.
+// Returns the hits at these places, each with its document's id.
 fn hit_lines(
     alloc: Global,
     segments: &[Arc<Segment>],
@@ -107,7 +112,7 @@ fn hit_lines(
     Ok(lines)
 }
 
-// What a search of so many asks found in segments whose documents so many operations made.
+// Returns what a search found in segments whose documents come from `operations` operations.
 fn found(
     alloc: Global,
     segments: &[Arc<Segment>],
@@ -131,8 +136,36 @@ fn found(
     })
 }
 
-/// A search over the documents of a pair. It waits for nothing, so no turn is held while it counts. It takes what `DrillPlan` takes, and a copy of the id
-/// of each hit that it lists.
+// Searches the documents of a pair that has these segments.
+fn search_in(
+    alloc: Global,
+    pair: &Pair,
+    segments: &[Arc<Segment>],
+    config: &FacetsConfig,
+    ask: &SearchAsk,
+) -> Result<SearchAnswer, SearchFault>
+    requires config { config.now ≡ pair.now.config }
+    requires segments { map arc_value segments.now ≡ pair.now.segments }
+    requires is { IsPair pair.now }
+    ensures found { result ≢ Err NoRoom → IsFoundIn pair.now (search_view ask.now) (search_reply result) }
+{
+    let plan = match DrillPlan::new(alloc, pair.view(), config, segments, ask) {
+        Ok(plan) => plan,
+        Err(refused) => return Err(fault_of(refused)),
+    };
+    let answer = plan.run();
+    match found(alloc, segments, pair.operations(), ask.asks.len(), &answer) {
+        Ok(found) => Ok(found),
+        Err(NoMemory) => Err(SearchFault::NoMemory),
+    }
+}
+
+/// Searches the documents of a pair. It takes no lock.
+///
+/// Costs: those of `sideways::DrillPlan`, a copy of the id of each listed hit, and eight bytes per segment if there are
+/// 256 segments or more.
+///
+/// Errors: the first ask that is rejected, before anything is allocated for the search; out of memory.
 pub fn search_pair(
     alloc: Global,
     pair: &Pair,
@@ -143,13 +176,11 @@ pub fn search_pair(
     ensures found { result ≢ Err NoRoom → IsFoundIn pair.now (search_view ask.now) (search_reply result) }
 {
     let segments = pair.segments();
-    let plan = match DrillPlan::new(alloc, pair.view(), config, segments, ask) {
-        Ok(plan) => plan,
-        Err(refused) => return Err(fault_of(refused)),
-    };
-    let answer = plan.run();
-    match found(alloc, segments, pair.operations(), ask.asks.len(), &answer) {
-        Ok(found) => Ok(found),
-        Err(NoMemory) => Err(SearchFault::NoMemory),
+    if let Some(few) = segments.as_slice() {
+        return search_in(alloc, pair, few, config, ask);
+    }
+    match segments.to_vec() {
+        Ok(all) => search_in(alloc, pair, &all, config, ask),
+        Err(_) => Err(SearchFault::NoMemory),
     }
 }

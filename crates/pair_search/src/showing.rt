@@ -2,6 +2,7 @@ ghost use Rattle.std.specs.Prelude.{◌≡◌, ◌≢◌, ◌<◌, None, Some, E
 ghost use Rattle.std.specs.Arc.{arc_value};
 ghost use Rattle.seg_documents.specs.Decoding.{doc_in, records_in};
 ghost use Rattle.seg_grammar.specs.Lookups.{record_of};
+ghost use Rattle.pair_manager.specs.Kept.{IsPair};
 ghost use Rattle.pair_search.specs.Replies.{document_reply};
 ghost use Rattle.pair_search.specs.Showing.{IsShownIn};
 ghost use Rattle.pair_search.specs.declared.showing.DocumentFault.TheVariants.{NoMemory as NoRoom};
@@ -15,26 +16,30 @@ use std::alloc::Global;
 use std::sync::Arc;
 use taxo_list::TaxoView;
 
-/// A document with the ordinals of its labels, in their order, and how many operations made the documents among which it stands.
+/// A document of a pair.
 #[derive(Debug, Drop)]
 pub struct Shown {
+    /// How many operations the documents of the pair come from.
     pub operations: u64,
+    /// A copy of the document.
     pub doc: Document,
+    /// The ordinals of its labels, in the order of its facets.
     pub ordinals: Vec<u32>,
 }
 
-/// Why no document is shown.
+/// Why no document is returned.
 #[derive(Drop, Clone, Copy, Debug, PartialEq, Eq)]
 pub enum DocumentFault {
-    /// Nothing is held under the name.
+    /// The session holds no pair under the name.
     NotHeld,
-    /// There are so many documents, and none at the place.
+    /// There are `count` documents, and none at the place.
     NoSuchDocument { count: u64 },
+    /// Out of memory.
     NoMemory,
 }
 
-/// The segment that has the document at a place, of those that are live, with its place in the segment. It goes from segment to segment, and takes no
-/// memory.
+/// Returns the segment that has the live document at a place, and the document's place in the segment. It visits the
+/// segments in order, and allocates nothing.
 pub(crate) fn find(segments: &[Arc<Segment>], at: usize) -> Option<(&Segment, u32)>
     ensures { MatchOption result (slice_get (records_in (map arc_value segments.now)) at ≡ None) (λ p. (p.1 < length p.0.now.records)
         × (slice_get (records_in (map arc_value segments.now)) at ≡ Some (record_of p.0.now p.1))) }
@@ -50,7 +55,7 @@ pub(crate) fn find(segments: &[Arc<Segment>], at: usize) -> Option<(&Segment, u3
     None
 }
 
-// The document with its ordinals that stands at a place of a segment.
+// Returns the document at a place of a segment, with its ordinals.
 fn show(
     alloc: Global,
     view: &TaxoView,
@@ -72,11 +77,18 @@ fn show(
     })
 }
 
-/// The document at a place of a pair. It goes from segment to segment, and takes memory for a copy of the document.
-pub fn show_pair(alloc: Global, pair: &Pair, at: u32) -> Result<Shown, DocumentFault>
+// Returns the document at a place of a pair that has these segments.
+fn show_in(
+    alloc: Global,
+    pair: &Pair,
+    segments: &[Arc<Segment>],
+    at: u32,
+) -> Result<Shown, DocumentFault>
+    requires segments { map arc_value segments.now ≡ pair.now.segments }
+    requires is { IsPair pair.now }
     ensures { result ≢ Err NoRoom → IsShownIn pair.now at (document_reply at result) }
 {
-    match find(pair.segments(), at as usize) {
+    match find(segments, at as usize) {
         Some((segment, place)) => match show(
             alloc,
             pair.view(),
@@ -90,5 +102,22 @@ pub fn show_pair(alloc: Global, pair: &Pair, at: u32) -> Result<Shown, DocumentF
         None => Err(DocumentFault::NoSuchDocument {
             count: pair.operations(),
         }),
+    }
+}
+
+/// Returns the document at a place of a pair, from 0. It takes no lock, visits the segments in order, and copies the
+/// document. If there are 256 segments or more it also allocates eight bytes per segment.
+///
+/// Errors: `NoSuchDocument`; out of memory.
+pub fn show_pair(alloc: Global, pair: &Pair, at: u32) -> Result<Shown, DocumentFault>
+    ensures { result ≢ Err NoRoom → IsShownIn pair.now at (document_reply at result) }
+{
+    let segments = pair.segments();
+    if let Some(few) = segments.as_slice() {
+        return show_in(alloc, pair, few, at);
+    }
+    match segments.to_vec() {
+        Ok(all) => show_in(alloc, pair, &all, at),
+        Err(_) => Err(DocumentFault::NoMemory),
     }
 }

@@ -1,4 +1,5 @@
-//! Tests of what is read of a script, and of the lines of refusals and faults, of which no run shows all.
+//! Tests of reading scripts, and of the lines of refusals and faults, not all of which an invocation of the program
+//! shows.
 #![tactic(auto)]
 
 #[cfg(test)]

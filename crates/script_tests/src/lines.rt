@@ -1,8 +1,9 @@
-use facet_replies::{Refusal, Reply, ScriptFault, write_fault, write_reply};
+use facet_replies::{Refusal, Reply, write_reply};
+use facet_words::{ScriptFault, write_fault};
 use std::alloc::Global;
 use std::test::Fail;
 
-// Whether this is the line of a reply of session 1 to line 4.
+// Returns whether this is the line of a reply of session 1 to line 4.
 fn has_line(alloc: Global, reply: &Reply, expected: &str) -> Result<bool, Fail> {
     let mut out = Vec::new(alloc);
     write_reply(alloc, &mut out, 1, 4, reply)?;
@@ -73,7 +74,7 @@ fn refusals() -> &'static [(Refusal, &'static str)] {
     &REFUSALS
 }
 
-// Whether these are the lines of faults of scripts.
+// Returns whether these are the lines of faults of scripts.
 fn are_told(alloc: Global) -> Result<bool, Fail> {
     let mut out = Vec::new(alloc);
     write_fault(alloc, &mut out, ScriptFault::NotJson { line: 7 })?;
@@ -90,7 +91,7 @@ fn are_told(alloc: Global) -> Result<bool, Fail> {
     Ok(out.as_slice() == expected.as_slice())
 }
 
-/// Whether a merge, refusals and faults have their lines.
+/// Returns whether a merge, refusals and faults have their lines.
 pub fn are_written(alloc: Global) -> Result<bool, Fail> {
     if !has_line(alloc, &Reply::Merged, r#"{"line":4,"merged":true,"s":1}"#)? {
         return Ok(false);

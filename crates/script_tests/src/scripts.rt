@@ -1,16 +1,15 @@
 use crate::lines::are_written;
 use facet_model::Query;
-use facet_words::sessions::{Command, Order, Script, read_script};
-use facet_words::{ScriptFault, Settings};
+use facet_words::{Command, Order, Script, ScriptFault, Settings, read_script};
 use std::alloc::Global;
 use std::test::Fail;
 use test_keys::fixed_keys;
 
-// What is read of a script that sets all that may be set.
+// A script with every setting.
 const SHOP: &[u8] =
     b"{\"cmd\":\"config\",\"max_docs\":7,\"max_labels\":8,\"stripes\":9,\"cache\":10,\"auto_merge\":true,\"dims\":[{\"dim\":\"Tag\",\"multi_valued\":true}]}\n{\"s\":1,\"cmd\":\"search\",\"query\":{\"bool\":{\"must_not\":[{\"term\":\"a\"}]}},\"drill\":[[\"Tag\"]],\"sideways\":true,\"ask\":[{\"all\":3},{\"specific\":[\"Tag\",\"x\"]}]}\n{\"s\":1,\"cmd\":\"search\"}\n{\"cmd\":\"phase\"}\n{\"s\":1,\"cmd\":\"document\",\"at\":7}\n{\"s\":1,\"cmd\":\"stats\"}\n{\"s\":1,\"cmd\":\"commit\"}\n{\"s\":1,\"cmd\":\"merge\"}";
 
-// How many queries each list of a boolean query has.
+// Returns how many queries each list of a boolean query has.
 fn lists(query: &Query) -> Option<(usize, usize, usize)> {
     match query {
         Query::Bool {
@@ -22,7 +21,7 @@ fn lists(query: &Query) -> Option<(usize, usize, usize)> {
     }
 }
 
-// What a command is, in short.
+// A summary of a command.
 type Summary = (Option<(usize, usize, usize)>, usize, bool, usize, u32);
 
 fn summary(command: &Command) -> Summary {
@@ -42,7 +41,7 @@ fn summary(command: &Command) -> Summary {
     }
 }
 
-// The limits, the stripes and the places of the cache.
+// Returns the limits, the stripes and the capacity of the cache.
 fn numbers(settings: &Settings) -> (u32, u32, u32, u32) {
     let Settings {
         max_docs,
@@ -54,12 +53,12 @@ fn numbers(settings: &Settings) -> (u32, u32, u32, u32) {
     (*max_docs, *max_labels, *stripes, *cache)
 }
 
-// Whether the one phase has no order.
+// Returns whether the only phase has no command.
 fn has_no_order(script: &Script) -> bool {
     script.phases.len() == 1 && script.phases[0].is_empty()
 }
 
-// Whether these are the settings of a script without a key, which has no order.
+// Returns whether a script without a key and without a command has the default settings.
 fn has_defaults(alloc: Global) -> Result<bool, Fail> {
     let script = read_script(alloc, fixed_keys()?, b"{\"cmd\":\"config\"}\n")?;
     let numbers = numbers(&script.settings) == (1_000_000, 1_000_000, 16, 4_096);
@@ -72,7 +71,7 @@ fn has_settings(script: &Script) -> bool {
     flags && numbers(&script.settings) == (7, 8, 9, 10) && script.settings.auto_merge
 }
 
-// The orders of the two phases.
+// The commands of the two phases.
 const SUMMARIES: &[&[Summary]] = &[
     &[(Some((0, 0, 1)), 1, true, 2, 10), (None, 0, false, 0, 10)],
     &[
@@ -83,7 +82,7 @@ const SUMMARIES: &[&[Summary]] = &[
     ],
 ];
 
-// Whether the orders of a phase are of session 1, and so in short.
+// Returns whether the commands of a phase are of session 1, and have these summaries.
 fn are_as_told(orders: &[Order], expected: &[Summary]) -> bool {
     let same = |(order, expected): (&Order, &Summary)| -> bool {
         order.session == 1 && summary(&order.command) == *expected
@@ -91,7 +90,7 @@ fn are_as_told(orders: &[Order], expected: &[Summary]) -> bool {
     orders.len() == expected.len() && orders.iter().zip(expected).all(same)
 }
 
-// Whether the orders of all phases are as told.
+// Returns whether the commands of all phases have their summaries.
 fn has_orders(script: &Script) -> bool {
     let same = |(orders, expected): (&Vec<Order>, &&[Summary])| -> bool {
         are_as_told(orders, *expected)
@@ -99,13 +98,13 @@ fn has_orders(script: &Script) -> bool {
     script.phases.len() == SUMMARIES.len() && script.phases.iter().zip(SUMMARIES).all(same)
 }
 
-// Whether the script is read as it should be.
+// Returns whether the script is read as expected.
 fn is_read(alloc: Global) -> Result<bool, Fail> {
     let script = read_script(alloc, fixed_keys()?, SHOP)?;
     Ok(has_settings(&script) && has_orders(&script))
 }
 
-// Whether a merge with a further key is no command.
+// Returns whether a merge with another key is not a command.
 fn has_no_further_key(alloc: Global) -> Result<bool, Fail> {
     let read = read_script(
         alloc,

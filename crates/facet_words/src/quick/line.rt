@@ -1,13 +1,13 @@
 ghost use Rattle.std.specs.Prelude.{◌≡◌, Some, Ok, IfOk, IfSome};
 ghost use Rattle.serde_json.specs.Data.{Members, object};
 ghost use Rattle.facet_words.specs.Quick.{AreMembers, HasFound};
-ghost use Rattle.facet_words.specs.Sessions.CommandViews.{order_view};
-ghost use Rattle.facet_words.specs.Sessions.Scripts.{line_at, line_of};
+ghost use Rattle.facet_words.specs.CommandViews.{order_view};
+ghost use Rattle.facet_words.specs.Scripts.{line_at, line_of};
 
+use crate::command::{Command, Order};
 use crate::parts::new_document;
 use crate::quick::found::Found;
 use crate::quick::member::member_next;
-use crate::sessions::{Command, Order};
 use facet_names::NoMemory;
 use json::{Reader, Scratch, Token};
 use simdutf8::basic::from_utf8;
@@ -37,7 +37,8 @@ fn members_next<'a>(alloc: Global, reader: &mut Reader<'a>) -> Result<Option<Fou
 
 // The order of the members in which this was found, where nothing is missing, or None, which says nothing.
 fn order_with(alloc: Global, line: u64, found: Found<'_>) -> Result<Option<Order>, NoMemory>
-    ensures { IfOk result (λ o. IfSome o (λ o. (ms : Members) → HasFound ms found.entry → line_of line (object ms) ≡ Ok (Some (order_view o)))) }
+    ensures { IfOk result (λ o. IfSome o
+        (λ o. (ms : Members) → HasFound ms found.entry → line_of line (object ms) ≡ Ok (Some (order_view o)))) }
 {
     let Found {
         session: Some(session),
@@ -65,7 +66,8 @@ fn order_with(alloc: Global, line: u64, found: Found<'_>) -> Result<Option<Order
     }))
 }
 
-/// Returns the command of a line that adds a document in the usual form. `None` means that the line has to be read from its JSON value.
+/// Returns the command of a line that adds a document in the usual form. `None` means that the line has to be read from
+/// its JSON value.
 ///
 /// Errors: out of memory.
 pub fn read_add(

@@ -49,7 +49,8 @@ fn child_next(
     reader: &mut Reader<'_>,
     parent: &Path,
 ) -> Result<Option<Path>, NoMemory>
-    ensures read { IfOk result (λ o. IfSome o (λ p. map SpecToken.string parent.now ++ reader.old ≡ map SpecToken.string p ++ reader.new)) }
+    ensures read { IfOk result (λ o.
+        IfSome o (λ p. map SpecToken.string parent.now ++ reader.old ≡ map SpecToken.string p ++ reader.new)) }
     ensures fits { IfOk result (λ o. IfSome o (λ p. IsPath p)) }
     ensures shorter { IfOk result (λ o. IfSome o (λ _. length reader.new < length reader.old)) }
 {
@@ -62,7 +63,9 @@ fn child_next(
 // The path with all texts up to the end of their array, or None, which says nothing.
 fn rest_next(alloc: Global, reader: &mut Reader<'_>, dim: Path) -> Result<Option<Path>, NoMemory>
     requires { IsPath dim }
-    ensures read { IfOk result (λ o. IfSome o (λ p. map SpecToken.string dim ++ reader.old ≡ map SpecToken.string p ++ (SpecToken.end_array ∷ reader.new))) }
+    ensures read { IfOk result (λ o.
+        IfSome o (λ p. map SpecToken.string dim ++ reader.old
+        ≡ map SpecToken.string p ++ (SpecToken.end_array ∷ reader.new))) }
     ensures fits { IfOk result (λ o. IfSome o (λ p. IsPath p)) }
 {
     let mut path = dim;
@@ -91,7 +94,8 @@ fn path_next(alloc: Global, reader: &mut Reader<'_>) -> Result<Option<Path>, NoM
 
 // The paths of the array that comes next, or None, which says nothing.
 fn paths_next(alloc: Global, reader: &mut Reader<'_>) -> Result<Option<Vec<Path>>, NoMemory>
-    ensures read { IfOk result (λ o. IfSome o (λ v. reader.old ≡ json_tokens (array (written_lists v.items)) ++ reader.new)) }
+    ensures read { IfOk result (λ o.
+        IfSome o (λ v. reader.old ≡ json_tokens (array (written_lists v.items)) ++ reader.new)) }
     ensures paths { IfOk result (λ o. IfSome o (λ v. All (λ p. path (array_data (text_items p)) ≡ Some p) v.items)) }
 {
     let Some(Token::BeginArray) = reader.next() else {
@@ -114,8 +118,10 @@ pub(crate) fn facets_next(
     alloc: Global,
     reader: &mut Reader<'_>,
 ) -> Result<Option<Vec<Path>>, NoMemory>
-    ensures read { IfOk result (λ o. IfSome o (λ v. reader.old ≡ json_tokens (array (written_lists v.items)) ++ reader.new)) }
-    ensures paths { IfOk result (λ o. IfSome o (λ v. list_within 0 256 path (array_data (list_items v.items)) ≡ Some v.items)) }
+    ensures read { IfOk result (λ o.
+        IfSome o (λ v. reader.old ≡ json_tokens (array (written_lists v.items)) ++ reader.new)) }
+    ensures paths { IfOk result (λ o.
+        IfSome o (λ v. list_within 0 256 path (array_data (list_items v.items)) ≡ Some v.items)) }
     ensures few { IfOk result (λ o. IfSome o (λ v. length v.items ≤ 256)) }
 {
     match paths_next(alloc, reader)? {

@@ -1,7 +1,7 @@
 use Rattle.std.proofs.Common.{List, length}
 use Rattle.facet_engine.specs.Calls.{SameSession}
 use Rattle.facet_engine.specs.Systems.{BelongsTo}
-use Rattle.facet_words.specs.declared.sessions.command.Order.{Order}
+use Rattle.facet_words.specs.declared.command.Order.{Order}
 use Rattle.facet_phases.proofs.Going.{IsGoing}
 use Rattle.facet_phases.proofs.Taken.{AreTaken}
 use Rattle.facet_phases.proofs.answering.answer_all.Given as goal

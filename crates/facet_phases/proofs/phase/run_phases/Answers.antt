@@ -4,11 +4,11 @@ use Rattle.std.specs.Global.{Vec}
 use Rattle.std.proofs.lemmas.List.{map-append, map-id}
 use Rattle.std.proofs.lemmas.Iterator.Adapters.{YieldsList-from_vec}
 use Rattle.std.proofs.lemmas.Iterator.Consumers.{YieldsList-so_far, YieldsList-turn, YieldsList-end}
-use Rattle.facet_words.specs.Sessions.Commands as commands
-use Rattle.facet_words.specs.Sessions.Laws.{lines_rise}
-use Rattle.facet_words.specs.declared.sessions.command.Order.{Order}
+use Rattle.facet_words.specs.Commands as commands
+use Rattle.facet_words.specs.ScriptOrder.{lines_rise}
+use Rattle.facet_words.specs.declared.command.Order.{Order}
 use Rattle.facet_phases.specs.Ending.{BreaksBehind, EndsPhases}
-use Rattle.facet_words.specs.Sessions.CommandViews.{order_view}
+use Rattle.facet_words.specs.CommandViews.{order_view}
 use Rattle.facet_phases.proofs.Belonging.{pass_then}
 use Rattle.facet_phases.proofs.Closing.{phases_none, phases_more, phases_stop, taken_all, taken_next}
 use Rattle.facet_phases.proofs.phase.run_phases.Goals as goal

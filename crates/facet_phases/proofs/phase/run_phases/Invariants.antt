@@ -2,7 +2,7 @@ use Rattle.std.proofs.Common.{◌≡◌, Ok, length, map}
 use Rattle.pair_manager.specs.Passes.{SamePass}
 use Rattle.facet_phases.specs.Ending.{BreaksBehind, EndsPhases}
 use Rattle.facet_phases.specs.Lanes.{AreIdle}
-use Rattle.facet_words.specs.Sessions.CommandViews.{order_view}
+use Rattle.facet_words.specs.CommandViews.{order_view}
 use Rattle.facet_phases.specs.Running.{AreReady}
 use Rattle.facet_phases.proofs.phase.run_phases.Given as goal
 

@@ -1,8 +1,8 @@
 use Rattle.std.proofs.Common.{◌∙◌, ◌≤◌, ℕ, List, length, map, ap, sym, subst}
 use Rattle.std.specs.Prelude.{All}
 use Rattle.std.specs.Global.{Vec}
-use Rattle.facet_words.specs.Sessions.CommandViews.{order_view}
-use Rattle.facet_words.specs.declared.sessions.command.Order.{Order}
+use Rattle.facet_words.specs.CommandViews.{order_view}
+use Rattle.facet_words.specs.declared.command.Order.{Order}
 use Rattle.facet_phases.specs.declared.lane.Lane.{Lane}
 use Rattle.facet_phases.specs.Ending.{BreaksBehind}
 use Rattle.facet_phases.specs.Running.{BeginsUnderway}

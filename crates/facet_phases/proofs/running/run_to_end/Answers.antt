@@ -8,8 +8,8 @@ use Rattle.facet_io.specs.Faults.{Rose}
 use Rattle.facet_output.specs.Outputs.{sessions_in}
 use Rattle.facet_output.specs.Seen.{history_of, labels_of}
 use Rattle.facet_phases.proofs.Tracing.{sessions_told}
-use Rattle.facet_words.specs.Sessions.CommandViews.{order_view}
-use Rattle.facet_words.specs.declared.sessions.command.Order.{Order}
+use Rattle.facet_words.specs.CommandViews.{order_view}
+use Rattle.facet_words.specs.declared.command.Order.{Order}
 use Rattle.commit_turns.specs.Ending.{Lasts, FailsWith}
 use Rattle.commit_turns.specs.Frames.{HasNumbers}
 use Rattle.commit_turns.specs.Points.{count_after, last_of}

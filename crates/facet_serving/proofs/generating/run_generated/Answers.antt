@@ -1,5 +1,5 @@
 use Rattle.std.proofs.Common.{◌⊎◌, subst}
-use Rattle.facet_words.specs.Sessions.Commands.{Script}
+use Rattle.facet_words.specs.Commands.{Script}
 use Rattle.facet_serving.specs.Generating.{Generates}
 use Rattle.facet_serving.specs.Serving.{StaysShut}
 use Rattle.facet_serving.proofs.generating.run_generated.Goals as goal

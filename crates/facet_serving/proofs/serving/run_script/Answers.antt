@@ -1,5 +1,5 @@
 use Rattle.std.proofs.Common.{◌∙◌, ◌⊎◌, ⊎_elim, sym, subst, inl, inr}
-use Rattle.facet_words.specs.Sessions.CommandViews.{script_view}
+use Rattle.facet_words.specs.CommandViews.{script_view}
 use Rattle.facet_serving.proofs.Shut.{shuts}
 use Rattle.facet_serving.specs.Serving.{EndsAs, Serves, StaysShut}
 use Rattle.facet_serving.specs.declared.status.Status.{Status}
@@ -22,6 +22,6 @@ returns-in-Ok-open-clause-failed g c is t tells =
 pub returns-in-Err-clause-served : goal.returns-in-Err-clause-served
 returns-in-Err-clause-served g c =
     let e = c.in-Err.ensures in
-    let r = c.tell_of_store.result in
-    inr (shuts g.D.Disk (script_view c.args.script) c.args.disk g.K.Sink c.args.sink.now c.tell_of_store.new.sink r.trace r.status c.in-Ok.config c.in-Ok.ensures c.in-Err.field-0.disk r.disk c.in-Err.field-0.fault
-    c.tell_of_store.ensures.disk e.quiet c.tell_of_store.ensures.trace e.err e.fault e.still e.sound c.tell_of_store.ensures.told)
+    let r = c.report_open_fault.result in
+    inr (shuts g.D.Disk (script_view c.args.script) c.args.disk g.K.Sink c.args.sink.now c.report_open_fault.new.sink r.trace r.status c.in-Ok.config c.in-Ok.ensures c.in-Err.field-0.disk r.disk c.in-Err.field-0.fault
+    c.report_open_fault.ensures.disk e.quiet c.report_open_fault.ensures.trace e.err e.fault e.still e.sound c.report_open_fault.ensures.told)

@@ -1,7 +1,7 @@
 use Rattle.std.proofs.Common.{◌≡◌, ◌∙◌, Some, map, sym, ap, subst, refl, inl, inr}
 use Rattle.std.specs.String.{string_bytes}
 use Rattle.command_line.specs.Words.{words_of}
-use Rattle.facet_words.specs.Sessions.Commands.{Script}
+use Rattle.facet_words.specs.Commands.{Script}
 use Rattle.generator.specs.Generated.{generated}
 use Rattle.facet_shell.specs.Asking.{IsAsked}
 use Rattle.facet_shell.specs.Runs.{RunsGenerated, resources}
@@ -24,17 +24,17 @@ returns-in-Ok-Some-Generated-clause-generated g c s is =
     c.run_generated.ensures.served c.run_generated.ensures.failed)
 
 pub returns-in-Ok-None-clause-refused : goal.returns-in-Ok-None-clause-refused
-returns-in-Ok-None-clause-refused g c neither none = refuses_words g.S.Source g.K.Sink g.D.Disk (resources c.args.source.now c.args.sink.now c.args.disk) (resources c.args.source.now c.tell.new.sink c.tell.result.disk) c.tell.result.trace c.tell.result.status
-    c.tell.ensures.trace c.tell.ensures.disk _ c.tell.ensures.status (inl refl) refl c.tell.ensures.line
+returns-in-Ok-None-clause-refused g c neither none = refuses_words g.S.Source g.K.Sink g.D.Disk (resources c.args.source.now c.args.sink.now c.args.disk) (resources c.args.source.now c.report_status.new.sink c.report_status.result.disk) c.report_status.result.trace c.report_status.result.status
+    c.report_status.ensures.trace c.report_status.ensures.disk _ c.report_status.ensures.status (inl refl) refl c.report_status.ensures.line
 
 pub returns-in-Err-clause-script : goal.returns-in-Err-clause-script
-returns-in-Err-clause-script g c reads = finds_no_memory g.S.Source g.K.Sink g.D.Disk (resources c.args.source.now c.args.sink.now c.args.disk) (resources c.args.source.now c.tell-in-Err.new.sink c.tell-in-Err.result.disk) c.tell-in-Err.result.trace c.tell-in-Err.result.status
-    c.tell-in-Err.ensures.trace c.tell-in-Err.ensures.disk c.tell-in-Err.ensures.status c.tell-in-Err.ensures.line (reads_none g.S.Source c.args.source.now c.args.source.now refl) refl
+returns-in-Err-clause-script g c reads = finds_no_memory g.S.Source g.K.Sink g.D.Disk (resources c.args.source.now c.args.sink.now c.args.disk) (resources c.args.source.now c.report_status-in-Err.new.sink c.report_status-in-Err.result.disk) c.report_status-in-Err.result.trace c.report_status-in-Err.result.status
+    c.report_status-in-Err.ensures.trace c.report_status-in-Err.ensures.disk c.report_status-in-Err.ensures.status c.report_status-in-Err.ensures.line (reads_none g.S.Source c.args.source.now c.args.source.now refl) refl
 
 pub returns-in-Err-clause-generated : goal.returns-in-Err-clause-generated
-returns-in-Err-clause-generated g c s is = generates_nothing g.S.Source g.K.Sink g.D.Disk (resources c.args.source.now c.args.sink.now c.args.disk) (resources c.args.source.now c.tell-in-Err.new.sink c.tell-in-Err.result.disk) c.tell-in-Err.result.trace c.tell-in-Err.result.status
-    c.tell-in-Err.ensures.trace c.tell-in-Err.ensures.disk s c.tell-in-Err.ensures.status refl c.tell-in-Err.ensures.line
+returns-in-Err-clause-generated g c s is = generates_nothing g.S.Source g.K.Sink g.D.Disk (resources c.args.source.now c.args.sink.now c.args.disk) (resources c.args.source.now c.report_status-in-Err.new.sink c.report_status-in-Err.result.disk) c.report_status-in-Err.result.trace c.report_status-in-Err.result.status
+    c.report_status-in-Err.ensures.trace c.report_status-in-Err.ensures.disk s c.report_status-in-Err.ensures.status refl c.report_status-in-Err.ensures.line
 
 pub returns-in-Err-clause-refused : goal.returns-in-Err-clause-refused
-returns-in-Err-clause-refused g c neither none = refuses_words g.S.Source g.K.Sink g.D.Disk (resources c.args.source.now c.args.sink.now c.args.disk) (resources c.args.source.now c.tell-in-Err.new.sink c.tell-in-Err.result.disk) c.tell-in-Err.result.trace c.tell-in-Err.result.status
-    c.tell-in-Err.ensures.trace c.tell-in-Err.ensures.disk _ c.tell-in-Err.ensures.status (inr refl) refl c.tell-in-Err.ensures.line
+returns-in-Err-clause-refused g c neither none = refuses_words g.S.Source g.K.Sink g.D.Disk (resources c.args.source.now c.args.sink.now c.args.disk) (resources c.args.source.now c.report_status-in-Err.new.sink c.report_status-in-Err.result.disk) c.report_status-in-Err.result.trace c.report_status-in-Err.result.status
+    c.report_status-in-Err.ensures.trace c.report_status-in-Err.ensures.disk _ c.report_status-in-Err.ensures.status (inr refl) refl c.report_status-in-Err.ensures.line

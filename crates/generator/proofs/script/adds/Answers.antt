@@ -1,4 +1,4 @@
-use Rattle.facet_words.specs.Sessions.CommandViews.{order_view}
+use Rattle.facet_words.specs.CommandViews.{order_view}
 use Rattle.generator.proofs.Ranges.{pushed}
 use Rattle.generator.specs.Generated.{add_order}
 use Rattle.generator.proofs.script.adds.Goals as goal

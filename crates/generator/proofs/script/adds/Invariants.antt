@@ -1,6 +1,6 @@
 use Rattle.std.proofs.Common.{◌≡◌, map}
 use Rattle.std.specs.List.{range_with_len}
-use Rattle.facet_words.specs.Sessions.CommandViews.{order_view}
+use Rattle.facet_words.specs.CommandViews.{order_view}
 use Rattle.generator.specs.Generated.{add_order}
 use Rattle.generator.proofs.script.adds.Given as goal
 

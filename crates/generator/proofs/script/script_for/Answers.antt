@@ -1,5 +1,5 @@
 use Rattle.std.proofs.Common.{sym, subst}
-use Rattle.facet_words.specs.Sessions.Laws.{AreInOrder}
+use Rattle.facet_words.specs.ScriptOrder.{AreInOrder}
 use Rattle.generator.proofs.InOrder.{in_order}
 use Rattle.generator.proofs.script.script_for.Goals as goal
 

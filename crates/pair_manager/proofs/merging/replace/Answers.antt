@@ -1,4 +1,5 @@
-use Rattle.std.proofs.Common.{◌∙◌, ap}
+use Rattle.std.proofs.Common.{◌∙◌, inl, inr, sym, subst, ap}
+use Rattle.std.proofs.lemmas.Result.{IfOk-weaker}
 use Rattle.index_state.specs.Index.{Index}
 use Rattle.index_state.specs.Frames.{frame_of}
 use Rattle.pair_manager.proofs.Sharing.{installed_frame}
@@ -15,3 +16,6 @@ returns-in-All-clause-frame c = ap (λ (x : Index). frame_of x) c.merge.ensures.
 
 pub returns-in-Policy-clause-frame : goal.returns-in-Policy-clause-frame
 returns-in-Policy-clause-frame c = installed_frame c.args.index.now c.try_install.new.self c.try_install.ensures.rest c.try_install.ensures.same
+
+pub returns-then-try_install-clause-replaced : goal.returns-then-try_install-clause-replaced
+returns-then-try_install-clause-replaced c = inl (c.try_install.ensures.installed c.if-try_install.true)

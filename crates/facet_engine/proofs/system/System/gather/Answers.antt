@@ -1,6 +1,6 @@
 use Rattle.std.proofs.Common.{subst}
 use Rattle.facet_output.specs.Seen.{Seen}
-use Rattle.facet_engine.specs.Telling.{Meets}
+use Rattle.facet_engine.specs.Exchange.{Meets}
 use Rattle.facet_engine.proofs.system.System.gather.Goals as goal
 
 pub returns-clause-told : goal.returns-clause-told

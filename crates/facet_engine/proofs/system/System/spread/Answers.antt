@@ -1,7 +1,7 @@
 use Rattle.std.proofs.Common.{◌∙◌, refl, sym, subst}
 use Rattle.facet_output.specs.Seen.{Seen, Sees}
 use Rattle.facet_engine.specs.Steps.{seen_of}
-use Rattle.facet_engine.specs.Telling.{Meets}
+use Rattle.facet_engine.specs.Exchange.{Meets}
 use Rattle.facet_engine.proofs.SeenPairs.{all_still_seen, still_named}
 use Rattle.facet_engine.proofs.system.System.spread.Goals as goal
 

@@ -1,6 +1,6 @@
 use Rattle.std.proofs.Common.{◌∙◌, refl, subst}
 use Rattle.facet_output.specs.Seen.{Seen}
-use Rattle.facet_engine.specs.Telling.{Meets}
+use Rattle.facet_engine.specs.Exchange.{Meets}
 use Rattle.facet_engine.proofs.SeenPairs.{all_still_seen, still_named}
 use Rattle.facet_engine.proofs.system.System.tell.Goals as goal
 

@@ -15,7 +15,7 @@ use Rattle.index_state.specs.Kept.{IsKept}
 use Rattle.index_state.proofs.Keeping.{kept_appended, appended_docs, one_more_stands}
 use Rattle.index_state.proofs.state.IndexState.append.Goals as goal
 
-listed : (c : goal.After-meet) → IsLabelList (labels_of c.meet.new.into.seen)
+listed : (c : goal.After-self-2-1) → IsLabelList (labels_of c.meet.new.into.seen)
 listed c = subst (λ (l : List (ℕ × List (List ℕ))). IsLabelList (labels_of l)) (sym c.meet.ensures.longer)
     (longer_list c.self.inside.labels.seen c.note-note.result.seen c.self.invariant.list
     (subst (λ (l : List (ℕ × List (List ℕ))). IsLabelList (labels_of l)) (sym c.note-note.ensures.note.2) c.requires.labels))
@@ -34,7 +34,7 @@ invariant_of-self-2 c =
     (subst (λ (config : Config). IsEntry config (labels_of told.seen) c.args.entry) (sym (ap (λ (x : Index). x.config) c.self.view_is)) c.requires.entry)
     (omega (arith, c.if-at-self.false, c.len-at.ensures))))
 
-docs_are : (c : goal.After-meet) → docs_in (labels_of c.meet.new.into.seen) (map arc_value c.self.inside.segments.items) ++ docs_of c.add_waiting.new.waiting.items ≡ c.args.self.now.docs ++ c.args.entry.doc ∷ []
+docs_are : (c : goal.After-self-2-1) → docs_in (labels_of c.meet.new.into.seen) (map arc_value c.self.inside.segments.items) ++ docs_of c.add_waiting.new.waiting.items ≡ c.args.self.now.docs ++ c.args.entry.doc ∷ []
 docs_are c =
     let s = c.self.inside in
     let all = map arc_value s.segments.items in

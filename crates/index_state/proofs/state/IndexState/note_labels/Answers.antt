@@ -9,7 +9,7 @@ use Rattle.index_state.specs.Index.{Index}
 use Rattle.index_state.proofs.Keeping.{kept_noted, noted_docs}
 use Rattle.index_state.proofs.state.IndexState.note_labels.Goals as goal
 
-listed : (c : goal.After-meet) → IsLabelList (labels_of c.meet.new.into.seen)
+listed : (c : goal.After-self-1) → IsLabelList (labels_of c.meet.new.into.seen)
 listed c = subst (λ (l : List (ℕ × List (List ℕ))). IsLabelList (labels_of l)) (sym c.meet.ensures.longer) (longer_list c.self.inside.labels.seen c.args.labels.seen c.self.invariant.list c.requires.list)
 
 pub invariant_of-self : goal.invariant_of-self

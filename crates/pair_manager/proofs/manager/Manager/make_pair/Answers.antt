@@ -27,7 +27,7 @@ pub new-requires-clause-decodes : goal.new-requires-clause-decodes
 new-requires-clause-decodes g c =
     let config = c.args.last.now.config in
     let index = c.in_ok-segments.field-0 in
-    let all = map arc_value index.segments.items in
+    let all = index.segments in
     let history = c.note.result in
     let labels = c.note-2.result in
     let taken = c.renew.new.token in

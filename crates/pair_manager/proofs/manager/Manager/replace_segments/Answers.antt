@@ -1,7 +1,8 @@
 use Rattle.std.proofs.Common.{◌∙◌, ◌∷◌, []}
 use Rattle.std.specs.Arc.{arc_value}
+use Rattle.std.proofs.lemmas.Result.{IfOk-weaker}
 use Rattle.chronicle.specs.History.{entries}
-use Rattle.pair_manager.proofs.Sharing.{shared_on, index_decodes, index_after}
+use Rattle.pair_manager.proofs.Sharing.{shared_on, index_decodes, index_after, replaced_in}
 use Rattle.pair_manager.proofs.manager.Manager.replace_segments.Goals as goal
 
 pub replace-done-requires-clause-decodes : goal.replace-done-requires-clause-decodes
@@ -23,3 +24,9 @@ give-requires-clause-value g c =
     let t = c.take-index in
     let r = c.replace-done in
     (r.ensures.stands (entries t.new.token.seen) t.ensures.value.0, r.ensures.frame ∙ t.ensures.value.1)
+
+pub returns-clause-replaced : goal.returns-clause-replaced
+returns-clause-replaced g c =
+    let t = c.take-index in
+    let r = c.replace-done in
+    IfOk-weaker r.result _ _ (λ _ is. replaced_in c.args.scope c.args.before (arc_value c.args.merged) t.result r.new.index t.new.token c.give.new.token t.ensures.value.0 r.ensures.stands c.give.ensures.seen.0 is) r.ensures.replaced

@@ -16,5 +16,5 @@ returns-clause-decodes g c = IfOk-weaker c.snapshot-view.result _ _ (λ v decode
     let index = c.take-index.result in
     let is : index.config ≡ config = config_told index.config config (ap (λ (f : Frame). f.texts) (c.take-index.ensures.value.1 ∙ c.take-index.ensures.turn.0.4) ∙ sym same) in
     let all : index.docs ≡ docs (entries c.give.new.token.seen) = c.take-index.ensures.value.0.documents ∙ ap (λ l. docs (entries l)) (sym c.give.ensures.seen.0) in
-    subst (λ (x : Config). Decodes (labels_of v.labels.seen) x (map arc_value v.segments.items) (docs (entries c.give.new.token.seen))) is
-    (subst (λ (ds : List Doc). Decodes (labels_of v.labels.seen) index.config (map arc_value v.segments.items) ds) all decodes)) c.snapshot-view.ensures.decodes
+    subst (λ (x : Config). Decodes (labels_of v.labels.seen) x v.segments (docs (entries c.give.new.token.seen))) is
+    (subst (λ (ds : List Doc). Decodes (labels_of v.labels.seen) index.config v.segments ds) all decodes)) c.snapshot-view.ensures.decodes
