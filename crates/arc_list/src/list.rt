@@ -1,4 +1,5 @@
-ghost use Rattle.std.specs.Prelude.{◌≡◌, ◌<◌, ◌≤◌, ◌+◌, ◌^◌, ◌++◌, [], ◌∷◌, IfOk, IfSome, OnOk, OnErr, IfNone, length, map};
+ghost use Rattle.std.specs.Prelude.{◌≡◌, ◌<◌, ◌≤◌, ◌+◌, ◌^◌, ◌++◌, [], ◌∷◌, IfOk, IfSome, OnOk, OnErr, IfNone, length};
+ghost use Rattle.std.specs.Prelude.{map};
 ghost use Rattle.std.specs.Arc.{arc_value};
 ghost use mathlib.Core.List.{IsPrefix};
 
@@ -31,7 +32,8 @@ impl<T> Model for ArcList<T> {
 
     ghost view = { λ s. joined (λ p. values_in arc_value (arc_value p)) s.full.items (map arc_value s.last.items) };
 
-    ghost invariant = { λ s. ArePieces (λ p. values_in arc_value (arc_value p)) s.full.items (map arc_value s.last.items) s.count };
+    ghost invariant = { λ s. ArePieces (λ p. values_in arc_value (arc_value p)) s.full.items
+        (map arc_value s.last.items) s.count };
 }
 
 // Adds one owner more of each of these entries after the others.

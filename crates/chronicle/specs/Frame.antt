@@ -16,6 +16,7 @@ empty_frame = record { numbers = []; texts = []; identities = [] }
 
 -- how the proofs store a frame next to a value
 abbrev pub frame_coded : Coded Frame
-frame_coded = coded_via (coded× (coded_list coded_ℕ) (coded× (coded_list (coded_list coded_ℕ)) (coded_list table_id_coded)))
+frame_coded = coded_via (coded× (coded_list coded_ℕ) (coded× (coded_list (coded_list coded_ℕ))
+    (coded_list table_id_coded)))
     (λ (f : Frame). (f.numbers, (f.texts, f.identities)))
     (λ x y e i. record { numbers = (e i).0; texts = (e i).1.0; identities = (e i).1.1 })

@@ -1,5 +1,6 @@
 -- A history: entries in the order in which they were entered, each with the number of the token that entered it.
-use Rattle.std.specs.Prelude.{◌==◌, ◌≤◌, nat_lt, length, if◌then◌else◌, ℕ, Bool, true, false, List, [], All, filter, map}
+use Rattle.std.specs.Prelude.{◌==◌, ◌≤◌, nat_lt, length, if◌then◌else◌, ℕ, Bool, true, false, List, [], All, filter}
+use Rattle.std.specs.Prelude.{map}
 
 module _ {E : Type 0} where
   -- the entries alone

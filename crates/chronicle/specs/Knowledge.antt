@@ -70,31 +70,94 @@ module _ {E : Type 0} where
 
   -- the same, at another stage
   abbrev pub with_stage : Stage → Knowledge E → Knowledge E
-  with_stage g k = record { marker = k.marker; stage = g; is_note = k.is_note; number = k.number; made = k.made; seen = k.seen; told = k.told; frame = k.frame }
+  with_stage g k = record {
+    marker = k.marker;
+    stage = g;
+    is_note = k.is_note;
+    number = k.number;
+    made = k.made;
+    seen = k.seen;
+    told = k.told;
+    frame = k.frame;
+  }
 
   -- the same, at a stage and with a prefix of the history that it has seen
   abbrev pub having_seen : Stage → List (ℕ × E) → Knowledge E → Knowledge E
-  having_seen g log k = record { marker = k.marker; stage = g; is_note = k.is_note; number = k.number; made = k.made; seen = log; told = k.told; frame = k.frame }
+  having_seen g log k = record {
+    marker = k.marker;
+    stage = g;
+    is_note = k.is_note;
+    number = k.number;
+    made = k.made;
+    seen = log;
+    told = k.told;
+    frame = k.frame;
+  }
 
   -- the first token, after one more was made from it
   abbrev pub after_making : Knowledge E → Knowledge E
-  after_making k = record { marker = k.marker; stage = k.stage; is_note = k.is_note; number = k.number; made = k.made + 1; seen = k.seen; told = k.told; frame = k.frame }
+  after_making k = record {
+    marker = k.marker;
+    stage = k.stage;
+    is_note = k.is_note;
+    number = k.number;
+    made = k.made + 1;
+    seen = k.seen;
+    told = k.told;
+    frame = k.frame;
+  }
 
   -- the token that is made from it
   abbrev pub made_from : Knowledge E → Knowledge E
-  made_from k = record { marker = k.marker; stage = Idle; is_note = false; number = k.made + 1; made = 0; seen = k.seen; told = []; frame = k.frame }
+  made_from k = record {
+    marker = k.marker;
+    stage = Idle;
+    is_note = false;
+    number = k.made + 1;
+    made = 0;
+    seen = k.seen;
+    told = [];
+    frame = k.frame;
+  }
 
   -- a note of what it has seen
   abbrev pub note_of : Knowledge E → Knowledge E
-  note_of k = record { marker = k.marker; stage = Idle; is_note = true; number = 0; made = 0; seen = k.seen; told = []; frame = k.frame }
+  note_of k = record {
+    marker = k.marker;
+    stage = Idle;
+    is_note = true;
+    number = 0;
+    made = 0;
+    seen = k.seen;
+    told = [];
+    frame = k.frame;
+  }
 
   -- it is shown what another has seen
   abbrev pub told_of : Knowledge E → Knowledge E → Knowledge E
-  told_of k other = record { marker = k.marker; stage = k.stage; is_note = k.is_note; number = k.number; made = k.made; seen = k.seen; told = other.seen; frame = k.frame }
+  told_of k other = record {
+    marker = k.marker;
+    stage = k.stage;
+    is_note = k.is_note;
+    number = k.number;
+    made = k.made;
+    seen = k.seen;
+    told = other.seen;
+    frame = k.frame;
+  }
 
   -- the other one then
   abbrev pub spent : Knowledge E
-  spent = record { marker = record {}; stage = Spent; is_note = true; number = 0; made = 0; seen = []; told = []; frame = empty_frame }
+  spent = record {
+    marker = record {};
+    stage = Spent;
+    is_note = true;
+    number = 0;
+    made = 0;
+    seen = [];
+    told = [];
+    frame = empty_frame;
+  }
 
   -- the first token has seen no entry under a number that was not given yet
   abbrev pub Counts : List (ℕ × E) → Knowledge E → Type 0

@@ -3,7 +3,8 @@
 -- opening,
 -- modulo 2 ^ 64. Word 3 is whether a thread may be sleeping; the rule does not restrict it.
 -- The only slot has the value, or None while a seat in its turn has it.
-use Rattle.std.specs.Prelude.{◌≡◌, ◌≢◌, ℕ, ◌+◌, ◌%◌, ◌^◌, ◌<◌, ◌≤◌, true, false, List, [], ◌∷◌, length, Option, Some, None}
+use Rattle.std.specs.Prelude.{◌≡◌, ◌≢◌, ℕ, ◌+◌, ◌%◌, ◌^◌, ◌<◌, ◌≤◌, true, false, List, [], ◌∷◌, length, Option, Some}
+use Rattle.std.specs.Prelude.{None}
 use mathlib.Core.Option.{some, none}
 use mathlib.Core.Option as maybe
 use mathlib.Core.List.{IsPrefix}
@@ -44,7 +45,8 @@ module _ {E : Type 0} where
 
   -- no two seats have the same key
   abbrev pub Apart : (Knowledge E → maybe.Option ℕ) → List (Knowledge E) → Type 0
-  Apart key views = (i j x : ℕ) (k l : Knowledge E) → get_elem? views i ≡ some k → get_elem? views j ≡ some l → key k ≡ some x → key l ≡ some x → i ≡ j
+  Apart key views = (i j x : ℕ) (k l : Knowledge E) → get_elem? views i ≡ some k → get_elem? views j ≡ some l
+      → key k ≡ some x → key l ≡ some x → i ≡ j
 
   -- the first token knows how many numbers were given
   abbrev pub KnowsGiven : ℕ → List (Knowledge E) → Type 0
@@ -60,7 +62,8 @@ module _ {E : Type 0} where
   IsAt next serving log turn j k (WithSlot ticket) = (turn ≡ reaching j) × (ticket ≡ serving) × (k.seen ≡ log)
 
   -- what the seat j knows is true
-  pub record Fits (frame : Frame) (given next serving : ℕ) (log : List (ℕ × E)) (turn : Turn) (j : ℕ) (k : Knowledge E) : Type 0 where
+  pub record Fits (frame : Frame) (given next serving : ℕ) (log : List (ℕ
+      × E)) (turn : Turn) (j : ℕ) (k : Knowledge E) : Type 0 where
     pub at : IsAt next serving log turn j k k.stage
     pub framed : k.stage ≢ Spent → k.frame ≡ frame
     pub begins : IsPrefix k.seen log
@@ -71,13 +74,16 @@ module _ {E : Type 0} where
 
 module _ {V E : Type 0} where
   -- If nobody holds the lock, the slot has a value that represents the whole history, and has the frame.
-  abbrev pub SlotAt : (V → List E → Type 0) → (V → Frame) → Frame → List (ℕ × E) → List (maybe.Option (Option V)) → Turn → Type 0
-  SlotAt stands frame f log homes nobody = (v : V) × (homes ≡ some (Some v) ∷ []) × stands v (entries log) × (frame v ≡ f)
+  abbrev pub SlotAt : (V → List E → Type 0) → (V → Frame) → Frame → List (ℕ × E) → List (maybe.Option (Option V))
+      → Turn → Type 0
+  SlotAt stands frame f log homes nobody = (v : V) × (homes ≡ some (Some v) ∷ []) × stands v (entries log)
+      × (frame v ≡ f)
   SlotAt stands frame f log homes (inside j) = homes ≡ some None ∷ []
   SlotAt stands frame f log homes (reaching j) = homes ≡ none ∷ []
 
   -- `about` is the value that the chronicle was opened with
-  pub record IsChronicle (stands : V → List E → Type 0) (frame : V → Frame) (opening : V → List E) (about : Snapshot V) (s : State (Option V) (Knowledge E)) : Type 0 where
+  pub record IsChronicle (stands : V → List E → Type 0) (frame : V → Frame) (opening : V
+      → List E) (about : Snapshot V) (s : State (Option V) (Knowledge E)) : Type 0 where
     -- the history, which exists in the proofs only
     pub log : List (ℕ × E)
     pub turn : Turn
@@ -93,7 +99,8 @@ module _ {V E : Type 0} where
     pub tickets_out : serving + (taken turn + waiting s.views) ≡ next
     pub bounded : next < 2 ^ 64
     pub slot : SlotAt stands frame (frame about.value) log s.homes turn
-    pub each : (j : ℕ) (k : Knowledge E) → get_elem? s.views j ≡ some k → Fits (frame about.value) given next serving log turn j k
+    pub each : (j : ℕ) (k : Knowledge E) → get_elem? s.views j ≡ some k
+        → Fits (frame about.value) given next serving log turn j k
     pub tickets : Apart ticket_of s.views
     pub numbers : Apart number_of s.views
     pub within : NumbersUpTo given log
@@ -101,4 +108,13 @@ module _ {V E : Type 0} where
 
   -- what the first seat knows
   abbrev pub first_of : (V → Frame) → (V → List E) → Snapshot V → Knowledge E
-  first_of frame opening about = record { marker = record {}; stage = Idle; is_note = false; number = 0; made = 0; seen = numbered 0 (opening about.value); told = []; frame = frame about.value }
+  first_of frame opening about = record {
+    marker = record {};
+    stage = Idle;
+    is_note = false;
+    number = 0;
+    made = 0;
+    seen = numbered 0 (opening about.value);
+    told = [];
+    frame = frame about.value;
+  }

@@ -24,9 +24,20 @@ pub record Shown (E : Type 0) : Type 0 where
 
 -- how the proofs store this next to a token
 abbrev pub shown_coded : {E : Type 0} → Coded E → Coded (Shown E)
-shown_coded {E} c = coded_via (coded× (coded_list (coded× coded_ℕ c)) (coded× coded_ℕ (coded× coded_ℕ (coded× coded_bool (coded× coded_bool (coded× coded_bool (coded× table_id_coded frame_coded)))))))
+shown_coded {E} c = coded_via (coded× (coded_list (coded× coded_ℕ c))
+    (coded× coded_ℕ (coded× coded_ℕ (coded× coded_bool (coded× coded_bool
+    (coded× coded_bool (coded× table_id_coded frame_coded)))))))
     (λ (s : Shown E). (s.seen, (s.number, (s.made, (s.is_note, (s.holds_turn, (s.has_ended, (s.identity, s.frame))))))))
-    (λ x y e i. record { seen = (e i).0; number = (e i).1.0; made = (e i).1.1.0; is_note = (e i).1.1.1.0; holds_turn = (e i).1.1.1.1.0; has_ended = (e i).1.1.1.1.1.0; identity = (e i).1.1.1.1.1.1.0; frame = (e i).1.1.1.1.1.1.1 })
+    (λ x y e i. record {
+      seen = (e i).0;
+      number = (e i).1.0;
+      made = (e i).1.1.0;
+      is_note = (e i).1.1.1.0;
+      holds_turn = (e i).1.1.1.1.0;
+      has_ended = (e i).1.1.1.1.1.0;
+      identity = (e i).1.1.1.1.1.1.0;
+      frame = (e i).1.1.1.1.1.1.1;
+    })
 
 module _ {E : Type 0} where
   -- the seen entries that its holder entered
@@ -47,7 +58,8 @@ module _ {E : Type 0} where
 
   -- the same token of the same chronicle; what it has seen may differ, and whether it holds the lock
   abbrev pub SameToken : Shown E → Shown E → Type 0
-  SameToken old new = (new.number ≡ old.number) × (new.made ≡ old.made) × (new.is_note ≡ old.is_note) × (new.identity ≡ old.identity)
+  SameToken old new = (new.number ≡ old.number) × (new.made ≡ old.made) × (new.is_note ≡ old.is_note)
+      × (new.identity ≡ old.identity)
       × (new.frame ≡ old.frame) × (new.has_ended ≡ old.has_ended)
 
   -- the same token, which now holds the lock for good, and has maybe seen more
@@ -60,16 +72,20 @@ module _ {E : Type 0} where
 
   -- one more token was made from it, and nothing else changed
   abbrev pub MakesOne : Shown E → Shown E → Type 0
-  MakesOne old new = (new.number ≡ old.number) × (new.made ≡ old.made + 1) × (new.is_note ≡ old.is_note) × (new.holds_turn ≡ old.holds_turn)
-      × (new.seen ≡ old.seen) × (new.identity ≡ old.identity) × (new.frame ≡ old.frame) × (new.has_ended ≡ old.has_ended)
+  MakesOne old new = (new.number ≡ old.number) × (new.made ≡ old.made + 1) × (new.is_note ≡ old.is_note)
+      × (new.holds_turn ≡ old.holds_turn)
+      × (new.seen ≡ old.seen) × (new.identity ≡ old.identity) × (new.frame ≡ old.frame)
+      × (new.has_ended ≡ old.has_ended)
 
   -- a new token of the next number, which has seen the same
   abbrev pub IsMadeFrom : Shown E → Shown E → Type 0
-  IsMadeFrom first t = (t.number ≡ first.made + 1) × (t.made ≡ 0) × MayTake t × (t.seen ≡ first.seen) × (t.identity ≡ first.identity) × (t.frame ≡ first.frame)
+  IsMadeFrom first t = (t.number ≡ first.made + 1) × (t.made ≡ 0) × MayTake t × (t.seen ≡ first.seen)
+      × (t.identity ≡ first.identity) × (t.frame ≡ first.frame)
 
   -- a note of what it has seen
   abbrev pub IsNoteOf : Shown E → Shown E → Type 0
-  IsNoteOf of note = (note.is_note ≡ true) × (note.holds_turn ≡ false) × (note.seen ≡ of.seen) × (note.identity ≡ of.identity)
+  IsNoteOf of note = (note.is_note ≡ true) × (note.holds_turn ≡ false) × (note.seen ≡ of.seen)
+      × (note.identity ≡ of.identity)
       × (note.frame ≡ of.frame) × (note.has_ended ≡ false)
 
   -- the token of number 0 has seen no entry under a number that was not given yet

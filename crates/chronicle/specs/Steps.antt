@@ -26,7 +26,9 @@ module _ {V E : Type 0} where
   -- caller has then seen.
   abbrev pub Looks : (V → List E → Type 0) → (V → Frame) → Telling V E
   Looks stands frame st m r m' =
-      (m.0.stage ≡ Waiting r → (v : V) × (log : List (ℕ × E)) × (m' ≡ (having_seen (WithSlot r) log m.0, (0, Some v) ∷ [])) × stands v (entries log) × (frame v ≡ m.0.frame) × Learns m.0 log)
+      (m.0.stage ≡ Waiting r → (v : V) × (log : List (ℕ × E))
+      × (m' ≡ (having_seen (WithSlot r) log m.0, (0, Some v) ∷ [])) × stands v (entries log)
+      × (frame v ≡ m.0.frame) × Learns m.0 log)
       × (m.0.stage ≢ Waiting r → m' ≡ m)
 
   -- the empty slot is out with the caller
@@ -43,7 +45,11 @@ module _ {V E : Type 0} where
 
   -- the entry is under the caller's number at the end of all that it has seen
   abbrev pub Enters : Option E → Telling V E
-  Enters added st m r m' = (e : E) × (added ≡ Some e) × (m' ≡ (having_seen m.0.stage (m.0.seen ++ (m.0.number, e) ∷ []) m.0, m.1))
+  Enters added st m r m' = (e : E) × (added ≡ Some e) × (m' ≡ (
+    having_seen m.0.stage (m.0.seen
+        ++ (m.0.number, e) ∷ []) m.0,
+    m.1,
+  ))
 
   -- of what it has seen and what it was shown, one is a prefix of the other, and it has then seen the longer
   abbrev pub Compares : Telling V E

@@ -2,7 +2,8 @@
 ghost use Rattle.std.specs.Prelude.{◌≡◌, ◌⊎◌, true, false, [], ◌∷◌, ◌++◌, Some};
 ghost use mathlib.Core.List.{IsPrefix};
 ghost use Rattle.chronicle.specs.History.{entries, longer};
-ghost use Rattle.chronicle.specs.Knowledge.{with_stage, having_seen, after_making, made_from, note_of, told_of, is_in_turn, Rests, Learns};
+ghost use Rattle.chronicle.specs.Knowledge.{with_stage, having_seen, after_making, made_from, note_of, told_of};
+ghost use Rattle.chronicle.specs.Knowledge.{is_in_turn, Rests, Learns};
 ghost use Rattle.chronicle.specs.declared.knowledge.Stage.TheVariants.{Idle, Waiting, InTurn};
 
 use crate::knowledge::Knowledge;
@@ -155,7 +156,11 @@ pub(crate) fn add_entry<V: Standing, W: Adding<V::Entry>>(
     requires board { (seat.old.table_id ≡ board.now.table_id) × (board.now.table_id.words ≡ 4) }
     requires turn { (is_in_turn seat.old.me.0.stage ≡ true) × (seat.old.me.1 ≡ []) × (seat.old.me.0.is_note ≡ false) }
     ensures board { (seat.new.table_id ≡ seat.old.table_id) × (seat.new.id ≡ seat.old.id) }
-    ensures added { seat.new.me ≡ (having_seen seat.old.me.0.stage (seat.old.me.0.seen ++ (seat.old.me.0.number, entry.now) ∷ []) seat.old.me.0, []) }
+    ensures added { seat.new.me ≡ (
+      having_seen seat.old.me.0.stage (seat.old.me.0.seen
+          ++ (seat.old.me.0.number, entry.now) ∷ []) seat.old.me.0,
+      [],
+    ) }
 {
     let _ = entry;
     board.fetch_add::<Enter<W>>(seat, ENTERED, 1);
@@ -167,8 +172,10 @@ pub(crate) fn make_seat<V: Standing>(
     first: &mut Holder<V, V::Entry>,
 ) -> Holder<V, V::Entry>
     requires board { (first.old.table_id ≡ board.now.table_id) × (board.now.table_id.words ≡ 4) }
-    requires first { Rests first.old.me.0.stage × (first.old.me.0.is_note ≡ false) × (first.old.me.0.number ≡ 0) × (first.old.me.1 ≡ []) }
-    ensures board { (first.new.table_id ≡ first.old.table_id) × (first.new.id ≡ first.old.id) × (result.table_id ≡ first.old.table_id) }
+    requires first { Rests first.old.me.0.stage × (first.old.me.0.is_note ≡ false) × (first.old.me.0.number ≡ 0)
+        × (first.old.me.1 ≡ []) }
+    ensures board { (first.new.table_id ≡ first.old.table_id) × (first.new.id ≡ first.old.id)
+        × (result.table_id ≡ first.old.table_id) }
     ensures first { first.new.me ≡ (after_making first.old.me.0, []) }
     ensures made { result.me ≡ (made_from first.old.me.0, []) }
 {
@@ -181,7 +188,8 @@ pub(crate) fn note_seat<V: Standing>(
 ) -> Holder<V, V::Entry>
     requires board { (of.old.table_id ≡ board.now.table_id) × (board.now.table_id.words ≡ 4) }
     requires rests { Rests of.old.me.0.stage × (of.old.me.1 ≡ []) }
-    ensures board { (of.new.table_id ≡ of.old.table_id) × (of.new.id ≡ of.old.id) × (result.table_id ≡ of.old.table_id) }
+    ensures board { (of.new.table_id ≡ of.old.table_id) × (of.new.id ≡ of.old.id)
+        × (result.table_id ≡ of.old.table_id) }
     ensures of { of.new.me ≡ of.old.me }
     ensures note { result.me ≡ (note_of of.old.me.0, []) }
 {
@@ -195,10 +203,13 @@ pub(crate) fn tell_seat<V: Standing>(
     seat: &mut Holder<V, V::Entry>,
     other: Holder<V, V::Entry>,
 )
-    requires board { (seat.old.table_id ≡ board.now.table_id) × (other.table_id ≡ board.now.table_id) × (board.now.table_id.words ≡ 4) }
-    requires idle { (seat.old.me.0.stage ≡ Idle) × (seat.old.me.1 ≡ []) × (other.me.0.stage ≡ Idle) × (other.me.1 ≡ []) }
+    requires board { (seat.old.table_id ≡ board.now.table_id) × (other.table_id ≡ board.now.table_id)
+        × (board.now.table_id.words ≡ 4) }
+    requires idle { (seat.old.me.0.stage ≡ Idle) × (seat.old.me.1 ≡ []) × (other.me.0.stage ≡ Idle)
+        × (other.me.1 ≡ []) }
     ensures board { (seat.new.table_id ≡ seat.old.table_id) × (seat.new.id ≡ seat.old.id) }
-    ensures told { seat.new.me ≡ (having_seen Idle (longer seat.old.me.0.seen other.me.0.seen) (told_of seat.old.me.0 other.me.0), []) }
+    ensures told { seat.new.me
+        ≡ (having_seen Idle (longer seat.old.me.0.seen other.me.0.seen) (told_of seat.old.me.0 other.me.0), []) }
     ensures one { IsPrefix seat.old.me.0.seen other.me.0.seen ⊎ IsPrefix other.me.0.seen seat.old.me.0.seen }
     ensures begins { IsPrefix other.me.0.seen seat.new.me.0.seen }
     ensures learns { Learns seat.old.me.0 seat.new.me.0.seen }

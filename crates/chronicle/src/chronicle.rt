@@ -1,7 +1,8 @@
 ghost use Rattle.std.specs.Prelude.{◌≡◌, ◌<◌, ◌^◌, ◌-◌, ◌⊎◌, true, false, ◌++◌, [], ◌∷◌, IfOk, IfErr};
 ghost use mathlib.Core.List.{IsPrefix};
 ghost use Rattle.chronicle.specs.History.{entries, numbered, longer};
-ghost use Rattle.chronicle.specs.Shown.{mine, MayTake, MayGive, MayEnter, SameToken, EndsWith, SeesOn, MakesOne, IsMadeFrom, IsNoteOf, IsCounted};
+ghost use Rattle.chronicle.specs.Shown.{mine, MayTake, MayGive, MayEnter, SameToken, EndsWith, SeesOn, MakesOne};
+ghost use Rattle.chronicle.specs.Shown.{IsMadeFrom, IsNoteOf, IsCounted};
 
 use crate::board;
 use crate::knowledge::Knowledge;

@@ -1,5 +1,6 @@
 -- What command-line arguments mean, as `clap` parses them for a simple command.
-use Rattle.std.specs.Prelude.{◌==◌, ℕ, if◌then◌else◌, true, false, Bool, List, codes, length, is_none, Option, Some, None, option_map, option_and_then, unwrap_or}
+use Rattle.std.specs.Prelude.{◌==◌, ℕ, if◌then◌else◌, true, false, Bool, List, codes, length, is_none, Option, Some}
+use Rattle.std.specs.Prelude.{None, option_map, option_and_then, unwrap_or}
 use Rattle.std.specs.Option.{option_map_or}
 use Rattle.std.specs.Str.Parse.{digits_value, without_leading_plus}
 use Rattle.clap.specs.Simple.{on_top}
@@ -11,7 +12,10 @@ use Rattle.clap.specs.declared.builder.value_parser.ValueParser.TheVariants.{Uns
 
 -- `--generate N`, with N from 1 to 1,000,000
 abbrev pub generate_rule : Rule
-generate_rule = record (new_rule (codes "generate")) { long = Some (codes "generate"); parser = Some (Unsigned 1 1000000) }
+generate_rule = record (new_rule (codes "generate")) {
+  long = Some (codes "generate");
+  parser = Some (Unsigned 1 1000000);
+}
 
 -- `--sessions K`, with K from 1 to 8
 abbrev pub sessions_rule : Rule
@@ -38,7 +42,8 @@ pub record Words : Type 0 where
 
 -- the number that a text is, if it is one from `low` to `high`
 abbrev pub number_within : ℕ → ℕ → List ℕ → Option ℕ
-number_within low high text = if is_unsigned_in low high text then Some (digits_value 10 (without_leading_plus text)) else None
+number_within low high text =
+    if is_unsigned_in low high text then Some (digits_value 10 (without_leading_plus text)) else None
 
 -- an optional number
 abbrev pub given_within : ℕ → ℕ → Option (List ℕ) → Option (Option ℕ)
@@ -50,7 +55,8 @@ words_in dir generate sessions = record { dir = dir; generate = generate; sessio
 
 -- what was found under the names of the arguments; by default one session
 abbrev pub words_of_rows : List Row → Option Words
-words_of_rows rows = option_and_then (λ dir. option_and_then (λ generate. option_map (λ sessions. words_in dir generate sessions)
+words_of_rows rows = option_and_then (λ dir. option_and_then (λ generate. option_map
+    (λ sessions. words_in dir generate sessions)
     (given_within 1 8 (first_of (codes "sessions") rows)))
     (given_within 1 1000000 (first_of (codes "generate") rows)))
     (first_of (codes "DIR") rows)

@@ -41,7 +41,8 @@ told_by_all (call ∷ calls) s = told_by_all calls (told_by call s)
 
 -- what may be read after a failed call: a file may be written or half written, a rename or removal may have happened
 abbrev pub IsFailed : Call → Told → Option Told → Type 0
-IsFailed (put name bytes) s now = (now ≡ Some s) ⊎ (now ≡ Some (half_put_in s name)) ⊎ ((any : List ℕ) × (now ≡ Some (put_in s name any)))
+IsFailed (put name bytes) s now = (now ≡ Some s) ⊎ (now ≡ Some (half_put_in s name))
+    ⊎ ((any : List ℕ) × (now ≡ Some (put_in s name any)))
 IsFailed (sync name) s now = now ≡ Some s
 IsFailed (rename from to) s now = (now ≡ Some s) ⊎ (now ≡ Some (renamed_in s from to))
 IsFailed (sync_names dir) s now = now ≡ Some s
@@ -63,7 +64,8 @@ files_calls = flat_map (λ w. file_calls w.name w.bytes.items)
 
 -- the calls of a plan: its files, the taxonomy's part, the index's, and its strays
 abbrev pub calls_of : Plan → List Call
-calls_of p = files_calls p.writes.items ++ (part_calls Taxonomy p.taxonomy ++ (part_calls Index p.index ++ map remove p.strays.items))
+calls_of p = files_calls p.writes.items ++ (part_calls Taxonomy p.taxonomy
+    ++ (part_calls Index p.index ++ map remove p.strays.items))
 
 -- how many calls a part makes
 abbrev pub part_count : Option ℕ → ℕ

@@ -10,4 +10,5 @@ use Rattle.commit_calls.specs.Plans.{Leads}
 -- This holds for a disk whose files are known and whose images all represent a taxonomy and an index, and for a
 -- taxonomy and an index that the plan leads to.
 abbrev pub WhereItLeads : {D : Type 0} → Ghosts D → Plan → D → (Held → Held → Held → Held → Type 0) → Type 0
-WhereItLeads disk p old holds = (s : Told) (t i t' i' : Held) → disk.told old ≡ Some s → Leads p t i t' i' → IsAt disk.may_leave p.from t i old → holds t i t' i'
+WhereItLeads disk p old holds = (s : Told) (t i t' i' : Held) → disk.told old ≡ Some s → Leads p t i t' i'
+    → IsAt disk.may_leave p.from t i old → holds t i t' i'

@@ -1,5 +1,6 @@
 -- Reading commit files from left to right, with the first fault.
-use Rattle.std.specs.Prelude.{◌≡◌, ◌==◌, ◌+◌, ◌-◌, ◌/◌, ◌%◌, ◌&&◌, ◌||◌, ℕ, zero, suc, not, nat_lt, nat_le, List, [], ◌∷◌, length, take, drop, Result, Ok, Err, if◌then◌else◌}
+use Rattle.std.specs.Prelude.{◌≡◌, ◌==◌, ◌+◌, ◌-◌, ◌/◌, ◌%◌, ◌&&◌, ◌||◌, ℕ, zero, suc, not, nat_lt, nat_le, List, []}
+use Rattle.std.specs.Prelude.{◌∷◌, length, take, drop, Result, Ok, Err, if◌then◌else◌}
 use Rattle.std.specs.Ordering.{is_lt}
 use Rattle.std.specs.Str.{bytes_eq}
 use Rattle.sha2.specs.Sha256.{sha256}
@@ -75,7 +76,8 @@ abbrev pub digest_at : Place → Result (List ℕ × Place) FileFault
 digest_at p = told (bytes_at 32 p)
 
 -- So many values. Each is read given how many come after it, and a sum of those before it.
-unfoldable pub each_at : {A S : Type 0} → (ℕ → S → Place → Result (A × Place) FileFault) → (S → A → S) → ℕ → S → Place → Result (List A × Place) FileFault
+unfoldable pub each_at : {A S : Type 0} → (ℕ → S → Place → Result (A × Place) FileFault) → (S → A → S) → ℕ → S → Place
+    → Result (List A × Place) FileFault
 each_at read next zero state p = Ok ([], p)
 each_at read next (suc n) state p = do
   first ← read n state p
@@ -96,7 +98,8 @@ digest_in bytes = drop (length bytes - 32) bytes
 -- the bytes before the digest, if they have that digest
 unfoldable pub unsealed : List ℕ → Result (List ℕ) FileFault
 unsealed bytes = if nat_lt (length bytes) 32 then Err (Malformed (length bytes)) else
-    (if bytes_eq (digest_in bytes) (sha256 (body_of bytes)) then Ok (body_of bytes) else Err (Damaged (digest_in bytes) (sha256 (body_of bytes))))
+    (if bytes_eq (digest_in bytes) (sha256 (body_of bytes)) then Ok (body_of bytes)
+    else Err (Damaged (digest_in bytes) (sha256 (body_of bytes))))
 
 -- ---- a taxonomy commit
 

@@ -22,7 +22,8 @@ label_bytes part = be64 part.number ++ (be32 part.first ++ (be32 part.count ++ p
 
 -- `FTCM`, the version and the number; how many labels there are, how many segments, and the segments
 unfoldable pub taxonomy_bytes : ℕ → TaxonomyListing → List ℕ
-taxonomy_bytes number c = head_bytes 0x4654434d number ++ (be32 c.labels ++ (be32 (length c.parts) ++ flat_map label_bytes c.parts))
+taxonomy_bytes number c = head_bytes 0x4654434d number ++ (be32 c.labels
+    ++ (be32 (length c.parts) ++ flat_map label_bytes c.parts))
 
 -- a taxonomy commit of this number
 abbrev pub taxonomy_commit_bytes : ℕ → TaxonomyListing → List ℕ
@@ -30,7 +31,8 @@ taxonomy_commit_bytes number c = with_digest (taxonomy_bytes number c)
 
 -- the flags as one number: 1 for hierarchical, 2 for multi-valued, 4 for a required count, summed
 abbrev pub flags_number : DimFlags → ℕ
-flags_number f = (if f.hierarchical then 1 else 0) + ((if f.multi_valued then 2 else 0) + (if f.require_dim_count then 4 else 0))
+flags_number f = (if f.hierarchical then 1 else 0) + ((if f.multi_valued then 2 else 0)
+    + (if f.require_dim_count then 4 else 0))
 
 -- a dimension and its flags
 unfoldable pub declaration_bytes : List ℕ × DimFlags → List ℕ
@@ -43,7 +45,9 @@ document_bytes part = be64 part.number ++ (be32 part.documents ++ part.digest)
 -- `FICM`, the version and the number; how many labels are needed, how many declarations, these, how many segments, and
 -- these
 unfoldable pub index_bytes : ℕ → IndexListing → List ℕ
-index_bytes number c = head_bytes 0x4649434d number ++ (be32 c.needs ++ (vint (length c.kept) ++ (flat_map declaration_bytes c.kept ++ (be32 (length c.parts) ++ flat_map document_bytes c.parts))))
+index_bytes number c = head_bytes 0x4649434d number ++ (be32 c.needs
+    ++ (vint (length c.kept) ++ (flat_map declaration_bytes c.kept
+    ++ (be32 (length c.parts) ++ flat_map document_bytes c.parts))))
 
 -- an index commit of this number
 abbrev pub index_commit_bytes : ℕ → IndexListing → List ℕ

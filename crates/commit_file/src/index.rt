@@ -1,4 +1,5 @@
-ghost use Rattle.std.specs.Prelude.{◌≡◌, ◌≢◌, ◌+◌, ◌<◌, ◌≤◌, ◌^◌, ◌++◌, ◌∷◌, [], ℕ, List, Ok, Err, None, true, length, map, IfOk, OnOk, IfErr};
+ghost use Rattle.std.specs.Prelude.{◌≡◌, ◌≢◌, ◌+◌, ◌<◌, ◌≤◌, ◌^◌, ◌++◌, ◌∷◌, [], ℕ, List, Ok, Err, None, true, length};
+ghost use Rattle.std.specs.Prelude.{map, IfOk, OnOk, IfErr};
 ghost use Rattle.commit_file.specs.declared.fault.FileFault.TheVariants.{NoMemory as Memory};
 ghost use Rattle.std.specs.Ordering.{is_lt};
 ghost use Rattle.std.specs.List.{AllByRecursion, sum_by};
@@ -8,7 +9,8 @@ ghost use Rattle.facet_config.specs.Declarations.{AreDimensions};
 ghost use Rattle.commit_file.specs.Commits.{index_listing, declaration, documents_of, documents_listed, kept_of};
 ghost use Rattle.commit_file.specs.Limits.{IsDocumentPart, IsDeclaration};
 ghost use Rattle.commit_file.specs.Spelling.{index_commit_bytes};
-ghost use Rattle.commit_file.specs.Reading.{Reads, Gives, flags_of, flags_at, dim_at, declaration_at, declarations_at, documents_at, document_part_at, document_parts_at, index_at, index_commit};
+ghost use Rattle.commit_file.specs.Reading.{Reads, Gives, flags_of, flags_at, dim_at, declaration_at, declarations_at};
+ghost use Rattle.commit_file.specs.Reading.{documents_at, document_part_at, document_parts_at, index_at, index_commit};
 
 use crate::digest::{body, seal};
 use crate::fault::FileFault;
@@ -236,7 +238,8 @@ fn write(
     requires kept { length kept.now < 2 ^ 32 }
     requires named { AreDimensions (map declaration kept.now) }
     requires parts { length parts.now < 2 ^ 32 }
-    ensures bytes { IfOk result (λ v. v.items ≡ index_commit_bytes number (documents_listed needs (map declaration kept.now) parts.now)) }
+    ensures bytes { IfOk result (λ v. v.items
+        ≡ index_commit_bytes number (documents_listed needs (map declaration kept.now) parts.now)) }
     ensures declarations { IfOk result (λ _. AllByRecursion IsDeclaration (map declaration kept.now)) }
     ensures documents { IfOk result (λ _. AllByRecursion IsDocumentPart parts.now) }
 {
@@ -267,8 +270,10 @@ pub fn write_index_commit(
     requires some { 0 < length parts.now }
     requires few { length parts.now < 2 ^ 32 }
     requires documents { sum_by documents_of parts.now ≤ 1000000 }
-    ensures bytes { IfOk result (λ v. v.items ≡ index_commit_bytes number (documents_listed needs (kept_of config.now) parts.now)) }
-    ensures again { IfOk result (λ v. index_commit number v.items ≡ Ok (documents_listed needs (kept_of config.now) parts.now)) }
+    ensures bytes { IfOk result (λ v. v.items
+        ≡ index_commit_bytes number (documents_listed needs (kept_of config.now) parts.now)) }
+    ensures again { IfOk result (λ v. index_commit number v.items
+        ≡ Ok (documents_listed needs (kept_of config.now) parts.now)) }
 {
     let kept = kept(alloc, config)?;
     if kept.len() > u32::MAX as usize {

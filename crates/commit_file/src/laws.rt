@@ -13,14 +13,16 @@ ghost use Rattle.commit_file.specs.Reading.{taxonomy_commit, index_commit};
 pub fn of_taxonomy_commit()
     ensures spelled { (number : ℕ) (bytes : List ℕ) (c : TaxonomyListing) → IsBytes bytes
         → taxonomy_commit number bytes ≡ Ok c → bytes ≡ taxonomy_commit_bytes number c }
-    ensures limits { (number : ℕ) (bytes : List ℕ) (c : TaxonomyListing) → IsBytes bytes → taxonomy_commit number bytes ≡ Ok c → IsTaxonomy c }
+    ensures limits { (number : ℕ) (bytes : List ℕ) (c : TaxonomyListing) → IsBytes bytes
+        → taxonomy_commit number bytes ≡ Ok c → IsTaxonomy c }
 {}
 
 /// States the laws of commits of the index that were read.
 pub fn of_index_commit()
     ensures spelled { (number : ℕ) (bytes : List ℕ) (c : IndexListing) → IsBytes bytes
         → index_commit number bytes ≡ Ok c → bytes ≡ index_commit_bytes number c }
-    ensures limits { (number : ℕ) (bytes : List ℕ) (c : IndexListing) → IsBytes bytes → index_commit number bytes ≡ Ok c → IsIndex c }
+    ensures limits { (number : ℕ) (bytes : List ℕ) (c : IndexListing) → IsBytes bytes
+        → index_commit number bytes ≡ Ok c → IsIndex c }
 {}
 
 /// States that in the stored declarations of a config each dimension has the flags that the config gives it.

@@ -4,7 +4,8 @@ ghost use Rattle.std.specs.List.{AllByRecursion};
 ghost use Rattle.commit_file.specs.Commits.{taxonomy_listing, labels_listed, AreInOrder};
 ghost use Rattle.commit_file.specs.Limits.{IsLabelPart};
 ghost use Rattle.commit_file.specs.Spelling.{taxonomy_commit_bytes};
-ghost use Rattle.commit_file.specs.Reading.{Reads, Gives, labels_at, first_at, count_at, label_part_at, label_parts_at, taxonomy_at, taxonomy_commit};
+ghost use Rattle.commit_file.specs.Reading.{Reads, Gives, labels_at, first_at, count_at, label_part_at, label_parts_at};
+ghost use Rattle.commit_file.specs.Reading.{taxonomy_at, taxonomy_commit};
 
 use crate::digest::{body, seal};
 use crate::fault::FileFault;

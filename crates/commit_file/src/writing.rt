@@ -83,7 +83,8 @@ fn put_declaration(out: &mut Vec<u8>, one: &Declaration<'_>) -> Result<(), NoMem
 /// Appends declarations.
 pub(crate) fn put_declarations(out: &mut Vec<u8>, kept: &[Declaration<'_>]) -> Result<(), NoMemory>
     requires { AreDimensions (map declaration kept.now) }
-    ensures bytes { OnOk result (out.new.items ≡ out.old.items ++ flat_map declaration_bytes (map declaration kept.now)) }
+    ensures bytes { OnOk result (out.new.items ≡ out.old.items
+        ++ flat_map declaration_bytes (map declaration kept.now)) }
     ensures fit { OnOk result (AllByRecursion IsDeclaration (map declaration kept.now)) }
 {
     for one in kept {

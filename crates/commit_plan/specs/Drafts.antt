@@ -1,5 +1,6 @@
 -- The files that a commit writes, and what is committed by them.
-use Rattle.std.specs.Prelude.{◌≡◌, Ok, take, ℕ, ◌+◌, ◌-◌, Bool, true, false, ◌&&◌, ◌||◌, nat_lt, nat_le, if◌then◌else◌, List, [], ◌∷◌, ◌++◌, length, map, fold, Option, Some, None}
+use Rattle.std.specs.Prelude.{◌≡◌, Ok, take, ℕ, ◌+◌, ◌-◌, Bool, true, false, ◌&&◌, ◌||◌, nat_lt, nat_le, if◌then◌else◌}
+use Rattle.std.specs.Prelude.{List, [], ◌∷◌, ◌++◌, length, map, fold, Option, Some, None}
 use Rattle.std.specs.Option.{option_or}
 use Rattle.std.specs.Str.{bytes_eq}
 use Rattle.sha2.specs.Sha256.{sha256}
@@ -30,13 +31,22 @@ pub record Drafted : Type 0 where
 
 -- one more file, under the next number
 abbrev pub with_file : Drafted → Dir → Kind → List ℕ → Drafted
-with_file d dir kind bytes = record { from = d.from; next = d.next + 1; files = d.files ++ (file dir kind d.next, bytes) ∷ [] }
+with_file d dir kind bytes = record {
+  from = d.from;
+  next = d.next + 1;
+  files = d.files ++ (file dir kind d.next, bytes) ∷ [];
+}
 
 -- ---- the taxonomy
 
 -- the segment of the labels that a longer list adds, under this number
 abbrev pub new_label_part : ℕ → ℕ → List (List (List ℕ)) → LabelPart
-new_label_part number first view = record { number = number; first = first; count = length view - first; digest = sha256 (labels_bytes view first) }
+new_label_part number first view = record {
+  number = number;
+  first = first;
+  count = length view - first;
+  digest = sha256 (labels_bytes view first);
+}
 
 -- the segments of labels with that one
 abbrev pub label_parts_with : ℕ → Committed → List (List (List ℕ)) → List LabelPart
@@ -71,7 +81,11 @@ new_part number s = record { number = number; documents = length s.records; dige
 
 -- a segment under the name that was found for it; without a name it is new
 abbrev pub placed_by : Placed → Records → Option (DocumentPart × List Kept) → Placed
-placed_by p s (Some found) = record { draft = p.draft; behind = found.1; kept = p.kept ++ (record { part = found.0; segment = s }) ∷ [] }
+placed_by p s (Some found) = record {
+  draft = p.draft;
+  behind = found.1;
+  kept = p.kept ++ (record { part = found.0; segment = s }) ∷ [];
+}
 placed_by p s None = record {
   draft = with_file p.draft Index Segment (seg_bytes s);
   behind = p.behind;
@@ -88,7 +102,8 @@ placed old segments d = fold place (record { draft = d; behind = old.kept; kept 
 
 -- the commit of the index that names the placed segments
 abbrev pub with_index : Config → ℕ → Placed → Drafted
-with_index config needs p = with_file p.draft Index Pending (index_commit_bytes p.draft.next (documents_listed needs (kept_of config) (parts_in p.kept)))
+with_index config needs p = with_file p.draft Index Pending (index_commit_bytes p.draft.next
+    (documents_listed needs (kept_of config) (parts_in p.kept)))
 
 -- the segments are the committed ones, byte for byte
 unfoldable pub are_same : List Kept → List Records → Bool
@@ -103,7 +118,8 @@ is_index_left_out old segments = nat_le (length segments) 0 || are_same old.kept
 
 -- the new segments and the commit, unless the index has no news
 abbrev pub index_drafted : Config → ℕ → Committed → List Records → Drafted → Drafted
-index_drafted config needs old segments d = if is_index_left_out old segments then d else with_index config needs (placed old segments d)
+index_drafted config needs old segments d =
+    if is_index_left_out old segments then d else with_index config needs (placed old segments d)
 
 -- ---- all of it
 
@@ -153,7 +169,8 @@ labels_after old view = if is_longer old view then length view else old.labels
 
 -- the number of a new commit of the index
 abbrev pub index_number_from : Drafted → Committed → List Records → Option ℕ
-index_number_from d old segments = if is_index_left_out old segments then None else Some (placed old segments d).draft.next
+index_number_from d old segments =
+    if is_index_left_out old segments then None else Some (placed old segments d).draft.next
 
 abbrev pub index_number : Committed → List (List (List ℕ)) → List Records → Option ℕ
 index_number old view segments = index_number_from (labels_first old view) old segments
@@ -172,7 +189,9 @@ commit_names dir (Some n) = file dir Commit n ∷ []
 
 -- the newest commit files, and the segments that they name
 abbrev pub named_files : Option ℕ → List LabelPart → Option ℕ → List Kept → List FileName
-named_files taxonomy label_parts index kept = commit_names Taxonomy taxonomy ++ (map (λ part. file Taxonomy Segment part.number) label_parts ++ (commit_names Index index ++ map (λ k. file Index Segment k.part.number) kept))
+named_files taxonomy label_parts index kept = commit_names Taxonomy taxonomy
+    ++ (map (λ part. file Taxonomy Segment part.number) label_parts
+    ++ (commit_names Index index ++ map (λ k. file Index Segment k.part.number) kept))
 
 -- what is known after a commit; only its files are left
 abbrev pub committed_by : Option ℕ → List LabelPart → ℕ → Option ℕ → List Kept → ℕ → Committed
@@ -189,7 +208,8 @@ committed_by taxonomy label_parts labels index kept next = record {
 abbrev pub committed_after : Config → Committed → List (List (List ℕ)) → List Records → Committed
 committed_after config old view segments = committed_by
     (option_or (labels_number old view) old.taxonomy) (label_parts_after old view) (labels_after old view)
-    (option_or (index_number old view segments) old.index) (kept_after old view segments) (drafted config old view segments).next
+    (option_or (index_number old view segments) old.index) (kept_after old view segments)
+    (drafted config old view segments).next
 
 -- The files that a commit removes: those listed before it that are neither a newest commit file after it nor named by
 -- one. Its own files are all named or renamed.
@@ -200,9 +220,14 @@ strays_after config old view segments = strays old.listed (committed_after confi
 
 -- the labels of the new segment after the others, and the commit that names it
 pub record AreLabelsAgain (old : Committed) (view : List (List (List ℕ))) (number : ℕ) : Type 0 where
-  pub labels : stored_labels (take old.labels view) old.labels (length view - old.labels) (labels_bytes view old.labels) ≡ Ok view
-  pub commit : taxonomy_commit (number + 1) (taxonomy_commit_bytes (number + 1) (labels_listed (length view) (label_parts_with number old view))) ≡ Ok (labels_listed (length view) (label_parts_with number old view))
+  pub labels : stored_labels (take old.labels view) old.labels (length view - old.labels)
+      (labels_bytes view old.labels) ≡ Ok view
+  pub commit : taxonomy_commit (number + 1) (taxonomy_commit_bytes (number
+      + 1) (labels_listed (length view) (label_parts_with number old view)))
+      ≡ Ok (labels_listed (length view) (label_parts_with number old view))
 
 -- the commit that names placed segments
 abbrev pub IsIndexAgain : Config → ℕ → Placed → Type 0
-IsIndexAgain config needs p = index_commit p.draft.next (index_commit_bytes p.draft.next (documents_listed needs (kept_of config) (parts_in p.kept))) ≡ Ok (documents_listed needs (kept_of config) (parts_in p.kept))
+IsIndexAgain config needs p = index_commit p.draft.next (index_commit_bytes p.draft.next
+    (documents_listed needs (kept_of config) (parts_in p.kept)))
+    ≡ Ok (documents_listed needs (kept_of config) (parts_in p.kept))

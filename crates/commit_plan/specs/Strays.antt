@@ -24,7 +24,8 @@ kind_place Commit = 2
 
 -- names are compared by their directories, then by their kinds and then by their numbers
 abbrev pub name_cmp : FileName → FileName → Ordering
-name_cmp a b = ordering_then (nat_cmp (dir_place a.dir) (dir_place b.dir)) (ordering_then (nat_cmp (kind_place a.kind) (kind_place b.kind)) (nat_cmp a.number b.number))
+name_cmp a b = ordering_then (nat_cmp (dir_place a.dir) (dir_place b.dir))
+    (ordering_then (nat_cmp (kind_place a.kind) (kind_place b.kind)) (nat_cmp a.number b.number))
 
 -- these names in order, each once
 abbrev pub in_order : List FileName → List FileName

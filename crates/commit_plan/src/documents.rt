@@ -3,7 +3,8 @@ ghost use Rattle.std.specs.Arc.{arc_value};
 ghost use Rattle.std.specs.List.{AllByRecursion};
 ghost use Rattle.seg_documents.specs.Decoding.{records_in};
 ghost use Rattle.commit_plan.specs.Committed.{IsKept, IsOwn, kept_view, parts_in};
-ghost use Rattle.commit_plan.specs.Drafts.{placed, with_index, is_index_left_out, index_drafted, index_number_from, kept_from, IsIndexAgain};
+ghost use Rattle.commit_plan.specs.Drafts.{placed, with_index, is_index_left_out, index_drafted, index_number_from};
+ghost use Rattle.commit_plan.specs.Drafts.{kept_from, IsIndexAgain};
 
 use crate::draft::Draft;
 use crate::matching::are_same;
@@ -66,10 +67,14 @@ fn draft_new_index(
     requires own { AllByRecursion IsOwn (map arc_value segments.now) }
     requires some { 0 < draft.next }
     requires room { draft.next ≤ 2 ^ 63 + 2 }
-    ensures draft { IfOk result (λ r. r.draft ≡ with_index config.now needs (placed state.now (map arc_value segments.now) draft)) }
-    ensures commit { IfOk result (λ r. r.commit ≡ Some (placed state.now (map arc_value segments.now) draft).draft.next) }
-    ensures kept { IfOk result (λ r. map kept_view r.kept.items ≡ (placed state.now (map arc_value segments.now) draft).kept) }
-    ensures again { IfOk result (λ _. IsIndexAgain config.now needs (placed state.now (map arc_value segments.now) draft)) }
+    ensures draft { IfOk result (λ r. r.draft
+        ≡ with_index config.now needs (placed state.now (map arc_value segments.now) draft)) }
+    ensures commit { IfOk result (λ r. r.commit
+        ≡ Some (placed state.now (map arc_value segments.now) draft).draft.next) }
+    ensures kept { IfOk result (λ r. map kept_view r.kept.items
+        ≡ (placed state.now (map arc_value segments.now) draft).kept) }
+    ensures again { IfOk result (λ _. IsIndexAgain config.now needs
+        (placed state.now (map arc_value segments.now) draft)) }
     ensures are { IfOk result (λ r. AllByRecursion IsKept (map kept_view r.kept.items)) }
 {
     let mut placing = Placing::new(alloc, &state.stored, draft);
@@ -100,9 +105,11 @@ pub(crate) fn draft_index(
     requires own { AllByRecursion IsOwn (map arc_value segments.now) }
     requires some { 0 < draft.next }
     requires room { draft.next ≤ 2 ^ 63 + 2 }
-    ensures draft { IfOk result (λ r. r.draft ≡ index_drafted config.now needs state.now (map arc_value segments.now) draft) }
+    ensures draft { IfOk result (λ r. r.draft
+        ≡ index_drafted config.now needs state.now (map arc_value segments.now) draft) }
     ensures commit { IfOk result (λ r. r.commit ≡ index_number_from draft state.now (map arc_value segments.now)) }
-    ensures kept { IfOk result (λ r. map kept_view r.kept.items ≡ kept_from draft state.now (map arc_value segments.now)) }
+    ensures kept { IfOk result (λ r. map kept_view r.kept.items
+        ≡ kept_from draft state.now (map arc_value segments.now)) }
     ensures again { IfOk result (λ _. IsTrue (not (is_index_left_out state.now (map arc_value segments.now)))
         → IsIndexAgain config.now needs (placed state.now (map arc_value segments.now) draft)) }
     ensures are { IfOk result (λ r. AllByRecursion IsKept (map kept_view r.kept.items)) }

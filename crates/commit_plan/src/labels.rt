@@ -1,7 +1,8 @@
 ghost use Rattle.std.specs.Prelude.{◌≡◌, ◌≤◌, ◌<◌, ◌+◌, ◌^◌, IsTrue, Some, length, IfOk, OnOk};
 ghost use Rattle.commit_file.specs.Commits.{AreInOrder};
 ghost use Rattle.label_file.specs.LabelBytes.{labels_bytes};
-ghost use Rattle.commit_plan.specs.Drafts.{with_labels, labels_drafted, label_parts_with, label_parts_from, labels_after, labels_number_from, is_longer, AreLabelsAgain};
+ghost use Rattle.commit_plan.specs.Drafts.{with_labels, labels_drafted, label_parts_with, label_parts_from};
+ghost use Rattle.commit_plan.specs.Drafts.{labels_after, labels_number_from, is_longer, AreLabelsAgain};
 
 use crate::draft::Draft;
 use crate::state::CommitState;
@@ -95,7 +96,8 @@ pub(crate) fn draft_labels(
     ensures parts { IfOk result (λ r. r.parts.items ≡ label_parts_from draft.old.next state.now view.now) }
     ensures order { IfOk result (λ r. AreInOrder (labels_after state.now view.now) 1 r.parts.items) }
     ensures few { IfOk result (λ r. length r.parts.items < labels_after state.now view.now) }
-    ensures again { OnOk result (IsTrue (is_longer state.now view.now) → AreLabelsAgain state.now view.now draft.old.next) }
+    ensures again { OnOk result (IsTrue (is_longer state.now view.now)
+        → AreLabelsAgain state.now view.now draft.old.next) }
 {
     if state.labels < view.size() {
         let drafted = draft_new_labels(alloc, state, view, draft)?;

@@ -27,7 +27,8 @@ pub(crate) fn take_same(
 ) -> Option<(DocumentPart, usize)>
     requires { from ≤ length stored.now }
     ensures within { IfSome result (λ found. found.1 ≤ length stored.now) }
-    ensures taken { taken (drop from (map kept_view stored.now)) bytes.now ≡ option_map (λ found. (found.0, drop found.1 (map kept_view stored.now))) result }
+    ensures taken { taken (drop from (map kept_view stored.now)) bytes.now
+        ≡ option_map (λ found. (found.0, drop found.1 (map kept_view stored.now))) result }
 {
     let rest = &stored[from..];
     for (ahead, kept) in rest.iter().enumerate() {

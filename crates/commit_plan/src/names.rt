@@ -29,7 +29,8 @@ fn push_commit(names: &mut Vec<FileName>, dir: Dir, commit: Option<u64>) -> Resu
 
 // Adds the names of segments of labels.
 fn push_labels(names: &mut Vec<FileName>, parts: &[LabelPart]) -> Result<(), NoMemory>
-    ensures { OnOk result (names.new.items ≡ names.old.items ++ map (λ part. file Taxonomy Segment part.number) parts.now) }
+    ensures { OnOk result (names.new.items
+        ≡ names.old.items ++ map (λ part. file Taxonomy Segment part.number) parts.now) }
 {
     for part in parts {
         names.push(FileName {
@@ -43,7 +44,8 @@ fn push_labels(names: &mut Vec<FileName>, parts: &[LabelPart]) -> Result<(), NoM
 
 // Adds the names of segments of documents.
 fn push_documents(names: &mut Vec<FileName>, stored: &[StoredSegment]) -> Result<(), NoMemory>
-    ensures { OnOk result (names.new.items ≡ names.old.items ++ map (λ k. file Index Segment k.part.number) (map kept_view stored.now)) }
+    ensures { OnOk result (names.new.items
+        ≡ names.old.items ++ map (λ k. file Index Segment k.part.number) (map kept_view stored.now)) }
 {
     for segment in stored {
         names.push(FileName {
@@ -63,7 +65,8 @@ pub(crate) fn named_files(
     index: Option<u64>,
     stored: &[StoredSegment],
 ) -> Result<Vec<FileName>, NoMemory>
-    ensures { IfOk result (λ names. names.items ≡ named_files taxonomy label_parts.now index (map kept_view stored.now)) }
+    ensures { IfOk result (λ names. names.items
+        ≡ named_files taxonomy label_parts.now index (map kept_view stored.now)) }
 {
     let mut names = Vec::new(alloc);
     push_commit(&mut names, Dir::Taxonomy, taxonomy)?;

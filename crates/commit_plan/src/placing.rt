@@ -32,7 +32,11 @@ impl<'a> Model for Placing<'a> {
 
     ghost Value = { Placed };
 
-    ghost view = { λ p. record { draft = p.draft; behind = drop p.behind (map kept_view p.stored.now); kept = map kept_view p.kept.items } };
+    ghost view = { λ p. record {
+      draft = p.draft;
+      behind = drop p.behind (map kept_view p.stored.now);
+      kept = map kept_view p.kept.items;
+    } };
 
     ghost invariant = { λ p. p.behind ≤ length p.stored.now };
 }
@@ -53,7 +57,10 @@ impl<'a> Placing<'a> {
 
     // Keeps a segment under a name.
     fn keep(&mut self, part: DocumentPart, segment: &Arc<Segment>) -> Result<(), NoMemory>
-        ensures { OnOk result (self.new ≡ record self.old { kept = self.old.kept ++ (record { part = part; segment = arc_value segment.now }) ∷ [] }) }
+        ensures { OnOk result (self.new ≡ record self.old {
+          kept = self.old.kept
+              ++ (record { part = part; segment = arc_value segment.now }) ∷ [];
+        }) }
     {
         let segment = Arc::try_clone(segment)?;
         self.kept.push(StoredSegment { part, segment })?;

@@ -56,7 +56,8 @@ fn join_parts(
     ensures rises { IfOk result (λ p. (p.plan.from ≤ p.plan.to) × Rises p.plan.from p.plan.to p.plan.writes.items) }
     ensures parts { IfOk result (λ p. (p.plan.taxonomy ≡ labels.commit) × (p.plan.index ≡ index.commit)) }
     ensures strays { IfOk result (λ p. p.plan.strays.items ≡ strays state.now.listed p.after.listed) }
-    ensures after { IfOk result (λ p. p.after ≡ committed_by (option_or labels.commit state.now.taxonomy) labels.parts.items labels.labels
+    ensures after { IfOk result (λ p. p.after
+        ≡ committed_by (option_or labels.commit state.now.taxonomy) labels.parts.items labels.labels
         (option_or index.commit state.now.index) (map kept_view index.kept.items) index.draft.next) }
 {
     let taxonomy = labels.commit.or(state.taxonomy);
@@ -95,11 +96,14 @@ pub fn plan_commit(
 ) -> Result<Planned, CommitFault>
     requires few { length (records_in (map arc_value segments.now)) ≤ 1000000 }
     requires own { AllByRecursion IsOwn (map arc_value segments.now) }
-    requires decodes { Decodes view.now config.now (map arc_value segments.now) (docs_in view.now (map arc_value segments.now)) }
+    requires decodes { Decodes view.now config.now (map arc_value segments.now)
+        (docs_in view.now (map arc_value segments.now)) }
     ensures is_plan { IfOk result (λ p. IsPlan p.plan) }
-    ensures leads { IfOk result (λ p. LeadsOn config.now state.now p.plan p.after view.now (map arc_value segments.now)) }
+    ensures leads { IfOk result (λ p. LeadsOn config.now state.now p.plan p.after view.now
+        (map arc_value segments.now)) }
     ensures takes { IfOk result (λ p. (state.now.next ≤ p.after.next) × (p.after.next ≤ state.now.next + 1000003)) }
-    ensures plan { IfOk result (λ p. IsPlanOf config.now state.now view.now (map arc_value segments.now) p.plan p.after) }
+    ensures plan { IfOk result (λ p. IsPlanOf config.now state.now view.now
+        (map arc_value segments.now) p.plan p.after) }
     ensures again { IfOk result (λ _. IsReadAgain config.now state.now view.now (map arc_value segments.now)) }
     ensures bound { IfErr result (λ e. (number : ℕ) → e ≡ NumbersSpent number → number < state.now.next + 1000003) }
     ensures err { IfErr result (IsOutOf (last_number config.now state.now view.now (map arc_value segments.now))) }

@@ -22,7 +22,8 @@ fn push_stored(
     part: DocumentPart,
     segment: &Arc<Segment>,
 ) -> Result<(), NoMemory>
-    ensures { OnOk result (map kept_view stored.new.items ≡ map kept_view stored.old.items ++ (record { part = part; segment = arc_value segment.now }) ∷ []) }
+    ensures { OnOk result (map kept_view stored.new.items ≡ map kept_view stored.old.items
+        ++ (record { part = part; segment = arc_value segment.now }) ∷ []) }
 {
     let segment = Arc::try_clone(segment)?;
     stored.push(StoredSegment { part, segment })?;

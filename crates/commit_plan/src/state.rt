@@ -32,7 +32,9 @@ impl Model for CommitState {
 
     ghost Value = { Committed };
 
-    ghost view = { λ s. committed_of s.next s.listed.items s.taxonomy s.label_parts.items s.labels s.index s.stored.items };
+    ghost view = { λ s. committed_of s.next s.listed.items s.taxonomy s.label_parts.items s.labels s.index
+        s.stored.items };
 
-    ghost invariant = { λ s. IsCommitted (committed_of s.next s.listed.items s.taxonomy s.label_parts.items s.labels s.index s.stored.items) };
+    ghost invariant = { λ s. IsCommitted
+        (committed_of s.next s.listed.items s.taxonomy s.label_parts.items s.labels s.index s.stored.items) };
 }

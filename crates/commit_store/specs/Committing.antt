@@ -10,5 +10,7 @@ abbrev pub HasFiles : Config → List (List (List ℕ)) → List Records → Ima
 HasFiles config labels segments c = files config c ≡ Ok (record { labels = labels; segments = segments })
 
 -- the pair before, the old segments under the new labels, or the pair after
-abbrev pub HasOneOfThree : Config → List (List (List ℕ)) → List Records → List (List (List ℕ)) → List Records → Image → Type 0
-HasOneOfThree config labels old_segments view segments c = HasFiles config labels old_segments c ⊎ HasFiles config view old_segments c ⊎ HasFiles config view segments c
+abbrev pub HasOneOfThree : Config → List (List (List ℕ)) → List Records → List (List (List ℕ)) → List Records → Image
+    → Type 0
+HasOneOfThree config labels old_segments view segments c = HasFiles config labels old_segments c
+    ⊎ HasFiles config view old_segments c ⊎ HasFiles config view segments c

@@ -27,8 +27,10 @@ abbrev pub IsHere : {D : Type 0} → Ghosts D → Config → CommitterView D →
 IsHere disk config committer labels segments = IsCommittedAt disk config committer.state committer.disk labels segments
 
 -- it holds for the labels and segments of a disk whose files are known, if the given labels continue its labels
-abbrev pub FromPair : {D : Type 0} → Ghosts D → CommitterView D → List (List (List ℕ)) → (List (List (List ℕ)) → List Records → Type 0) → Type 0
-FromPair disk old view holds = (s : Told) (labels : List (List (List ℕ))) (segments : List Records) → disk.told old.disk ≡ Some s
+abbrev pub FromPair : {D : Type 0} → Ghosts D → CommitterView D → List (List (List ℕ))
+    → (List (List (List ℕ)) → List Records → Type 0) → Type 0
+FromPair disk old view holds = (s : Told) (labels : List (List (List ℕ))) (segments : List Records)
+    → disk.told old.disk ≡ Some s
     → IsHere disk old.config old labels segments → GoesOn labels view → holds labels segments
 
 -- it holds for the files of the disk before and after
@@ -39,29 +41,38 @@ OfBoth disk old new holds = (s u : Told) → disk.told old ≡ Some s → disk.t
 
 -- at each moment, each image has the files of the pair before, of the old segments under the new labels, or of the pair
 -- after
-abbrev pub PassesThree : {D : Type 0} → Ghosts D → CommitterView D → CommitterView D → List (List (List ℕ)) → List Records → Type 0
+abbrev pub PassesThree : {D : Type 0} → Ghosts D → CommitterView D → CommitterView D → List (List (List ℕ))
+    → List Records → Type 0
 PassesThree disk old new view segments = FromPair disk old view (λ labels old_segments.
     LeavesOnly disk old.disk new.disk (HasOneOfThree old.config labels old_segments view segments))
 
 -- so has each image at the end
-abbrev pub LeavesThree : {D : Type 0} → Ghosts D → CommitterView D → CommitterView D → List (List (List ℕ)) → List Records → Type 0
+abbrev pub LeavesThree : {D : Type 0} → Ghosts D → CommitterView D → CommitterView D → List (List (List ℕ))
+    → List Records → Type 0
 LeavesThree disk old new view segments = FromPair disk old view (λ labels old_segments.
     (c : Image) → disk.may_leave new.disk c → HasOneOfThree old.config labels old_segments view segments c)
 
 -- each image has the files of the pair after; without segments there were none before
-abbrev pub Acknowledges : {D : Type 0} → Ghosts D → CommitterView D → CommitterView D → List (List (List ℕ)) → List Records → Type 0
-Acknowledges disk old new view segments = FromPair disk old view (λ labels old_segments. (segments ≡ [] → old_segments ≡ []) → IsHere disk new.config new view segments)
+abbrev pub Acknowledges : {D : Type 0} → Ghosts D → CommitterView D → CommitterView D → List (List (List ℕ))
+    → List Records → Type 0
+Acknowledges disk old new view segments = FromPair disk old view (λ labels old_segments. (segments ≡ []
+    → old_segments ≡ []) → IsHere disk new.config new view segments)
 
 -- the disk is settled, which the next opening may require
-abbrev pub Settles : {D : Type 0} → Ghosts D → CommitterView D → CommitterView D → List (List (List ℕ)) → List Records → Type 0
-Settles disk old new view segments = (s u : Told) (labels : List (List (List ℕ))) (old_segments : List Records) → disk.told old.disk ≡ Some s → disk.told new.disk ≡ Some u
-    → IsHere disk old.config old labels old_segments → GoesOn labels view → (segments ≡ [] → old_segments ≡ []) → IsSettled disk new.config u new.disk
+abbrev pub Settles : {D : Type 0} → Ghosts D → CommitterView D → CommitterView D → List (List (List ℕ)) → List Records
+    → Type 0
+Settles disk old new view segments = (s u : Told) (labels : List (List (List ℕ))) (old_segments : List Records)
+    → disk.told old.disk ≡ Some s → disk.told new.disk ≡ Some u
+    → IsHere disk old.config old labels old_segments → GoesOn labels view → (segments ≡ [] → old_segments ≡ [])
+    → IsSettled disk new.config u new.disk
 
 -- ---- what the disk reads
 
 -- it reads as before, with the files of the commit made, its pending files renamed and its strays removed
-abbrev pub TellsCommit : {D : Type 0} → Ghosts D → CommitterView D → CommitterView D → List (List (List ℕ)) → List Records → Type 0
-TellsCommit disk old new view segments = (s : Told) → disk.told old.disk ≡ Some s → disk.told new.disk ≡ Some (committed_told old.config old.state view segments s)
+abbrev pub TellsCommit : {D : Type 0} → Ghosts D → CommitterView D → CommitterView D → List (List (List ℕ))
+    → List Records → Type 0
+TellsCommit disk old new view segments = (s : Told) → disk.told old.disk ≡ Some s
+    → disk.told new.disk ≡ Some (committed_told old.config old.state view segments s)
 
 -- each file is one of these
 abbrev pub AreAmong : Image → List FileName → Type 0
@@ -77,18 +88,22 @@ StaysListed disk old new = OfBoth disk old.disk new.disk (λ s u.
     HasNamed s.files old.state → AreListed s.files old.state.listed → AreListed u.files new.state.listed)
 
 -- if a fault ends it: the removed strays are the first ones, and none was removed before all else was done
-abbrev pub CutsShort : {D : Type 0} → Ghosts D → CommitterView D → CommitterView D → List (List (List ℕ)) → List Records → Type 0
-CutsShort disk old new view segments = (s : Told) → disk.told old.disk ≡ Some s → IsCutShort old.config old.state view segments s (disk.told new.disk)
+abbrev pub CutsShort : {D : Type 0} → Ghosts D → CommitterView D → CommitterView D → List (List (List ℕ))
+    → List Records → Type 0
+CutsShort disk old new view segments = (s : Told) → disk.told old.disk ≡ Some s
+    → IsCutShort old.config old.state view segments s (disk.told new.disk)
 
 -- ---- faults
 
 -- a fault of the disk was counted, and the committer is closed with that count
 abbrev pub ClosesAt : {D : Type 0} → Ghosts D → CommitterView D → CommitterView D → ℕ → Type 0
-ClosesAt disk old new count = Rose (disk.faults old.disk) (disk.faults new.disk) × (count ≡ disk.faults new.disk) × (new.closed ≡ Some count)
+ClosesAt disk old new count = Rose (disk.faults old.disk) (disk.faults new.disk) × (count ≡ disk.faults new.disk)
+    × (new.closed ≡ Some count)
 
 -- if what is known of the files is true of those on the disk, an I/O error happened
 abbrev pub FailsDevice : {D : Type 0} → Ghosts D → CommitterView D → CommitterView D → Type 0
-FailsDevice disk old new = (s : Told) → disk.told old.disk ≡ Some s → AreListed s.files old.state.listed → Below old.state.next s.files
+FailsDevice disk old new = (s : Told) → disk.told old.disk ≡ Some s → AreListed s.files old.state.listed
+    → Below old.state.next s.files
     → Rose (disk.failures old.disk) (disk.failures new.disk)
 
 -- the last number that a commit takes

@@ -1,4 +1,5 @@
-ghost use Rattle.std.specs.Prelude.{◌≡◌, ◌≢◌, ◌≤◌, ◌+◌, ◌^◌, ◌↔◌, [], ℕ, Some, None, Err, length, map, OnOk, IfOk, IfErr};
+ghost use Rattle.std.specs.Prelude.{◌≡◌, ◌≢◌, ◌≤◌, ◌+◌, ◌^◌, ◌↔◌, [], ℕ, Some, None, Err, length, map, OnOk, IfOk};
+ghost use Rattle.std.specs.Prelude.{IfErr};
 ghost use Rattle.std.specs.Arc.{arc_value};
 ghost use Rattle.std.specs.List.{AllByRecursion};
 ghost use Rattle.facet_disk.specs.Images.{Told};
@@ -17,7 +18,9 @@ ghost use Rattle.store_opening.specs.Settled.{IsSettled};
 ghost use Rattle.commit_plan.specs.Committed.{IsOwn, segments_in};
 ghost use Rattle.commit_store.specs.Committing.{HasFiles};
 ghost use Rattle.commit_plan.specs.Drafts.{committed_after};
-ghost use Rattle.commit_store.specs.Promised.{IsHere, OfBoth, PassesThree, LeavesThree, Acknowledges, Settles, TellsCommit, AreAmong, HasNamed, StaysListed, CutsShort, ClosesAt, FailsDevice, last_of, IsSpentAt, IsRefusedAt};
+ghost use Rattle.commit_store.specs.Promised.{IsHere, OfBoth, PassesThree, LeavesThree, Acknowledges, Settles};
+ghost use Rattle.commit_store.specs.Promised.{TellsCommit, AreAmong, HasNamed, StaysListed, CutsShort, ClosesAt};
+ghost use Rattle.commit_store.specs.Promised.{FailsDevice, last_of, IsSpentAt, IsRefusedAt};
 
 use crate::opening::{NotOpened, Opened};
 use commit_calls::execute_plan;
@@ -69,10 +72,13 @@ impl<D: Disk> Committer<D> {
     ) -> Result<Opened<D>, NotOpened<D>>
         // The labels and the segments are those of the files that the disk reads, or the error is the first fault of
         // these files.
-        ensures ok { IfOk result (λ o. (s : Told) → D.told disk ≡ Some s → HasFiles config o.labels (map arc_value o.segments.items) s.files) }
-        ensures err { IfErr result (λ n. n.fault ≢ NoRoom → n.fault ≢ FaultOfDisk → (s : Told) → D.told disk ≡ Some s → files config s.files ≡ Err n.fault) }
+        ensures ok { IfOk result (λ o. (s : Told) → D.told disk ≡ Some s
+            → HasFiles config o.labels (map arc_value o.segments.items) s.files) }
+        ensures err { IfErr result (λ n. n.fault ≢ NoRoom → n.fault ≢ FaultOfDisk → (s : Told) → D.told disk ≡ Some s
+            → files config s.files ≡ Err n.fault) }
         ensures fault { IfErr result (λ n. n.fault ≡ FaultOfDisk → Rose (D.faults disk) (D.faults n.disk)) }
-        ensures failed { IfErr result (λ n. n.fault ≡ FaultOfDisk → (s : Told) → D.told disk ≡ Some s → Rose (D.failures disk) (D.failures n.disk)) }
+        ensures failed { IfErr result (λ n. n.fault ≡ FaultOfDisk → (s : Told) → D.told disk ≡ Some s
+            → Rose (D.failures disk) (D.failures n.disk)) }
         ensures sound { IfErr result (λ n. IsSound n.fault) }
 
         // Nothing on the disk changed.
@@ -83,21 +89,26 @@ impl<D: Disk> Committer<D> {
         ensures unfailed { IfOk result (λ o. D.failures o.committer.disk ≡ D.failures disk) }
 
         // The committer knows these labels and segments as those of the newest commits.
-        ensures kept { IfOk result (λ o. (segments_in o.committer.state.kept ≡ map arc_value o.segments.items) × (o.committer.state.labels ≡ length o.labels)) }
+        ensures kept { IfOk result (λ o. (segments_in o.committer.state.kept ≡ map arc_value o.segments.items)
+            × (o.committer.state.labels ≡ length o.labels)) }
 
         // Whatever the disk returns, the labels are a label list, and the segments have their documents, at most
         // 1,000,000.
         ensures list { IfOk result (λ o. IsLabelList o.labels) }
-        ensures decodes { IfOk result (λ o. Decodes o.labels config (map arc_value o.segments.items) (docs_in o.labels (map arc_value o.segments.items))) }
+        ensures decodes { IfOk result (λ o. Decodes o.labels config (map arc_value o.segments.items)
+            (docs_in o.labels (map arc_value o.segments.items))) }
         ensures few { IfOk result (λ o. length (docs_in o.labels (map arc_value o.segments.items)) ≤ 1000000) }
         ensures own { IfOk result (λ o. AllByRecursion IsOwn (map arc_value o.segments.items)) }
-        ensures some { IfOk result (λ o. docs_in o.labels (map arc_value o.segments.items) ≡ [] → map arc_value o.segments.items ≡ []) }
+        ensures some { IfOk result (λ o. docs_in o.labels (map arc_value o.segments.items) ≡ []
+            → map arc_value o.segments.items ≡ []) }
 
         // Commits continue from it.
         ensures unclosed { IfOk result (λ o. (o.committer.closed ≡ None) × (o.committer.config ≡ config)) }
-        ensures next { IfOk result (λ o. (s : Told) → D.told disk ≡ Some s → o.committer.state.next ≡ next_after (greatest_number s.files)) }
+        ensures next { IfOk result (λ o. (s : Told) → D.told disk ≡ Some s
+            → o.committer.state.next ≡ next_after (greatest_number s.files)) }
         ensures fresh { IfOk result (λ o. (s : Told) → D.told disk ≡ Some s → Below o.committer.state.next s.files) }
-        ensures listed { IfOk result (λ o. (s : Told) → D.told disk ≡ Some s → AreListed s.files o.committer.state.listed) }
+        ensures listed { IfOk result (λ o. (s : Told) → D.told disk ≡ Some s
+            → AreListed s.files o.committer.state.listed) }
         ensures named { IfOk result (λ o. (s : Told) → D.told disk ≡ Some s → HasNamed s.files o.committer.state) }
         ensures committed { IfOk result (λ o. (s : Told) → D.told disk ≡ Some s → IsSettled D.Disk config s disk
             → IsHere D.Disk config o.committer o.labels (map arc_value o.segments.items)) }
@@ -151,17 +162,21 @@ impl<D: Disk> Committer<D> {
     pub fn commit(&mut self, view: &TaxoView, segments: &[Arc<Segment>]) -> Result<(), CommitFault>
         requires few { length (records_in (map arc_value segments.now)) ≤ 1000000 }
         requires own { AllByRecursion IsOwn (map arc_value segments.now) }
-        requires decodes { Decodes view.now self.old.config (map arc_value segments.now) (docs_in view.now (map arc_value segments.now)) }
+        requires decodes { Decodes view.now self.old.config (map arc_value segments.now)
+            (docs_in view.now (map arc_value segments.now)) }
 
         // At each moment, every image has the files of the pair before, of the old segments under the new labels, or of
         // the pair after.
-        ensures any_moment { self.old.closed ≡ None → PassesThree D.Disk self.old self.new view.now (map arc_value segments.now) }
+        ensures any_moment { self.old.closed ≡ None
+            → PassesThree D.Disk self.old self.new view.now (map arc_value segments.now) }
 
         // So has every image when the call ends, whatever it returns.
-        ensures now { self.old.closed ≡ None → LeavesThree D.Disk self.old self.new view.now (map arc_value segments.now) }
+        ensures now { self.old.closed ≡ None
+            → LeavesThree D.Disk self.old self.new view.now (map arc_value segments.now) }
 
         // After `Ok` every image has the files of the pair after.
-        ensures acknowledged { OnOk result (Acknowledges D.Disk self.old self.new view.now (map arc_value segments.now)) }
+        ensures acknowledged { OnOk result (Acknowledges D.Disk self.old self.new view.now
+            (map arc_value segments.now)) }
 
         // Then the disk is settled, which the next opening may require.
         ensures settled { OnOk result (Settles D.Disk self.old self.new view.now (map arc_value segments.now)) }
@@ -169,20 +184,24 @@ impl<D: Disk> Committer<D> {
         // After `Ok` the disk reads as before, with the files of the commit made, its pending files renamed and its
         // strays removed.
         ensures told { OnOk result (TellsCommit D.Disk self.old self.new view.now (map arc_value segments.now)) }
-        ensures state { OnOk result (self.new.state ≡ committed_after self.old.config self.old.state view.now (map arc_value segments.now)) }
+        ensures state { OnOk result (self.new.state
+            ≡ committed_after self.old.config self.old.state view.now (map arc_value segments.now)) }
 
         // If only listed files were there before, only the newest commit files and the segments that they name are
         // left. Each of these is there if each of those before was.
         ensures cleaned { OnOk result (OfBoth D.Disk self.old.disk self.new.disk (λ s u.
             AreAmong s.files self.old.state.listed → AreAmong u.files self.new.state.listed)) }
         ensures listed { OnOk result (StaysListed D.Disk self.old self.new) }
-        ensures named { OnOk result (OfBoth D.Disk self.old.disk self.new.disk (λ s u. HasNamed s.files self.old.state → HasNamed u.files self.new.state)) }
+        ensures named { OnOk result (OfBoth D.Disk self.old.disk self.new.disk (λ s u. HasNamed s.files self.old.state
+            → HasNamed u.files self.new.state)) }
 
         // If a fault ends it, the strays removed so far are the first ones, and none was removed before all else was
         // done.
-        ensures cut_short { IfErr result (λ e. (count : ℕ) → e ≡ OfDisk count → CutsShort D.Disk self.old self.new view.now (map arc_value segments.now)) }
+        ensures cut_short { IfErr result (λ e. (count : ℕ) → e ≡ OfDisk count
+            → CutsShort D.Disk self.old self.new view.now (map arc_value segments.now)) }
 
-        ensures fresh { OnOk result (OfBoth D.Disk self.old.disk self.new.disk (λ s u. Below self.old.state.next s.files → Below self.new.state.next u.files)) }
+        ensures fresh { OnOk result (OfBoth D.Disk self.old.disk self.new.disk
+            (λ s u. Below self.old.state.next s.files → Below self.new.state.next u.files)) }
 
         // If it fails, what is known of the newest commits stays.
         ensures known { IfErr result (λ _. self.new.state ≡ self.old.state) }
@@ -196,13 +215,15 @@ impl<D: Disk> Committer<D> {
         ensures closed { (count : ℕ) → (self.old.closed ≡ Some count) ↔ (result ≡ Err (Closed count)) }
         ensures spent { IfErr result (λ e. (number : ℕ) → e ≡ NumbersSpent number
             → IsSpentAt self.old.state.next (last_of self.old view.now (map arc_value segments.now)) number) }
-        ensures unspent { self.old.closed ≡ None → IsRefusedAt (last_of self.old view.now (map arc_value segments.now)) result }
+        ensures unspent { self.old.closed ≡ None
+            → IsRefusedAt (last_of self.old view.now (map arc_value segments.now)) result }
         ensures tells { (s : Told) → D.told self.old.disk ≡ Some s → (u : Told) × (D.told self.new.disk ≡ Some u) }
         ensures open { OnOk result ((self.old.closed ≡ None) × (self.new.closed ≡ None)) }
         ensures later { D.faults self.old.disk ≤ D.faults self.new.disk }
         ensures still { OnOk result (D.faults self.new.disk ≡ D.faults self.old.disk) }
         ensures room { self.new.state.next ≤ 2 ^ 63 }
-        ensures takes { (self.old.state.next ≤ self.new.state.next) × (self.new.state.next ≤ self.old.state.next + 1000003) }
+        ensures takes { (self.old.state.next ≤ self.new.state.next)
+            × (self.new.state.next ≤ self.old.state.next + 1000003) }
         ensures config { self.new.config ≡ self.old.config }
     {
         if let Some(count) = self.closed {

@@ -1,5 +1,6 @@
 -- The ordinals of documents, kept as sets of documents and as lists.
-use Rattle.std.specs.Prelude.{◌≡◌, ◌<◌, ◌≤◌, ◌+◌, ◌-◌, ◌/◌, ℕ, true, false, List, [], ◌∷◌, length, map, take, drop, slice_index_or, if◌then◌else◌}
+use Rattle.std.specs.Prelude.{◌≡◌, ◌<◌, ◌≤◌, ◌+◌, ◌-◌, ◌/◌, ℕ, true, false, List, [], ◌∷◌, length, map, take, drop}
+use Rattle.std.specs.Prelude.{slice_index_or, if◌then◌else◌}
 use Rattle.std.specs.List.{range_with_len}
 use Rattle.seg_postings.specs.Rising.{IsRising, is_in}
 use Rattle.seg_postings.specs.Sets.{either}
@@ -24,7 +25,8 @@ dense_at (ord ∷ ords) (map ∷ maps) n = if is_in n map.places then ord ∷ de
 
 -- the ordinals from where those of the document start to where those of the next one do
 unfoldable pub sparse_at : List ℕ → List ℕ → ℕ → List ℕ
-sparse_at starts ords n = take (slice_index_or starts (n + 1) 0 - slice_index_or starts n 0) (drop (slice_index_or starts n 0) ords)
+sparse_at starts ords n = take (slice_index_or starts (n
+    + 1) 0 - slice_index_or starts n 0) (drop (slice_index_or starts n 0) ords)
 
 -- all ordinals of a document
 abbrev pub list_at : Parts → ℕ → List ℕ

@@ -1,4 +1,5 @@
-ghost use Rattle.std.specs.Prelude.{◌≡◌, ◌<◌, ◌≤◌, ◌+◌, ◌/◌, ◌^◌, [], ℕ, true, All, nat_eq, length, map, slice_index_or, count_by, IfOk};
+ghost use Rattle.std.specs.Prelude.{◌≡◌, ◌<◌, ◌≤◌, ◌+◌, ◌/◌, ◌^◌, [], ℕ, true, All, nat_eq, length, map};
+ghost use Rattle.std.specs.Prelude.{slice_index_or, count_by, IfOk};
 ghost use Rattle.std.specs.List.{list_any, AllByRecursion};
 ghost use Rattle.seg_postings.specs.Rising.{IsRising, is_in};
 
@@ -33,9 +34,21 @@ impl Model for Column {
 
     ghost Value = { List (List ℕ) };
 
-    ghost view = { λ c. lists_of (record { docs = c.docs; dense = c.dense.items; maps = c.maps.items; starts = c.starts.items; ords = c.ords.items }) };
+    ghost view = { λ c. lists_of (record {
+      docs = c.docs;
+      dense = c.dense.items;
+      maps = c.maps.items;
+      starts = c.starts.items;
+      ords = c.ords.items;
+    }) };
 
-    ghost invariant = { λ c. IsColumn (record { docs = c.docs; dense = c.dense.items; maps = c.maps.items; starts = c.starts.items; ords = c.ords.items }) };
+    ghost invariant = { λ c. IsColumn (record {
+      docs = c.docs;
+      dense = c.dense.items;
+      maps = c.maps.items;
+      starts = c.starts.items;
+      ords = c.ords.items;
+    }) };
 }
 
 impl Column {
@@ -89,11 +102,14 @@ impl Column {
     pub fn count_at(&self, places: &Bits, counts: &mut [u32])
         requires words { places.now.words ≡ (length self.now + 63) / 64 }
         requires below { (n : ℕ) → is_in n places.now.places ≡ true → n < length self.now }
-        requires within { (n : ℕ) → is_in n places.now.places ≡ true → All (λ ord. ord < length counts.old) (slice_index_or self.now n []) }
-        requires room { (ord : ℕ) → ord < length counts.old → slice_index_or counts.old ord 0 + length places.now.places < 2 ^ 32 }
+        requires within { (n : ℕ) → is_in n places.now.places ≡ true
+            → All (λ ord. ord < length counts.old) (slice_index_or self.now n []) }
+        requires room { (ord : ℕ) → ord < length counts.old → slice_index_or counts.old ord 0
+            + length places.now.places < 2 ^ 32 }
         ensures len { length counts.new ≡ length counts.old }
         ensures counted { (ord : ℕ) → ord < length counts.old → slice_index_or counts.new ord 0
-            ≡ slice_index_or counts.old ord 0 + count_by (list_any (nat_eq ord)) (map (λ n. slice_index_or self.now n []) places.now.places) }
+            ≡ slice_index_or counts.old ord 0
+            + count_by (list_any (nat_eq ord)) (map (λ n. slice_index_or self.now n []) places.now.places) }
     {
         count_maps(counts, &self.dense, &self.maps, places);
         if !self.starts.is_empty() {

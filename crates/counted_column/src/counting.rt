@@ -1,5 +1,6 @@
 //! Counting by sets of documents, and document by document.
-ghost use Rattle.std.specs.Prelude.{◌≡◌, ◌<◌, ◌≤◌, ◌+◌, ◌*◌, ◌^◌, ℕ, true, length, slice_index_or, count_by, if◌then◌else◌};
+ghost use Rattle.std.specs.Prelude.{◌≡◌, ◌<◌, ◌≤◌, ◌+◌, ◌*◌, ◌^◌, ℕ, true, length, slice_index_or, count_by};
+ghost use Rattle.std.specs.Prelude.{if◌then◌else◌};
 ghost use Rattle.seg_postings.specs.Rising.{IsRising, is_in};
 ghost use Rattle.place_bits.specs.Misses.{HaveWords};
 ghost use Rattle.counted_column.specs.Columns.{dense_at, sparse_at};
@@ -11,8 +12,10 @@ pub(crate) fn count_maps(counts: &mut [u32], ords: &[u32], maps: &[Bits], places
     requires rising { IsRising ords.now }
     requires sets { length maps.now ≡ length ords.now }
     requires rooms { HaveWords places.now.words maps.now }
-    requires within { (n ord : ℕ) → is_in n places.now.places ≡ true → is_in ord (dense_at ords.now maps.now n) ≡ true → ord < length counts.old }
-    requires room { (ord : ℕ) → ord < length counts.old → slice_index_or counts.old ord 0 + length places.now.places < 2 ^ 32 }
+    requires within { (n ord : ℕ) → is_in n places.now.places ≡ true → is_in ord (dense_at ords.now maps.now n) ≡ true
+        → ord < length counts.old }
+    requires room { (ord : ℕ) → ord < length counts.old → slice_index_or counts.old ord 0
+        + length places.now.places < 2 ^ 32 }
     ensures len { length counts.new ≡ length counts.old }
     ensures counted { (ord : ℕ) → ord < length counts.old → slice_index_or counts.new ord 0
         ≡ slice_index_or counts.old ord 0 + count_by (λ n. is_in ord (dense_at ords.now maps.now n)) places.now.places }
@@ -45,16 +48,19 @@ pub(crate) fn count_sparse(counts: &mut [u32], starts: &[u32], ords: &[u32], pla
     requires starts { 0 < length starts.now }
     requires few { length starts.now ≤ 1000001 }
     requires words { length starts.now ≤ 64 * places.now.words + 1 }
-    requires ordered { (n : ℕ) → n + 1 < length starts.now → slice_index_or starts.now n 0 ≤ slice_index_or starts.now (n + 1) 0 }
+    requires ordered { (n : ℕ) → n + 1 < length starts.now → slice_index_or starts.now n 0
+        ≤ slice_index_or starts.now (n + 1) 0 }
     requires inside { (n : ℕ) → n + 1 < length starts.now → slice_index_or starts.now (n + 1) 0 ≤ length ords.now }
     requires rising { (n : ℕ) → n + 1 < length starts.now → IsRising (sparse_at starts.now ords.now n) }
     requires below { (n : ℕ) → is_in n places.now.places ≡ true → n + 1 < length starts.now }
-    requires within { (n ord : ℕ) → is_in n places.now.places ≡ true → is_in ord (sparse_at starts.now ords.now n) ≡ true → ord < length counts.old }
+    requires within { (n ord : ℕ) → is_in n places.now.places ≡ true
+        → is_in ord (sparse_at starts.now ords.now n) ≡ true → ord < length counts.old }
     requires room { (ord : ℕ) → ord < length counts.old → slice_index_or counts.old ord 0
         + count_by (λ n. is_in ord (sparse_at starts.now ords.now n)) places.now.places < 2 ^ 32 }
     ensures len { length counts.new ≡ length counts.old }
     ensures counted { (ord : ℕ) → ord < length counts.old → slice_index_or counts.new ord 0
-        ≡ slice_index_or counts.old ord 0 + count_by (λ n. is_in ord (sparse_at starts.now ords.now n)) places.now.places }
+        ≡ slice_index_or counts.old ord 0
+        + count_by (λ n. is_in ord (sparse_at starts.now ords.now n)) places.now.places }
 {
     for place in 0..starts.len() - 1 {
         if places.has(place as u32) {

@@ -1,5 +1,6 @@
 //! Making a column: which ordinals are dense, and the pass that stores each document's ordinals.
-ghost use Rattle.std.specs.Prelude.{◌≡◌, ◌==◌, ◌<◌, ◌≤◌, ◌+◌, ◌++◌, ◌*◌, ◌/◌, [], ℕ, length, filter, replicate, slice_index_or, IfOk, OnOk};
+ghost use Rattle.std.specs.Prelude.{◌≡◌, ◌==◌, ◌<◌, ◌≤◌, ◌+◌, ◌++◌, ◌*◌, ◌/◌, [], ℕ, length, filter, replicate};
+ghost use Rattle.std.specs.Prelude.{slice_index_or, IfOk, OnOk};
 ghost use Rattle.place_bits.specs.Words.{empty_set};
 ghost use Rattle.counted_column.specs.Making.{AreSlots, AreAdded, AreNoted};
 
@@ -149,7 +150,8 @@ pub(crate) fn note_lists(
     requires empty { maps.old ≡ replicate (length maps.old) (empty_set ((length lists.now + 63) / 64)) }
     requires starts { starts.old.items ≡ [] }
     requires ords { ords.old.items ≡ [] }
-    ensures { OnOk result (AreNoted lists.now slots.now (length maps.old) (length lists.now) maps.new starts.new.items ords.new.items) }
+    ensures { OnOk result (AreNoted lists.now slots.now (length maps.old)
+        (length lists.now) maps.new starts.new.items ords.new.items) }
 {
     starts.push(0)?;
     for doc in 0..lists.len() {

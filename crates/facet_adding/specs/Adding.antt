@@ -23,7 +23,8 @@ leaf_of ords = slice_index_or ords (length ords - 1) 0
 -- Under any labels in which the prefixes of its document's labels have these ordinals, the entry is one of its
 -- document.
 abbrev pub IsEntryWhere : Config → List (List ℕ) → Entry → Type 0
-IsEntryWhere config resolved e = (labels : List (List (List ℕ))) → IsLabelList labels → AreResolved labels e.doc.labels resolved → IsEntry config labels e
+IsEntryWhere config resolved e = (labels : List (List (List ℕ))) → IsLabelList labels
+    → AreResolved labels e.doc.labels resolved → IsEntry config labels e
 
 -- every prefix of every label of the document is among the labels that were seen
 abbrev pub SeesLabelsOf : Pass → Doc → Type 0
@@ -34,6 +35,8 @@ abbrev pub HasTried : ℕ → Operation → Pass → Pass → Result ℕ AddFaul
 HasTried limit added old new (Ok at) = SeesLabelsOf new added.doc × IsPlaced at added old.operations new.operations
 HasTried limit added old new (Err (adds.Broken fault)) = ⊥
 HasTried limit added old new (Err (adds.LabelsFull size)) =
-    SeesOn old.operations new.operations × IsFullForOne (ListFull size) limit (labels_of new.labels.seen) added.doc.labels
-HasTried limit added old new (Err (adds.DocsFull count)) = SeesOn old.operations new.operations × SeesLabelsOf new added.doc × HasNoRoom count new.operations
+    SeesOn old.operations new.operations
+    × IsFullForOne (ListFull size) limit (labels_of new.labels.seen) added.doc.labels
+HasTried limit added old new (Err (adds.DocsFull count)) = SeesOn old.operations new.operations
+    × SeesLabelsOf new added.doc × HasNoRoom count new.operations
 HasTried limit added old new (Err adds.NoMemory) = SeesOn old.operations new.operations

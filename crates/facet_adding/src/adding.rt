@@ -101,7 +101,10 @@ pub fn add_to<N: Name, R: Wait>(
     ensures rest { (pass.new.pairs ≡ pass.old.pairs) × (pass.new.commits ≡ pass.old.commits) }
     ensures more { IsPrefix pass.old.labels.seen pass.new.labels.seen }
     ensures adds { AddsInTurn (flat_map prefixes doc.labels) manager.now.writer.limit pass.old.labels pass.new.labels }
-    ensures tried { HasTried manager.now.writer.limit (record { session = session; doc = doc }) pass.old pass.new result }
+    ensures tried { HasTried manager.now.writer.limit (record {
+      session = session;
+      doc = doc;
+    }) pass.old pass.new result }
 {
     let resolved = match manager.resolve_each(rt, pass, doc.facets()) {
         Ok(resolved) => resolved,

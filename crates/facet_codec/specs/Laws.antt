@@ -11,7 +11,8 @@ pub record Takes (p : Place) (spelling : List ℕ) (q : Place) : Type 0 where
 
 -- What a successful read took is the spelling of its value, which fits. So a value has one spelling.
 abbrev pub IsSpelled : {A F : Type 0} → (Place → Result (A × Place) F) → (A → List ℕ) → (A → Type 0) → Type 0
-IsSpelled {A} read spell Fits = (p : Place) (x : A) (q : Place) → IsBytes p.rest → read p ≡ Ok (x, q) → Takes p (spell x) q × Fits x
+IsSpelled {A} read spell Fits = (p : Place) (x : A) (q : Place) → IsBytes p.rest → read p ≡ Ok (x, q)
+    → Takes p (spell x) q × Fits x
 
 -- Reading a spelling and whatever follows returns the value and leaves what follows.
 abbrev pub ReadsBack : {A F : Type 0} → (Place → Result (A × Place) F) → (A → List ℕ) → (A → Type 0) → Type 0

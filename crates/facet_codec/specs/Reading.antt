@@ -1,5 +1,6 @@
 -- Reading from left to right, with the first fault. A fault's place is where the value begins.
-use Rattle.std.specs.Prelude.{◌≡◌, ℕ, zero, suc, ◌+◌, ◌-◌, ◌*◌, List, [], ◌∷◌, length, take, Result, Ok, Err, nat_lt, ◌==◌, if◌then◌else◌}
+use Rattle.std.specs.Prelude.{◌≡◌, ℕ, zero, suc, ◌+◌, ◌-◌, ◌*◌, List, [], ◌∷◌, length, take, Result, Ok, Err, nat_lt}
+use Rattle.std.specs.Prelude.{◌==◌, if◌then◌else◌}
 use Rattle.std.specs.Int.{Width, w32, w64, byte_len, from_be_bytes}
 use Rattle.std.specs.Str.{is_utf8}
 use Rattle.facet_codec.specs.declared.fault.CodecFault.{CodecFault}
@@ -13,7 +14,8 @@ abbrev pub ◌>>=◌ : {A B F : Type 0} → Result A F → (A → Result B F) �
 (Err e) >>= f = Err e
 
 -- A cursor's call returned what reading at its place gives, and is after that; after a fault it has not moved.
-abbrev pub Reads : {X Y : Type 0} → (X → Y) → Result X CodecFault → Place → Place → Result (Y × Place) CodecFault → Type 0
+abbrev pub Reads : {X Y : Type 0} → (X → Y) → Result X CodecFault → Place → Place → Result (Y × Place) CodecFault
+    → Type 0
 Reads view (Ok x) old new read = read ≡ Ok (view x, new)
 Reads view (Err e) old new read = (read ≡ Err e) × (new ≡ old)
 
@@ -33,7 +35,9 @@ u8_at p = u8_from p.at p.rest
 
 -- a number of a fixed width, big-endian
 abbrev pub number_at : Width → Place → Result (ℕ × Place) CodecFault
-number_at w p = if nat_lt (length p.rest) (byte_len w) then Err (Short p.at) else Ok (from_be_bytes w (take (byte_len w) p.rest), skip (byte_len w) p)
+number_at w p =
+    if nat_lt (length p.rest) (byte_len w) then Err (Short p.at)
+    else Ok (from_be_bytes w (take (byte_len w) p.rest), skip (byte_len w) p)
 
 -- four bytes
 abbrev pub u32_at : Place → Result (ℕ × Place) CodecFault
@@ -53,7 +57,8 @@ unfoldable pub groups_at : ℕ → ℕ → ℕ → List ℕ → Result (ℕ × P
 groups_at start more at [] = Err (Short start)
 groups_at start zero at (b ∷ rest) = if nat_lt 15 b then Err (OutOfRange start)
     else (if b == 0 then Err (LongSpelling start) else Ok (b, record { at = at + 1; rest = rest }))
-groups_at start (suc more) at (b ∷ rest) = if nat_lt b 128 then (if b == 0 then Err (LongSpelling start) else Ok (b, record { at = at + 1; rest = rest }))
+groups_at start (suc more) at (b ∷ rest) =
+    if nat_lt b 128 then (if b == 0 then Err (LongSpelling start) else Ok (b, record { at = at + 1; rest = rest }))
     else (groups_at start more (at + 1) rest >>= λ n. Ok (b - 128 + 128 * n.0, n.1))
 
 -- the vInt at the beginning of these bytes, which begin at `at`

@@ -43,7 +43,13 @@ pub(crate) fn read_vint(at: usize, bytes: &[u8]) -> Result<Found<'_>, CodecFault
 fn read_groups(start: u64, more: u32, at: usize, bytes: &[u8]) -> Result<Found<'_>, CodecFault>
     requires few { more ≤ 3 }
     requires fits { at + length bytes.now < 2 ^ 64 }
-    ensures found { Gives (λ x. (x.value, record { at = x.at; rest = x.rest.now })) result (groups_at start more at bytes.now) }
+    ensures found { Gives (λ x. (
+      x.value,
+      record {
+        at = x.at;
+        rest = x.rest.now;
+      },
+    )) result (groups_at start more at bytes.now) }
     ensures value { IfOk result (λ x. x.value < bound more) }
     ensures size { IfOk result (λ x. x.at + length x.rest.now < 2 ^ 64) }
 {

@@ -1,5 +1,6 @@
 -- The dimensions whose flags differ in two configs.
-use Rattle.std.specs.Prelude.{◌≡◌, ◌≢◌, ◌↔◌, ◌||◌, ℕ, not, Bool, false, if◌then◌else◌, List, map, fold, Option, Some, None, IfSome, IfNone}
+use Rattle.std.specs.Prelude.{◌≡◌, ◌≢◌, ◌↔◌, ◌||◌, ℕ, not, Bool, false, if◌then◌else◌, List, map, fold, Option, Some}
+use Rattle.std.specs.Prelude.{None, IfSome, IfNone}
 use Rattle.std.specs.Ordering.{nat_cmp, is_lt}
 use Rattle.std.specs.Cmp.Lexicographic.{slice_cmp}
 use Rattle.facet_model.specs.Flags.{Config, flags}
@@ -31,7 +32,8 @@ nearer one other first dim = if is_different one other dim then lesser first dim
 
 -- the least of the declared dimensions whose flags differ
 abbrev pub first_different : Config → Config → Option (List ℕ)
-first_different one other = fold (nearer one other) (fold (nearer one other) None (map (λ d. d.0) one)) (map (λ d. d.0) other)
+first_different one other = fold (nearer one other) (fold (nearer one other) None (map (λ d. d.0) one))
+    (map (λ d. d.0) other)
 
 -- What is found is the first difference. If nothing is found, no dimension's flags differ.
 pub record IsFoundDifference (one other : Config) (found : Option (List ℕ)) : Type 0 where
@@ -40,4 +42,5 @@ pub record IsFoundDifference (one other : Config) (found : Option (List ℕ)) : 
 
 -- there is exactly one first difference, and comparing the declarations of both finds it
 abbrev pub OneDifference : Type 0
-OneDifference = (one other : Config) (found : Option (List ℕ)) → IsFoundDifference one other found ↔ (found ≡ first_different one other)
+OneDifference = (one other : Config) (found : Option (List ℕ))
+    → IsFoundDifference one other found ↔ (found ≡ first_different one other)

@@ -11,6 +11,9 @@ AreAsLong labels resolved = AllZip (λ label ords. length ords ≡ length label)
 
 -- The ordinals that are counted for the labels, each once. In a label list with the prefixes at these ordinals they are
 -- those of the counted paths.
-pub record AreExpanded (config : Config) (labels : List (List (List ℕ))) (resolved : List (List ℕ)) (ords : List ℕ) : Type 0 where
-  pub members : (ord : ℕ) → list_any (nat_eq ord) ords ≡ list_any (nat_eq ord) (ordinals_of_labels config labels resolved)
-  pub paths : (known : List (List (List ℕ))) → IsLabelList known → AreResolved known labels resolved → ords ≡ counted_ordinals known config labels
+pub record AreExpanded (config : Config) (labels : List (List (List ℕ))) (resolved : List (List ℕ))
+    (ords : List ℕ) : Type 0 where
+  pub members : (ord : ℕ) → list_any (nat_eq ord) ords
+      ≡ list_any (nat_eq ord) (ordinals_of_labels config labels resolved)
+  pub paths : (known : List (List (List ℕ))) → IsLabelList known → AreResolved known labels resolved
+      → ords ≡ counted_ordinals known config labels

@@ -27,7 +27,8 @@ impl FacetsConfig {
         before: Option<&'a str>,
     ) -> Option<&'a str>
         requires { IfSome before (λ d. IsDimension d.now) }
-        ensures is { option_map (λ s. s.now) result ≡ fold (nearer one.now other.now) (option_map (λ s. s.now) before.entry) (map (λ d. d.0) self.now) }
+        ensures is { option_map (λ s. s.now) result
+            ≡ fold (nearer one.now other.now) (option_map (λ s. s.now) before.entry) (map (λ d. d.0) self.now) }
         ensures named { IfSome result (λ d. IsDimension d.now) }
     {
         let mut first = before;
@@ -57,7 +58,8 @@ fn nearer<'a>(
 ) -> Option<&'a str>
     requires first { IfSome first (λ d. IsDimension d.now) }
     requires dim { IsDimension dim.now }
-    ensures is { option_map (λ s. s.now) result ≡ nearer one.now other.now (option_map (λ s. s.now) first.entry) dim.now }
+    ensures is { option_map (λ s. s.now) result
+        ≡ nearer one.now other.now (option_map (λ s. s.now) first.entry) dim.now }
     ensures named { IfSome result (λ d. IsDimension d.now) }
 {
     if !is_different(one, other, dim) {

@@ -45,7 +45,8 @@ impl FacetsConfig {
         ords: &mut Vec<u32>,
     ) -> Result<(), NoMemory>
         requires { length resolved.now ≡ length label.now }
-        ensures ords { OnOk result (ords.new.items ≡ ords.old.items ++ ordinals_of_label self.now label.now resolved.now) }
+        ensures ords { OnOk result (ords.new.items ≡ ords.old.items
+            ++ ordinals_of_label self.now label.now resolved.now) }
         ensures some { 0 < length label.now }
     {
         let flags = self.flags(label.dim());

@@ -22,19 +22,24 @@ pub record Keeps (s t : State) : Type 0 where
 
 -- a crash at any time after any events, from any valid core on
 abbrev pub CrashesKeepAcknowledged : Type 0
-CrashesKeepAcknowledged = (start : State) (events : List CoreEvent) (keep : ℕ) → Valid start → let s = ran start events in Keeps s (step s (crash keep))
+CrashesKeepAcknowledged = (start : State) (events : List CoreEvent) (keep : ℕ) → Valid start
+    → let s = ran start events in Keeps s (step s (crash keep))
 
 -- A pair of n operations and m labels has no label outside its list: each prefix of each label of its documents is
 -- among the first m labels.
 abbrev pub NamesItsLabels : State → ℕ × ℕ → Type 0
 NamesItsLabels s p = p.0 ≤ length s.history × p.1 ≤ length s.labels
-    × All (λ doc. All (λ label. All (λ path. IsTrue (stands (take p.1 s.labels) path)) (prefixes label)) doc.labels) (docs (take p.0 s.history))
+    × All (λ doc. All (λ label. All (λ path. IsTrue (stands (take p.1 s.labels) path)) (prefixes label)) doc.labels)
+    (docs (take p.0 s.history))
 
 -- every published pair is such a pair
 abbrev pub PublishedLabelsStand : Type 0
-PublishedLabelsStand = (start : State) (events : List CoreEvent) → Valid start → let s = ran start events in All (NamesItsLabels s) s.published
+PublishedLabelsStand = (start : State) (events : List CoreEvent) → Valid start
+    → let s = ran start events in All (NamesItsLabels s) s.published
 
 -- a later publication has no fewer operations and no fewer labels
 abbrev pub PublicationsNeverFall : Type 0
 PublicationsNeverFall = (start : State) (events : List CoreEvent) → Valid start → let s = ran start events in
-    (i k : ℕ) (d : ℕ × ℕ) → i ≤ k → k < length s.published → ((slice_index_or s.published i d).0 ≤ (slice_index_or s.published k d).0) × ((slice_index_or s.published i d).1 ≤ (slice_index_or s.published k d).1)
+    (i k : ℕ) (d : ℕ × ℕ) → i ≤ k → k < length s.published → ((slice_index_or s.published i d).0
+    ≤ (slice_index_or s.published k d).0) × ((slice_index_or s.published i d).1
+    ≤ (slice_index_or s.published k d).1)

@@ -1,9 +1,11 @@
 -- The plain data of events and of the core's parts.
-use Rattle.std.specs.Prelude.{ℕ, ◌*◌, ◌/◌, ◌%◌, nat_lt, if◌then◌else◌, length, slice_index, slice_index_or, Option, Some, None}
+use Rattle.std.specs.Prelude.{ℕ, ◌*◌, ◌/◌, ◌%◌, nat_lt, if◌then◌else◌, length, slice_index, slice_index_or, Option}
+use Rattle.std.specs.Prelude.{Some, None}
 use Rattle.facet_model.specs.Core as plain
 use Rattle.facet_model.specs.Histories as histories
 use Rattle.facet_core.specs.declared.event.Event.{Event}
-use Rattle.facet_core.specs.declared.event.Event.TheVariants.{Label, Append, TakeIndex, TakeLabels, Publish, DropRefresh, BeginCommit, DropCommit, Device, Crash}
+use Rattle.facet_core.specs.declared.event.Event.TheVariants.{Label, Append, TakeIndex, TakeLabels, Publish}
+use Rattle.facet_core.specs.declared.event.Event.TheVariants.{DropRefresh, BeginCommit, DropCommit, Device, Crash}
 use Rattle.facet_core.specs.declared.parts.Publication.{Publication}
 use Rattle.facet_core.specs.declared.parts.Operation.{Operation}
 use Rattle.facet_core.specs.declared.parts.Refresh.{Refresh}
@@ -36,4 +38,5 @@ commit_view c = record { operations = c.operations; labels = c.labels; calls = c
 -- what a crash keeps of the labels and of the operations, if its number is one of the choices
 abbrev pub kept_by : plain.State → ℕ → Option (ℕ × (ℕ × ℕ))
 kept_by s keep = let l = length s.idx_may in
-    if nat_lt keep (length s.tax_may * l) then Some (slice_index s.tax_may (keep / l), slice_index_or s.idx_may (keep % l) s.idx_read) else None
+    if nat_lt keep (length s.tax_may * l)
+    then Some (slice_index s.tax_may (keep / l), slice_index_or s.idx_may (keep % l) s.idx_read) else None

@@ -1,4 +1,5 @@
-ghost use Rattle.facet_core.specs.Laws.{EveryRunIsValid, CrashesKeepAcknowledged, PublishedLabelsStand, PublicationsNeverFall};
+ghost use Rattle.facet_core.specs.Laws.{EveryRunIsValid, CrashesKeepAcknowledged, PublishedLabelsStand};
+ghost use Rattle.facet_core.specs.Laws.{PublicationsNeverFall};
 
 /// States that every list of events leads from a valid core to a valid core. The events may abandon a refresh between
 /// its two numbers, fail a disk call, and crash between any two disk calls.

@@ -2,7 +2,10 @@ ghost use Rattle.std.specs.Prelude.{◌≡◌, ◌<◌, ◌≤◌, [], ◌∷◌
 ghost use Rattle.std.specs.List.{list_all};
 ghost use Rattle.facet_names.specs.Labels.{stands, above};
 ghost use Rattle.facet_core.specs.Views.{pair, commit_view, kept_by};
-ghost use Rattle.facet_model.specs.Core.{empty_core, with_label, with_operation, with_index, with_labels_taken, with_publication, without_refresh, with_commit, without_commit, labels_of_commit, with_device, device_done, device_failed, with_crash, after_crash};
+ghost use Rattle.facet_model.specs.Core.{empty_core, with_label, with_operation, with_index, with_labels_taken};
+ghost use Rattle.facet_model.specs.Core.{with_publication, without_refresh, with_commit, without_commit};
+ghost use Rattle.facet_model.specs.Core.{labels_of_commit, with_device, device_done, device_failed, with_crash};
+ghost use Rattle.facet_model.specs.Core.{after_crash};
 ghost use Rattle.facet_model.specs.CoreStates.{Valid};
 
 use crate::parts::{

@@ -58,7 +58,8 @@ pub fn step(alloc: Global, core: &mut Core, event: &Event) -> Result<(), NoMemor
 /// Applies the events to the core, in order. Errors: out of memory; then a prefix of the events was applied.
 pub fn run(alloc: Global, core: &mut Core, events: &[Event]) -> Result<(), NoMemory>
     ensures ok { OnOk result (core.new ≡ ran core.old (map event_view events.now)) }
-    ensures prefix { (k : ℕ) × (k ≤ length events.now) × (core.new ≡ ran core.old (map event_view (take k events.now))) }
+    ensures prefix { (k : ℕ) × (k ≤ length events.now) × (core.new
+        ≡ ran core.old (map event_view (take k events.now))) }
     ensures valid { Valid core.old → Valid core.new }
 {
     for event in events {

@@ -16,7 +16,8 @@ entry_of labels totals child = (last_part (slice_index_or labels child []), slic
 -- those of these children whose count is above 0
 abbrev pub entries_of : List (List (List ℕ)) → List ℕ → List ℕ → List PartCount
 entries_of labels totals [] = []
-entries_of labels totals (c ∷ cs) = if nat_lt 0 (slice_index_or totals c 0) then entry_of labels totals c ∷ entries_of labels totals cs
+entries_of labels totals (c ∷ cs) =
+    if nat_lt 0 (slice_index_or totals c 0) then entry_of labels totals c ∷ entries_of labels totals cs
     else entries_of labels totals cs
 
 -- all of a label's, the one that was added last first

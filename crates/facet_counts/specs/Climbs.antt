@@ -1,5 +1,6 @@
 -- The rolling up, step by step, over ordinals and what each one's count goes to.
-use Rattle.std.specs.Prelude.{◌<◌, ◌&&◌, ◌||◌, ℕ, zero, suc, Bool, false, nat_eq, nat_le, if◌then◌else◌, List, length, Option, Some, None, option_and_then, count_by, slice_index_or, ◌≡◌}
+use Rattle.std.specs.Prelude.{◌<◌, ◌&&◌, ◌||◌, ℕ, zero, suc, Bool, false, nat_eq, nat_le, if◌then◌else◌, List, length}
+use Rattle.std.specs.Prelude.{Option, Some, None, option_and_then, count_by, slice_index_or, ◌≡◌}
 use Rattle.std.specs.List.{list_any}
 use Rattle.std.specs.Option.{option_map_or}
 use Rattle.facet_names.specs.Arrays.{parent_at}
@@ -22,7 +23,8 @@ goes_to config labels ord = next_of (is_rolled config labels ord) labels ord
 -- the count of other reaches ord by steps from ordinals that are not below first
 abbrev pub climbs : (ℕ → Option ℕ) → ℕ → ℕ → ℕ → ℕ → Bool
 climbs up first zero ord other = nat_eq ord other
-climbs up first (suc steps) ord other = nat_eq ord other || (nat_le first other && option_map_or (climbs up first steps ord) (up other) false)
+climbs up first (suc steps) ord other = nat_eq ord other || (nat_le first other
+    && option_map_or (climbs up first steps ord) (up other) false)
 
 -- how many lists have an ordinal that reaches ord so
 abbrev pub climbed : (ℕ → Option ℕ) → ℕ → List (List ℕ) → ℕ → ℕ

@@ -5,7 +5,8 @@ use Rattle.taxo_list.specs.DimLists.{dims_of}
 use Rattle.facet_counts.specs.Lists.{is_rolled}
 use Rattle.facet_counts.specs.Tallies.{Tally, HasAdded, Totals}
 
--- There is a number for each label, and a mark for each dimension whose counts are rolled up. Some lists were added, at most a million.
+-- There is a number for each label, and a mark for each dimension whose counts are rolled up. Some lists were added, at
+-- most a million.
 pub record IsCounter (tally : Tally) (rolled : List Bool) : Type 0 where
   pub list : IsLabelList tally.labels
   pub few : length tally.labels ≤ 1000000

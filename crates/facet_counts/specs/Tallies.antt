@@ -15,7 +15,8 @@ pub record Tally : Type 0 where
 pub record HasAdded (tally : Tally) (lists : List (List ℕ)) : Type 0 where
   pub each : All (IsCounted tally.config tally.labels) lists
   pub number : tally.added ≡ length lists
-  pub own : (ord : ℕ) → ord < length tally.labels → slice_index_or tally.own ord 0 ≡ count_by (list_any (nat_eq ord)) lists
+  pub own : (ord : ℕ) → ord < length tally.labels → slice_index_or tally.own ord 0
+      ≡ count_by (list_any (nat_eq ord)) lists
 
 -- the count of each ordinal
 pub record Totals : Type 0 where
@@ -25,4 +26,5 @@ pub record Totals : Type 0 where
 
 -- These are the counts of these lists, at each ordinal but the root's.
 abbrev pub AreCounts : Totals → List (List ℕ) → Type 0
-AreCounts counts lists = (ord : ℕ) → 0 < ord → ord < length counts.labels → slice_index_or counts.totals ord 0 ≡ lists_at counts.config counts.labels lists ord
+AreCounts counts lists = (ord : ℕ) → 0 < ord → ord < length counts.labels
+    → slice_index_or counts.totals ord 0 ≡ lists_at counts.config counts.labels lists ord

@@ -40,7 +40,8 @@ fn note(
     requires some { 0 < child }
     requires within { child < length view.now }
     requires sized { length totals.now ≡ length view.now }
-    ensures { OnOk result (map counted_child children.new.items ≡ map counted_child children.old.items ++ entries_of view.now totals.now (child ∷ [])) }
+    ensures { OnOk result (map counted_child children.new.items
+        ≡ map counted_child children.old.items ++ entries_of view.now totals.now (child ∷ [])) }
 {
     if totals[child as usize] > 0 {
         let one = child_with(alloc, view, totals, child)?;

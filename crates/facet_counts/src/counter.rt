@@ -1,4 +1,5 @@
-ghost use Rattle.std.specs.Prelude.{◌≡◌, ◌<◌, ◌≤◌, ◌+◌, ◌++◌, ◌∷◌, ◌/◌, ◌^◌, [], List, ℕ, All, true, nat_eq, length, map, slice_index_or, if◌then◌else◌, IfOk};
+ghost use Rattle.std.specs.Prelude.{◌≡◌, ◌<◌, ◌≤◌, ◌+◌, ◌++◌, ◌∷◌, ◌/◌, ◌^◌, [], List, ℕ, All, true, nat_eq, length};
+ghost use Rattle.std.specs.Prelude.{map, slice_index_or, if◌then◌else◌, IfOk};
 ghost use Rattle.std.specs.List.{list_any, AllPairs};
 ghost use Rattle.facet_names.specs.Labels.{IsLabelList};
 ghost use Rattle.seg_postings.specs.Rising.{is_in};
@@ -35,7 +36,12 @@ impl<'a> Model for Counter<'a> {
 
     ghost view = { λ c. record { labels = c.view.now; config = c.config.now; own = c.counts.items; added = c.added } };
 
-    ghost invariant = { λ c. IsCounter (record { labels = c.view.now; config = c.config.now; own = c.counts.items; added = c.added }) c.rolled.items };
+    ghost invariant = { λ c. IsCounter (record {
+      labels = c.view.now;
+      config = c.config.now;
+      own = c.counts.items;
+      added = c.added;
+    }) c.rolled.items };
 }
 
 // Adds one to the count of each of these ordinals.
@@ -54,9 +60,11 @@ fn add_each(counts: &mut [u32], mut ords: Ords<'_>)
 // Adds the other numbers, each at its place.
 fn add_counts(counts: &mut [u32], others: &[u32])
     requires same { length counts.old ≡ length others.now }
-    requires room { (ord : ℕ) → ord < length counts.old → slice_index_or counts.old ord 0 + slice_index_or others.now ord 0 < 2 ^ 32 }
+    requires room { (ord : ℕ) → ord < length counts.old → slice_index_or counts.old ord 0
+        + slice_index_or others.now ord 0 < 2 ^ 32 }
     ensures len { length counts.new ≡ length counts.old }
-    ensures sums { (ord : ℕ) → ord < length counts.old → slice_index_or counts.new ord 0 ≡ slice_index_or counts.old ord 0 + slice_index_or others.now ord 0 }
+    ensures sums { (ord : ℕ) → ord < length counts.old → slice_index_or counts.new ord 0
+        ≡ slice_index_or counts.old ord 0 + slice_index_or others.now ord 0 }
 {
     for ord in 0..counts.len() {
         counts[ord] += others[ord];
@@ -93,7 +101,8 @@ impl<'a> Counter<'a> {
     pub fn add_doc(&mut self, counted: Ords<'_>)
         requires counted { IsCounted self.old.config self.old.labels counted }
         requires few { self.old.added < 1000000 }
-        ensures added { (lists : List (List ℕ)) → HasAdded self.old lists → HasAdded self.new (lists ++ counted.entry ∷ []) }
+        ensures added { (lists : List (List ℕ)) → HasAdded self.old lists
+            → HasAdded self.new (lists ++ counted.entry ∷ []) }
         ensures number { self.new.added ≡ self.old.added + 1 }
         ensures labels { self.new.labels ≡ self.old.labels }
         ensures config { self.new.config ≡ self.old.config }
@@ -107,7 +116,8 @@ impl<'a> Counter<'a> {
     pub fn add_column(&mut self, column: &Column, places: &Bits)
         requires words { places.now.words ≡ (length column.now + 63) / 64 }
         requires below { (n : ℕ) → is_in n places.now.places ≡ true → n < length column.now }
-        requires counted { (n : ℕ) → is_in n places.now.places ≡ true → IsCounted self.old.config self.old.labels (slice_index_or column.now n []) }
+        requires counted { (n : ℕ) → is_in n places.now.places ≡ true
+            → IsCounted self.old.config self.old.labels (slice_index_or column.now n []) }
         requires few { self.old.added + length places.now.places ≤ 1000000 }
         ensures added { (lists : List (List ℕ)) → HasAdded self.old lists
             → HasAdded self.new (lists ++ map (λ n. slice_index_or column.now n []) places.now.places) }
@@ -125,7 +135,8 @@ impl<'a> Counter<'a> {
         requires labels { other.now.labels ≡ self.old.labels }
         requires config { other.now.config ≡ self.old.config }
         requires few { self.old.added + other.now.added ≤ 1000000 }
-        ensures added { (lists others : List (List ℕ)) → HasAdded self.old lists → HasAdded other.now others → HasAdded self.new (lists ++ others) }
+        ensures added { (lists others : List (List ℕ)) → HasAdded self.old lists → HasAdded other.now others
+            → HasAdded self.new (lists ++ others) }
         ensures number { self.new.added ≡ self.old.added + other.now.added }
         ensures labels { self.new.labels ≡ self.old.labels }
         ensures config { self.new.config ≡ self.old.config }

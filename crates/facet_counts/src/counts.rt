@@ -1,4 +1,5 @@
-ghost use Rattle.std.specs.Prelude.{◌≡◌, ◌<◌, ◌^◌, ℕ, List, Some, None, true, not, nat_lt, pos, negsuc, length, map, slice_index_or, option_map, if◌then◌else◌, IfOk};
+ghost use Rattle.std.specs.Prelude.{◌≡◌, ◌<◌, ◌^◌, ℕ, List, Some, None, true, not, nat_lt, pos, negsuc, length, map};
+ghost use Rattle.std.specs.Prelude.{slice_index_or, option_map, if◌then◌else◌, IfOk};
 ghost use Rattle.std.specs.List.{AllZip};
 ghost use Rattle.facet_names.specs.Labels.{place};
 ghost use Rattle.facet_model.specs.Asks.{one_value, ask_fault, is_kept_path};
@@ -37,14 +38,19 @@ impl<'a> Model for Counts<'a> {
 
     ghost view = { λ c. record { labels = c.view.now; config = c.config.now; totals = c.totals.items } };
 
-    ghost invariant = { λ c. IsTotals (record { labels = c.view.now; config = c.config.now; totals = c.totals.items }) };
+    ghost invariant = { λ c. IsTotals (record {
+      labels = c.view.now;
+      config = c.config.now;
+      totals = c.totals.items;
+    }) };
 }
 
 // Returns the value of a path: the sum of its children's counts if the dimension is not multi-valued, otherwise its own
 // count or -1.
 fn value_for(flags: DimFlags, own: u32, sum: u64) -> i64
     requires { sum < 2 ^ 63 }
-    ensures { result ≡ (if not flags.multi_valued then pos sum else (if flags.require_dim_count then pos own else negsuc 0)) }
+    ensures { result ≡ (if not flags.multi_valued then pos sum
+        else (if flags.require_dim_count then pos own else negsuc 0)) }
 {
     if !flags.multi_valued {
         sum as i64
@@ -74,10 +80,12 @@ impl<'a> Counts<'a> {
         requires some { 0 < ord }
         requires within { ord < length self.now.labels }
         ensures total { result ≡ slice_index_or self.now.totals ord 0 }
-        ensures counts { (lists : List (List ℕ)) → AreCounts self.now lists → result ≡ lists_at self.now.config self.now.labels lists ord }
+        ensures counts { (lists : List (List ℕ)) → AreCounts self.now lists
+            → result ≡ lists_at self.now.config self.now.labels lists ord }
         // If the lists are those of documents: the number of these that have the path, if its count is kept.
         ensures documents { (docs : List Doc) (lists : List (List ℕ)) (path : List (List ℕ)) → AreCounts self.now lists
-            → AllZip (IsListOf self.now.config self.now.labels) lists docs → place self.now.labels path ≡ Some ord → is_kept_path self.now.config path ≡ true
+            → AllZip (IsListOf self.now.config self.now.labels) lists docs → place self.now.labels path ≡ Some ord
+            → is_kept_path self.now.config path ≡ true
             → result ≡ count docs path }
     {
         self.totals[ord as usize]
@@ -93,7 +101,8 @@ impl<'a> Counts<'a> {
     pub fn top(&self, alloc: Global, path: &Path, n: u32) -> Result<Option<FacetResult>, NoMemory>
         requires { 0 < n }
         ensures { IfOk result (λ r. (docs : List Doc) (lists : List (List ℕ)) → AreCounts self.now lists
-            → AllZip (IsListOf self.now.config self.now.labels) lists docs → IsTop self.now.config docs path.now n (option_map result_view r)) }
+            → AllZip (IsListOf self.now.config self.now.labels) lists docs
+            → IsTop self.now.config docs path.now n (option_map result_view r)) }
     {
         let dim_flags = self.config.flags(path.dim());
         match self.view.ordinal_of(path) {
@@ -115,7 +124,8 @@ impl<'a> Counts<'a> {
         requires some { 0 < length path.now }
         requires place { place self.now.labels path.now ≡ Some ord }
         ensures { IfOk result (λ r. (docs : List Doc) (lists : List (List ℕ)) → AreCounts self.now lists
-            → AllZip (IsListOf self.now.config self.now.labels) lists docs → IsTop self.now.config docs path.now n (option_map result_view r)) }
+            → AllZip (IsListOf self.now.config self.now.labels) lists docs
+            → IsTop self.now.config docs path.now n (option_map result_view r)) }
     {
         let Firsts {
             children,
@@ -141,7 +151,8 @@ impl<'a> Counts<'a> {
     /// nothing.
     pub fn specific(&self, path: &Path, exists: bool) -> i64
         requires kept { ask_fault self.now.config (one_value path.now) ≡ None }
-        ensures { (docs snapshot : List Doc) (lists : List (List ℕ)) → AreCounts self.now lists → AllZip (IsListOf self.now.config self.now.labels) lists docs
+        ensures { (docs snapshot : List Doc) (lists : List (List ℕ)) → AreCounts self.now lists
+            → AllZip (IsListOf self.now.config self.now.labels) lists docs
             → exists ≡ nat_lt 0 (count snapshot path.now) → result ≡ specific snapshot docs path.now }
     {
         if !exists {
@@ -161,7 +172,8 @@ impl<'a> Counts<'a> {
     pub fn all_dims(&self, alloc: Global, n: u32) -> Result<Vec<FacetResult>, NoMemory>
         requires { 0 < n }
         ensures { IfOk result (λ v. (docs : List Doc) (lists : List (List ℕ)) → AreCounts self.now lists
-            → AllZip (IsListOf self.now.config self.now.labels) lists docs → AreAllDims self.now.config (λ _. docs) n (map result_view v.items)) }
+            → AllZip (IsListOf self.now.config self.now.labels) lists docs
+            → AreAllDims self.now.config (λ _. docs) n (map result_view v.items)) }
     {
         let mut results = self.each_dim(alloc, n)?;
         order_dims(&mut results);
@@ -172,7 +184,8 @@ impl<'a> Counts<'a> {
     fn each_dim(&self, alloc: Global, n: u32) -> Result<Vec<FacetResult>, NoMemory>
         requires { 0 < n }
         ensures { IfOk result (λ v. (docs : List Doc) (lists : List (List ℕ)) → AreCounts self.now lists
-            → AllZip (IsListOf self.now.config self.now.labels) lists docs → AreDims (λ _. true) self.now.config (λ _. docs) n (map result_view v.items)) }
+            → AllZip (IsListOf self.now.config self.now.labels) lists docs
+            → AreDims (λ _. true) self.now.config (λ _. docs) n (map result_view v.items)) }
     {
         let mut results = Vec::new(alloc);
         let mut next = child_of(self.view, 0);

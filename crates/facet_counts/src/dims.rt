@@ -14,8 +14,10 @@ use std::cmp::Ordering;
 /// Adds the result of one more dimension to those of others, if it has one. Each dimension may be counted over its own
 /// documents. Errors: out of memory; then the results are as before.
 pub fn note_dim(results: &mut Vec<FacetResult>, top: Option<FacetResult>) -> Result<(), NoMemory>
-    ensures noted { OnOk result ((among : List ℕ → Bool) (config : Config) (docs_of : List ℕ → List Doc) (n : ℕ) (dim : List ℕ) → among dim ≡ false
-        → IsTop config (docs_of dim) (dim ∷ []) n (option_map result_view top) → AreDims among config docs_of n (map result_view results.old.items)
+    ensures noted { OnOk result ((among : List ℕ → Bool) (config : Config) (docs_of : List ℕ
+        → List Doc) (n : ℕ) (dim : List ℕ) → among dim ≡ false
+        → IsTop config (docs_of dim) (dim ∷ []) n (option_map result_view top)
+        → AreDims among config docs_of n (map result_view results.old.items)
         → AreDims (λ d. bytes_eq d dim || among d) config docs_of n (map result_view results.new.items)) }
     ensures same { OnErr result (results.new.items ≡ results.old.items) }
 {
@@ -37,7 +39,8 @@ fn by_value(a: &FacetResult, b: &FacetResult) -> Ordering
 pub fn order_dims(results: &mut Vec<FacetResult>)
     ensures { (among : List ℕ → Bool) (config : Config) (docs_of : List ℕ → List Doc) (n : ℕ)
         → ((dim : List ℕ) → among dim ≡ false → IsTop config (docs_of dim) (dim ∷ []) n None)
-        → AreDims among config docs_of n (map result_view results.old.items) → AreAllDims config docs_of n (map result_view results.new.items) }
+        → AreDims among config docs_of n (map result_view results.old.items)
+        → AreAllDims config docs_of n (map result_view results.new.items) }
 {
     results.sort_unstable_by(|a, b| by_value(a, b));
 }

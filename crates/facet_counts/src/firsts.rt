@@ -1,5 +1,6 @@
 //! The first children of a label in the order of a listing.
-ghost use Rattle.std.specs.Prelude.{◌≡◌, ◌<◌, ◌≤◌, ◌+◌, ◌-◌, ◌++◌, ◌*◌, ◌∷◌, [], ℕ, List, true, false, All, length, map, take, slice_index_or, IfOk, OnOk};
+ghost use Rattle.std.specs.Prelude.{◌≡◌, ◌<◌, ◌≤◌, ◌+◌, ◌-◌, ◌++◌, ◌*◌, ◌∷◌, [], ℕ, List, true, false, All, length};
+ghost use Rattle.std.specs.Prelude.{map, take, slice_index_or, IfOk, OnOk};
 ghost use Rattle.std.specs.List.Sorted.{IsPermutation, IsSorted};
 ghost use Rattle.std.specs.Ordering.{is_lt};
 ghost use Rattle.facet_names.specs.Arrays.{is_child};
@@ -219,7 +220,8 @@ fn sorted_below(
     requires few { length view.now ≤ 1000000 }
     requires sized { length totals.now ≡ length view.now }
     requires small { (k : ℕ) → 0 < k → k < length view.now → slice_index_or totals.now k 0 ≤ 1000000 }
-    ensures first { IfOk result (λ f. AreFirst n (children_at view.now totals.now ord) (map counted_child f.children.items) f.sum f.number) }
+    ensures first { IfOk result (λ f. AreFirst n (children_at view.now totals.now ord)
+        (map counted_child f.children.items) f.sum f.number) }
     ensures few { IfOk result (λ f. f.number ≤ 1000000) }
     ensures low { IfOk result (λ f. f.sum ≤ 1000000 * f.number) }
 {
@@ -252,7 +254,8 @@ pub fn first_below(
     requires few { length view.now ≤ 1000000 }
     requires sized { length totals.now ≡ length view.now }
     requires small { (k : ℕ) → 0 < k → k < length view.now → slice_index_or totals.now k 0 ≤ 1000000 }
-    ensures first { IfOk result (λ f. AreFirst n (children_at view.now totals.now ord) (map counted_child f.children.items) f.sum f.number) }
+    ensures first { IfOk result (λ f. AreFirst n (children_at view.now totals.now ord)
+        (map counted_child f.children.items) f.sum f.number) }
     ensures few { IfOk result (λ f. f.number ≤ 1000000) }
     ensures low { IfOk result (λ f. f.sum ≤ 1000000 * f.number) }
 {

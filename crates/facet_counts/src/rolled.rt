@@ -1,5 +1,6 @@
 //! Which counts are rolled up, and where to.
-ghost use Rattle.std.specs.Prelude.{◌≡◌, ◌<◌, ◌≤◌, ◌+◌, ◌^◌, ◌&&◌, ℕ, false, not, length, slice_index_or, slice_set, IfOk, IfSome};
+ghost use Rattle.std.specs.Prelude.{◌≡◌, ◌<◌, ◌≤◌, ◌+◌, ◌^◌, ◌&&◌, ℕ, false, not, length, slice_index_or, slice_set};
+ghost use Rattle.std.specs.Prelude.{IfOk, IfSome};
 ghost use Rattle.std.specs.Option.{option_map_or};
 ghost use Rattle.facet_model.specs.Flags.{Config};
 ghost use Rattle.taxo_list.specs.DimLists.{dims_of};
@@ -58,8 +59,10 @@ fn go_up(view: &TaxoView, mark: bool, counts: &mut [u32], ord: usize)
     requires within { ord < length view.now }
     requires few { length view.now ≤ 1000000 }
     requires sized { length counts.old ≡ length view.now }
-    requires fits { IfSome (next_of mark view.now ord) (λ p. slice_index_or counts.old p 0 + slice_index_or counts.old ord 0 < 2 ^ 32) }
-    ensures { counts.new ≡ option_map_or (λ p. slice_set counts.old p (slice_index_or counts.old p 0 + slice_index_or counts.old ord 0))
+    requires fits { IfSome (next_of mark view.now ord) (λ p. slice_index_or counts.old p 0
+        + slice_index_or counts.old ord 0 < 2 ^ 32) }
+    ensures { counts.new ≡ option_map_or (λ p. slice_set counts.old p (slice_index_or counts.old p 0
+        + slice_index_or counts.old ord 0))
         (next_of mark view.now ord) counts.old }
 {
     if let Some(parent) = next(view, mark, ord as u32) {
@@ -70,8 +73,18 @@ fn go_up(view: &TaxoView, mark: bool, counts: &mut [u32], ord: usize)
 /// Rolls the counts up, from the last label to the first, so that a label's count is complete before it is added to the
 /// parent's.
 pub fn roll(view: &TaxoView, rolled: &[bool], counts: &mut [u32])
-    requires { (config : Config) × (added : ℕ) × IsCounter (record { labels = view.now; config = config; own = counts.old; added = added }) rolled.now }
-    ensures { (config : Config) (added : ℕ) → IsCounter (record { labels = view.now; config = config; own = counts.old; added = added }) rolled.now
+    requires { (config : Config) × (added : ℕ) × IsCounter (record {
+      labels = view.now;
+      config = config;
+      own = counts.old;
+      added = added;
+    }) rolled.now }
+    ensures { (config : Config) (added : ℕ) → IsCounter (record {
+      labels = view.now;
+      config = config;
+      own = counts.old;
+      added = added;
+    }) rolled.now
         → IsRolledTo (record { labels = view.now; config = config; own = counts.old; added = added }) 1 counts.new }
 {
     let mut ord = counts.len();

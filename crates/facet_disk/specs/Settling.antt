@@ -1,5 +1,6 @@
 -- What a crash leaves by a pick, in terms of when each name was last settled.
-use Rattle.std.specs.Prelude.{◌≡◌, ◌≢◌, ◌⊎◌, ◌<◌, ◌≤◌, ◌+◌, ◌||◌, ℕ, List, Some, Bool, true, false, take, length, slice_get}
+use Rattle.std.specs.Prelude.{◌≡◌, ◌≢◌, ◌⊎◌, ◌<◌, ◌≤◌, ◌+◌, ◌||◌, ℕ, List, Some, Bool, true, false, take, length}
+use Rattle.std.specs.Prelude.{slice_get}
 use Rattle.facet_disk.specs.declared.name.FileName.{FileName}
 use Rattle.facet_disk.specs.declared.change.Noted.{Noted}
 use Rattle.facet_disk.specs.declared.change.Change.{Change}
@@ -29,7 +30,8 @@ is_put (Removed removed) = false
 -- the last change that touches the name is a put, or none touches it
 abbrev pub IsInPlace : List Noted → FileName → Type 0
 IsInPlace changes name = (i : ℕ) (noted : Noted) → slice_get changes i ≡ Some noted → touches name noted.change ≡ true
-    → ((j : ℕ) (later : Noted) → i < j → slice_get changes j ≡ Some later → touches name later.change ≡ false) → is_put noted.change ≡ true
+    → ((j : ℕ) (later : Noted) → i < j → slice_get changes j ≡ Some later → touches name later.change ≡ false)
+    → is_put noted.change ≡ true
 
 -- After this change the name is as it reads, whether or not renames and removals before it happened: its file is put or
 -- synced, the names
@@ -45,8 +47,10 @@ Settles before (Removed removed) name = ⊥
 -- so many changes had been made when the name was last settled; none if it was not settled since the beginning
 pub record IsLastSettled (changes : List Noted) (name : FileName) (k : ℕ) : Type 0 where
   pub within : k ≤ length changes
-  pub settled : (i : ℕ) (noted : Noted) → k ≡ i + 1 → slice_get changes i ≡ Some noted → Settles (take i changes) noted.change name
-  pub since : (i : ℕ) (noted : Noted) → k ≤ i → slice_get changes i ≡ Some noted → ¬ Settles (take i changes) noted.change name
+  pub settled : (i : ℕ) (noted : Noted) → k ≡ i + 1 → slice_get changes i ≡ Some noted
+      → Settles (take i changes) noted.change name
+  pub since : (i : ℕ) (noted : Noted) → k ≤ i → slice_get changes i ≡ Some noted
+      → ¬ Settles (take i changes) noted.change name
 
 -- What a crash leaves by a pick: with `names_done` each name is as it reads, and otherwise as it read when it was last
 -- settled.

@@ -20,16 +20,18 @@ impl<D: Disk, N: Name + Start> System<D, N> {
         requires own { BelongsTo self.now pass.old }
         ensures same { SamePass pass.old pass.new }
         ensures operations { SeesOn pass.old.operations pass.new.operations }
-        ensures rest { (pass.new.labels ≡ pass.old.labels) × (pass.new.pairs ≡ pass.old.pairs) × (pass.new.commits ≡ pass.old.commits) }
+        ensures rest { (pass.new.labels ≡ pass.old.labels) × (pass.new.pairs ≡ pass.old.pairs)
+            × (pass.new.commits ≡ pass.old.commits) }
     {
         self.manager.merge(rt, &mut pass.operations)
     }
 
-    /// Merges all segments of the index into one. No document, label, reply or published pair changes, and a held pair keeps its own segments. Searches of
-    /// pairs that are published afterwards visit one segment in place of many, and the next commit writes the merged one.
+    /// Merges all segments of the index into one. No document, label, reply or published pair changes, and a held pair
+    /// keeps its own segments. Searches of pairs that are published afterwards visit one segment in place of many, and
+    /// the next commit writes the merged one.
     ///
-    /// Locks: that of the operations, twice: to share the segments, and to put the merged one in their place. Others can add documents while the segments are
-    /// merged. The old segments and the merged one are in memory together.
+    /// Locks: that of the operations, twice: to share the segments, and to put the merged one in their place. Others
+    /// can add documents while the segments are merged. The old segments and the merged one are in memory together.
     ///
     /// Errors: out of memory. The segments then stay, and the documents that waited may be one more.
     pub fn merge<R: Wait>(&self, rt: &R, session: &mut Session) -> Result<(), NoMemory>

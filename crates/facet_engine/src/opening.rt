@@ -62,8 +62,9 @@ pub struct Store<D: Disk> {
 }
 
 impl<D: Disk> Store<D> {
-    /// Opens the store of a disk. It writes nothing. It reads the newest commit of each directory and the segments that it names, each file once, and copies
-    /// the labels; see `commit_store::Committer::open` for the costs. `keys` are hash keys; no result depends on them.
+    /// Opens the store of a disk. It writes nothing. It reads the newest commit of each directory and the segments that
+    /// it names, each file once, and copies the labels; see `commit_store::Committer::open` for the costs. `keys` are
+    /// hash keys; no result depends on them.
     ///
     /// Errors: the first fault of the files, a failing call of the disk, or out of memory. Each comes with the disk.
     pub fn open(
@@ -75,13 +76,15 @@ impl<D: Disk> Store<D> {
         // A system goes on from it.
         ensures start { IfOk result (λ s. s.start.value ≡ disk) }
         ensures ready { IfOk result (IsReady D.Disk config) }
-        ensures next { IfOk result (λ s. (t : Told) → D.told disk ≡ Some t → s.committer.state.next ≡ next_after (greatest_number t.files)) }
+        ensures next { IfOk result (λ s. (t : Told) → D.told disk ≡ Some t
+            → s.committer.state.next ≡ next_after (greatest_number t.files)) }
 
         // Or the first fault of the files that the disk reads is told.
         ensures err { IfErr result (λ n. n.fault ≢ NoRoom → n.fault ≢ FaultOfDisk
             → (t : Told) → D.told disk ≡ Some t → files config t.files ≡ Err n.fault) }
         ensures fault { IfErr result (λ n. n.fault ≡ FaultOfDisk → Rose (D.faults disk) (D.faults n.disk)) }
-        ensures failed { IfErr result (λ n. n.fault ≡ FaultOfDisk → (t : Told) → D.told disk ≡ Some t → Rose (D.failures disk) (D.failures n.disk)) }
+        ensures failed { IfErr result (λ n. n.fault ≡ FaultOfDisk → (t : Told) → D.told disk ≡ Some t
+            → Rose (D.failures disk) (D.failures n.disk)) }
         ensures still { IfErr result (λ n. n.fault ≢ FaultOfDisk → D.faults n.disk ≡ D.faults disk) }
         ensures sound { IfErr result (λ n. IsSound n.fault) }
         ensures quiet { IfErr result (λ n. IsQuiet D.Disk disk n.disk) }
@@ -120,7 +123,8 @@ fn without_memory<D: Disk>(disk: D) -> NotOpened<D>
     }
 }
 
-// The manager over these labels, documents and settings, with the config that it shares, and the first tokens of the operations and the pairs.
+// The manager over these labels, documents and settings, with the config that it shares, and the first tokens of the
+// operations and the pairs.
 fn open_manager<N: Name>(
     alloc: Global,
     keys: RandomState,
@@ -148,7 +152,8 @@ fn open_manager<N: Name>(
     ensures first { first.new ≡ first.old }
     ensures writer { IfOk result (λ r. r.0.writer ≡ record { labels = labels; limit = settings.max_labels }) }
     ensures config { IfOk result (λ r. arc_value r.1 ≡ settings.config) }
-    ensures operations { IfOk result (λ r. IsFirst r.2 r.0.operations (opened (docs_under first.old (map arc_value segments.items)))) }
+    ensures operations { IfOk result (λ r. IsFirst r.2 r.0.operations
+        (opened (docs_under first.old (map arc_value segments.items)))) }
     ensures pairs { IfOk result (λ r. IsFirst r.3 r.0.pairs (all_seen r.2 first.old ∷ [])) }
     ensures right { IfOk result (λ r. ArePublications first.old.seen r.2.seen (entries r.3.seen)) }
     ensures index_frame { IfOk result (λ r. r.2.frame ≡ index_frame settings.config settings.max_docs labels) }
@@ -195,9 +200,11 @@ fn begin_commits<D: Disk, N: Name + Start>(
     operations: &mut Token<Operation>,
     point: CommitPoint,
 ) -> Result<(Chronicle<CommitTurn<D, N>>, Token<CommitPoint>), NotOpened<D>>
-    requires own { (labels.old.identity ≡ manager.now.writer.labels) × (operations.old.identity ≡ manager.now.operations) }
+    requires own { (labels.old.identity ≡ manager.now.writer.labels)
+        × (operations.old.identity ≡ manager.now.operations) }
     requires list { SeesLabels labels.old }
-    requires opened { IsOpenedAs D.Disk start.value committer (labels_of labels.old.seen) (docs_of operations.old.seen) }
+    requires opened { IsOpenedAs D.Disk start.value committer (labels_of labels.old.seen)
+        (docs_of operations.old.seen) }
     requires told { N.told → (t : Told) × (D.told start.value ≡ Some t) }
     requires settled { N.settled → WasSettled D.Disk committer.config start.value }
     requires quiet { N.quiet (state_of D.Disk committer.disk) }
@@ -226,8 +233,8 @@ fn begin_commits<D: Disk, N: Name + Start>(
 }
 
 impl<D: Disk, N: Name + Start> System<D, N> {
-    /// Makes a system of a store, with its first pass, and publishes the pair of what was opened. `N` has to name the labels of the store. It allocates the
-    /// cache of labels, and four bytes per document.
+    /// Makes a system of a store, with its first pass, and publishes the pair of what was opened. `N` has to name the
+    /// labels of the store. It allocates the cache of labels, and four bytes per document.
     ///
     /// Errors: out of memory, with the disk.
     pub fn open(
@@ -237,10 +244,13 @@ impl<D: Disk, N: Name + Start> System<D, N> {
     ) -> Result<(System<D, N>, Pass), NotOpened<D>>
         requires ready { IsReady D.Disk settings.config store }
         requires name { store.labels ≡ N.labels }
-        requires told { (N.told → (t : Told) × (D.told store.start.value ≡ Some t)) × ((t : Told) → D.told store.start.value ≡ Some t → N.told) }
+        requires told { (N.told → (t : Told) × (D.told store.start.value ≡ Some t))
+            × ((t : Told) → D.told store.start.value ≡ Some t → N.told) }
         requires settled { (N.settled → WasSettled D.Disk settings.config store.start.value)
-            × ((t : Told) → D.told store.start.value ≡ Some t → IsSettled D.Disk settings.config t store.start.value → N.settled) }
-        requires quiet { N.quiet (state_of D.Disk store.committer.disk) × ((d : D) → N.quiet (state_of D.Disk d) → IsQuiet D.Disk store.start.value d) }
+            × ((t : Told) → D.told store.start.value ≡ Some t → IsSettled D.Disk settings.config t store.start.value
+            → N.settled) }
+        requires quiet { N.quiet (state_of D.Disk store.committer.disk)
+            × ((d : D) → N.quiet (state_of D.Disk d) → IsQuiet D.Disk store.start.value d) }
 
         // The pass has seen what was opened.
         ensures own { IfOk result (λ r. BelongsTo r.0 r.1) }
@@ -249,10 +259,12 @@ impl<D: Disk, N: Name + Start> System<D, N> {
         ensures settings { IfOk result (λ r. HasSettings r.0 r.1 (settings_view settings)) }
         ensures seen { IfOk result (λ r. seen_of r.1 ≡ opened_seen (opened_of store)) }
 
-        ensures opened { IfOk result (λ r. r.0.opened ≡ (length (opened_of store).docs, length (opened_of store).labels)) }
+        ensures opened { IfOk result (λ r. r.0.opened
+            ≡ (length (opened_of store).docs, length (opened_of store).labels)) }
 
         // Its commits count from the disk as it was at the start.
-        ensures numbers { IfOk result (λ r. HasNumbers store.committer.state.next (D.moment store.start.value) (D.faults store.start.value)
+        ensures numbers { IfOk result (λ r. HasNumbers store.committer.state.next (D.moment store.start.value)
+            (D.faults store.start.value)
             (D.failures store.start.value) r.1.commits.frame) }
 
         // Or there was no memory, and the disk is as the store had it.

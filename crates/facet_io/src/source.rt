@@ -48,14 +48,17 @@ pub fn read_to_end<S: Source>(
     limit: usize,
 ) -> Result<Vec<u8>, ReadFault>
     requires { limit < 2 ^ 32 }
-    ensures whole { IfOk result (λ v. Consumes (S.left source.old) (S.left source.new) v.items × IsAtEnd (S.left source.new)) }
+    ensures whole { IfOk result (λ v. Consumes (S.left source.old) (S.left source.new) v.items
+        × IsAtEnd (S.left source.new)) }
     ensures within { IfOk result (λ v. length v.items ≤ limit) }
 
     // Whatever it returns, at most one byte more than the limit was read: exactly one more for `TooLong`, and at most
     // the limit for `Failed`.
     ensures taken { (bs : List ℕ) × (length bs ≤ limit + 1) × Consumes (S.left source.old) (S.left source.new) bs }
-    ensures too_long { IsErrOf result ReadFault.TooLong → (bs : List ℕ) × (length bs ≡ limit + 1) × Consumes (S.left source.old) (S.left source.new) bs }
-    ensures failed { IsErrOf result ReadFault.Failed → (bs : List ℕ) × (length bs ≤ limit) × Consumes (S.left source.old) (S.left source.new) bs }
+    ensures too_long { IsErrOf result ReadFault.TooLong → (bs : List ℕ) × (length bs ≡ limit + 1)
+        × Consumes (S.left source.old) (S.left source.new) bs }
+    ensures failed { IsErrOf result ReadFault.Failed → (bs : List ℕ) × (length bs ≤ limit)
+        × Consumes (S.left source.old) (S.left source.new) bs }
     ensures cause { CountsFaults (S.faults source.old) (S.faults source.new) (IsErrOf result ReadFault.Failed) }
 {
     let mut bytes = Vec::new(alloc);

@@ -12,7 +12,8 @@ OneListing = (count_of : List ℕ → ℕ) (xs ys : List PartCount) → IsListin
 
 -- two results of one path are equal
 abbrev pub OneTop : Type 0
-OneTop = (config : Config) (docs : List Doc) (path : List (List ℕ)) (n : ℕ) (r s : Option Listed) → IsTop config docs path n r → IsTop config docs path n s → r ≡ s
+OneTop = (config : Config) (docs : List Doc) (path : List (List ℕ)) (n : ℕ) (r s : Option Listed)
+    → IsTop config docs path n r → IsTop config docs path n s → r ≡ s
 
 -- two configs of equal texts are equal
 abbrev pub EqualTexts : Type 0

@@ -7,7 +7,8 @@ use Rattle.facet_model.specs.Queries.{QueryTree, all, term, bool, queries}
 abbrev pub query_step : Query-F QueryTree → QueryTree
 query_step Query-F.All = all
 query_step (Query-F.Term word) = term word
-query_step (Query-F.Bool must should must_not) = bool (queries must.items) (queries should.items) (queries must_not.items)
+query_step (Query-F.Bool must should must_not) = bool (queries must.items) (queries should.items)
+    (queries must_not.items)
 
 abbrev pub query_view : Query → QueryTree
 query_view = fold-Query QueryTree query_step

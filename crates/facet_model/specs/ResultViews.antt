@@ -7,7 +7,12 @@ use Rattle.facet_model.specs.Listing.{counted_child}
 use Rattle.facet_model.specs.Results.{Listed, Answer, top_answer, value_answer, dims_answer}
 
 abbrev pub result_view : FacetResult → Listed
-result_view r = record { path = r.path; value = r.value; children = map counted_child r.children.items; child_count = r.child_count }
+result_view r = record {
+  path = r.path;
+  value = r.value;
+  children = map counted_child r.children.items;
+  child_count = r.child_count;
+}
 
 abbrev pub answer_view : FacetAnswer → Answer
 answer_view (answers.Top r) = top_answer (option_map result_view r)

@@ -1,5 +1,6 @@
 -- The results of counting.
-use Rattle.std.specs.Prelude.{◌≡◌, ◌==◌, ◌++◌, ℕ, ℤ, pos, negsuc, if◌then◌else◌, not, List, [], ◌∷◌, length, take, filter, sum_by, Option, Some, None, option_to_list}
+use Rattle.std.specs.Prelude.{◌≡◌, ◌==◌, ◌++◌, ℕ, ℤ, pos, negsuc, if◌then◌else◌, not, List, [], ◌∷◌, length, take}
+use Rattle.std.specs.Prelude.{filter, sum_by, Option, Some, None, option_to_list}
 use Rattle.std.specs.List.Sorted.{IsSorted}
 use Rattle.std.specs.declared.cmp.Ordering.{Ordering}
 use Rattle.std.specs.Ordering.{int_cmp, on, flip_args, then_cmp}
@@ -23,12 +24,18 @@ AreChildren docs path all = IsListing (λ part. count docs (path ++ part ∷ [])
 -- The sum of the children's counts if the dimension is not multi-valued. Otherwise the count of the path if it is
 -- required, and -1 if not.
 abbrev pub value_of : DimFlags → ℕ → List PartCount → ℤ
-value_of f of_path all = if not f.multi_valued then pos (sum_by (λ c. c.1) all) else (if f.require_dim_count then pos of_path else negsuc 0)
+value_of f of_path all =
+    if not f.multi_valued then pos (sum_by (λ c. c.1) all) else (if f.require_dim_count then pos of_path else negsuc 0)
 
 -- the result with these children; none without a child
 abbrev pub listed : Config → List Doc → List (List ℕ) → ℕ → List PartCount → Option Listed
 listed config docs path n [] = None
-listed config docs path n (c ∷ cs) = Some (record { path = path; value = value_of (flags config (dim_of path)) (count docs path) (c ∷ cs); children = take n (c ∷ cs); child_count = length (c ∷ cs) })
+listed config docs path n (c ∷ cs) = Some (record {
+  path = path;
+  value = value_of (flags config (dim_of path)) (count docs path) (c ∷ cs);
+  children = take n (c ∷ cs);
+  child_count = length (c ∷ cs);
+})
 
 -- the n greatest children of a path
 abbrev pub IsTop : Config → List Doc → List (List ℕ) → ℕ → Option Listed → Type 0
@@ -44,7 +51,8 @@ dims_cmp = then_cmp (flip_args (on (λ r. r.value) int_cmp)) (on (λ r. r.path) 
 
 -- The results of all dimensions that have one, each over its own documents.
 pub record AreAllDims (config : Config) (docs_of : List ℕ → List Doc) (n : ℕ) (results : List Listed) : Type 0 where
-  pub each : (dim : List ℕ) → (r : Option Listed) × IsTop config (docs_of dim) (dim ∷ []) n r × (filter (λ x. path_eq x.path (dim ∷ [])) results ≡ option_to_list r)
+  pub each : (dim : List ℕ) → (r : Option Listed) × IsTop config (docs_of dim) (dim ∷ []) n r
+      × (filter (λ x. path_eq x.path (dim ∷ [])) results ≡ option_to_list r)
   pub alone : filter (λ x. not (length x.path == 1)) results ≡ []
   pub ordered : IsSorted dims_cmp results
 
@@ -56,6 +64,9 @@ pub data Answer : Type 0 where
 
 -- The answer to an ask, if each dimension is counted over its own documents of the snapshot.
 abbrev pub IsAnswer : Config → List Doc → (List ℕ → List Doc) → Asked → Answer → Type 0
-IsAnswer config snapshot docs_of (top path n) a = (r : Option Listed) × IsTop config (docs_of (dim_of path)) path n r × (a ≡ top_answer r)
-IsAnswer config snapshot docs_of (one_value path) a = a ≡ value_answer path (specific snapshot (docs_of (dim_of path)) path)
-IsAnswer config snapshot docs_of (all_dims n) a = (rs : List Listed) × AreAllDims config docs_of n rs × (a ≡ dims_answer rs)
+IsAnswer config snapshot docs_of (top path n) a = (r : Option Listed) × IsTop config (docs_of (dim_of path)) path n r
+    × (a ≡ top_answer r)
+IsAnswer config snapshot docs_of (one_value path) a = a
+    ≡ value_answer path (specific snapshot (docs_of (dim_of path)) path)
+IsAnswer config snapshot docs_of (all_dims n) a = (rs : List Listed) × AreAllDims config docs_of n rs
+    × (a ≡ dims_answer rs)

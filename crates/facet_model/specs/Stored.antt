@@ -1,5 +1,6 @@
 -- What stored records and terms mean for documents.
-use Rattle.std.specs.Prelude.{◌≡◌, ℕ, zero, suc, ◌+◌, ◌==◌, ◌++◌, Bool, List, [], ◌∷◌, map, Some, slice_get, IsTrue, if◌then◌else◌}
+use Rattle.std.specs.Prelude.{◌≡◌, ℕ, zero, suc, ◌+◌, ◌==◌, ◌++◌, Bool, List, [], ◌∷◌, map, Some, slice_get, IsTrue}
+use Rattle.std.specs.Prelude.{if◌then◌else◌}
 use Rattle.std.specs.List.{AllZip, list_any}
 use Rattle.facet_model.specs.Flags.{Config}
 use Rattle.facet_model.specs.Documents.{Doc}
@@ -32,7 +33,8 @@ live_before dead (suc n) = if is_dead dead n then live_before dead n else live_b
 -- those that are not at one of these places, counting from a place on
 abbrev pub alive_from : {A : Type 0} → List ℕ → ℕ → List A → List A
 alive_from dead place [] = []
-alive_from dead place (x ∷ xs) = if is_dead dead place then alive_from dead (place + 1) xs else x ∷ alive_from dead (place + 1) xs
+alive_from dead place (x ∷ xs) =
+    if is_dead dead place then alive_from dead (place + 1) xs else x ∷ alive_from dead (place + 1) xs
 
 -- those that are not at one of these places
 abbrev pub alive : {A : Type 0} → List ℕ → List A → List A
@@ -53,7 +55,8 @@ pub record IsRecordOf (known : List (List (List ℕ))) (config : Config) (stored
   pub counted : stored.counted ≡ counted_ordinals known config doc.labels
 
 -- a segment has the documents' records, in order, and exactly their terms
-pub record IsSegmentOf (known : List (List (List ℕ))) (config : Config) (segment : Records) (docs : List Doc) : Type 0 where
+pub record IsSegmentOf (known : List (List (List ℕ))) (config : Config) (segment : Records)
+    (docs : List Doc) : Type 0 where
   pub records : AllZip (IsRecordOf known config) segment.records docs
   pub terms : segment.terms ≡ terms_of docs
 
@@ -65,4 +68,5 @@ live_docs (s ∷ ss) (p ∷ ps) = alive s.dead p ++ live_docs ss ps
 
 -- Each record is a document's, and these are the documents of the live ones, in order.
 abbrev pub Decodes : List (List (List ℕ)) → Config → List Records → List Doc → Type 0
-Decodes known config segments docs = (pieces : List (List Doc)) × AllZip (IsSegmentOf known config) segments pieces × (docs ≡ live_docs segments pieces)
+Decodes known config segments docs = (pieces : List (List Doc)) × AllZip (IsSegmentOf known config) segments pieces
+    × (docs ≡ live_docs segments pieces)

@@ -1,5 +1,6 @@
 -- The terms of documents, each with the places of those that have it.
-use Rattle.std.specs.Prelude.{◌≡◌, ◌≤◌, ◌++◌, ℕ, List, [], ◌∷◌, length, map, flat_map, codes, fold, String, string_bytes}
+use Rattle.std.specs.Prelude.{◌≡◌, ◌≤◌, ◌++◌, ℕ, List, [], ◌∷◌, length, map, flat_map, codes, fold, String}
+use Rattle.std.specs.Prelude.{string_bytes}
 use Rattle.std.specs.List.{list_any}
 use Rattle.std.specs.declared.alloc.Global.{Global}
 use Rattle.std.specs.Ordering.{nat_cmp, match_ordering}
@@ -17,7 +18,8 @@ path_term path = codes "f" ++ term_text path
 
 -- `w` and a word of its text, `f` and the text of a prefix of a label
 abbrev pub doc_terms : Doc → List (List ℕ)
-doc_terms doc = map (λ w. codes "w" ++ w) (words doc.text) ++ map (λ p. codes "f" ++ term_text p) (flat_map prefixes doc.labels)
+doc_terms doc = map (λ w. codes "w" ++ w) (words doc.text) ++ map (λ p. codes "f"
+    ++ term_text p) (flat_map prefixes doc.labels)
 
 -- a term among rising terms, once
 abbrev pub put_term : List (List ℕ) → List ℕ → List (List ℕ)
@@ -26,7 +28,8 @@ put_term (u ∷ us) t = match_ordering (slice_cmp nat_cmp t u) (t ∷ u ∷ us) 
 
 -- the terms of the documents, rising, each with its places
 abbrev pub terms_of : List Doc → List (List ℕ × List ℕ)
-terms_of docs = map (λ t. (t, places (λ doc. list_any (bytes_eq t) (doc_terms doc)) docs)) (fold put_term [] (flat_map doc_terms docs))
+terms_of docs = map (λ t. (t, places (λ doc. list_any (bytes_eq t) (doc_terms doc)) docs))
+    (fold put_term [] (flat_map doc_terms docs))
 
 -- at most 256 paths, and the term of each
 pub record IsDrill (paths : List (List (List ℕ))) (terms : List (String Global)) : Type 0 where

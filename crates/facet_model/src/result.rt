@@ -36,7 +36,8 @@ impl Ord for Child {
 }
 
 impl PartialOrd for Child {
-    ghost partial_cmp = { as_partial_cmp (then_cmp (flip_args (on (λ c. c.count) nat_cmp)) (on (λ c. c.part) (slice_cmp nat_cmp))) };
+    ghost partial_cmp = { as_partial_cmp (then_cmp (flip_args (on (λ c. c.count) nat_cmp))
+        (on (λ c. c.part) (slice_cmp nat_cmp))) };
 
     ghost laws = { partial_order_from_own_ties (Prim.search (comparing, rules)) (Prim.search (comparing, rules)) };
 

@@ -1,6 +1,7 @@
 -- The text of a path as a drill-down term: U+001F between components, and U+001E before each U+001E or U+001F inside
 -- one.
-use Rattle.std.specs.Prelude.{◌≡◌, ◌≤◌, ◌==◌, ◌||◌, ℕ, Bool, if◌then◌else◌, List, [], ◌∷◌, ◌++◌, flat_map, length, map, take}
+use Rattle.std.specs.Prelude.{◌≡◌, ◌≤◌, ◌==◌, ◌||◌, ℕ, Bool, if◌then◌else◌, List, [], ◌∷◌, ◌++◌, flat_map, length, map}
+use Rattle.std.specs.Prelude.{take}
 use Rattle.std.specs.List.{join_with_byte}
 use Rattle.facet_names.specs.Faults.{IsPath}
 

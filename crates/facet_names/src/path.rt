@@ -1,4 +1,5 @@
-ghost use Rattle.std.specs.Prelude.{◌≡◌, ◌≢◌, ◌<◌, ◌≤◌, ◌++◌, [], ◌∷◌, Some, None, length, slice_get, IfOk, IfErr, IsOk, take, drop, List, ℕ, MatchOption, string_bytes};
+ghost use Rattle.std.specs.Prelude.{◌≡◌, ◌≢◌, ◌<◌, ◌≤◌, ◌++◌, [], ◌∷◌, Some, None, length, slice_get, IfOk, IfErr};
+ghost use Rattle.std.specs.Prelude.{IsOk, take, drop, List, ℕ, MatchOption, string_bytes};
 ghost use Rattle.facet_names.specs.Paths.{texts, is_under, parent_of};
 ghost use Rattle.facet_names.specs.Faults.{IsPath, path_fault, part_fault};
 ghost use Rattle.facet_names.specs.Terms.{term_text, IsTermText};
@@ -246,7 +247,8 @@ impl Path {
     /// Errors: out of memory.
     pub fn from_term_text(alloc: Global, text: &str) -> Result<Option<Path>, NoMemory>
         ensures { IfOk result
-            (λ o. MatchOption o ((path : List (List ℕ)) → ¬ IsTermText text.now path) (λ path. IsTermText text.now path)) }
+            (λ o. MatchOption o ((path : List (List ℕ))
+            → ¬ IsTermText text.now path) (λ path. IsTermText text.now path)) }
     {
         let Some(parts) = split(alloc, text)? else {
             return Ok(None);

@@ -1,4 +1,5 @@
-ghost use Rattle.std.specs.Prelude.{◌≡◌, ◌==◌, ◌<◌, ◌++◌, ◌∷◌, length, List, ℕ, string_bytes, IfOk, OnOk, OnErr, MatchOption};
+ghost use Rattle.std.specs.Prelude.{◌≡◌, ◌==◌, ◌<◌, ◌++◌, ◌∷◌, length, List, ℕ, string_bytes, IfOk, OnOk, OnErr};
+ghost use Rattle.std.specs.Prelude.{MatchOption};
 ghost use Rattle.std.specs.List.{list_any};
 ghost use Rattle.facet_names.specs.Paths.{texts};
 ghost use Rattle.facet_names.specs.Blocks.{IsBlock, parts_of};

@@ -62,11 +62,17 @@ opened ds = map (λ d. record { session = 0; doc = d }) ds
 
 -- it stands for one operation more
 abbrev pub StandsForMore : ℕ → Doc → Index → Index → Type 0
-StandsForMore session doc old new = (history : List Operation) → StandsFor old history → StandsFor new (history ++ record { session = session; doc = doc } ∷ [])
+StandsForMore session doc old new = (history : List Operation) → StandsFor old history
+    → StandsFor new (history ++ record { session = session; doc = doc } ∷ [])
 
 -- one document more waits, of this session, and what is noted of the labels goes on
 pub record IsAppended (session : ℕ) (doc : Doc) (old new : Index) : Type 0 where
-  pub rest : new ≡ record old { waiting = old.waiting + 1; docs = old.docs ++ doc ∷ []; sessions = old.sessions ++ session ∷ []; labels = new.labels }
+  pub rest : new ≡ record old {
+    waiting = old.waiting + 1;
+    docs = old.docs ++ doc ∷ [];
+    sessions = old.sessions ++ session ∷ [];
+    labels = new.labels;
+  }
   pub same : SameToken old.labels new.labels
   pub more : SeesOn old.labels new.labels
 

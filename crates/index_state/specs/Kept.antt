@@ -8,9 +8,10 @@ use Rattle.chronicle.specs.Shown.{Shown}
 use Rattle.taxo_cache.specs.Seen.{labels_of, SeesLabels}
 use Rattle.index_state.specs.Index.{AreOwn, DecodeUnder, docs_under}
 
--- The segments decode under the noted labels, each is read from its own bytes, and each document that waits has its ordinals under these labels. There is
--- a session for each document.
-pub record IsKept (config : Config) (labels : Shown (List (List ℕ))) (segments : List Records) (waiting : List Entry) (sessions : List ℕ)
+-- The segments decode under the noted labels, each is read from its own bytes, and each document that waits has its
+-- ordinals under these labels. There is a session for each document.
+pub record IsKept (config : Config) (labels : Shown (List (List ℕ))) (segments : List Records) (waiting : List Entry)
+    (sessions : List ℕ)
     (max_docs : ℕ) : Type 0 where
   pub note : (labels.is_note ≡ true) × (labels.holds_turn ≡ false)
   pub list : SeesLabels labels

@@ -17,7 +17,8 @@ abbrev pub ComeAfter : ℕ → List Doc → List Doc → Type 0
 ComeAfter before ds all = (front : List Doc) × (length front ≡ before) × IsPrefix (front ++ ds) all
 
 -- The segments from one on, how many documents come before theirs, and a note of the labels under which they decode.
-pub record IsRangeOf (index : Index) (first : ℕ) (labels : Shown (List (List ℕ))) (before : ℕ) (range : List Records) : Type 0 where
+pub record IsRangeOf (index : Index) (first : ℕ) (labels : Shown (List (List ℕ))) (before : ℕ)
+    (range : List Records) : Type 0 where
   pub segments : range ≡ drop first index.segments
   pub note : IsNoteOf index.labels labels
   pub list : SeesLabels labels
@@ -39,4 +40,5 @@ HasNoPlace before many segments = (front range back : List Records) → AreAt be
 -- the segment took the place of neighbours that had as many documents as it has, with so many before theirs
 abbrev pub IsInstalled : ℕ → Records → List Records → List Records → Type 0
 IsInstalled before merged old new =
-    (front : List Records) × (range : List Records) × (back : List Records) × AreAt before (length (records_in (merged ∷ []))) old front range back × (new ≡ front ++ merged ∷ back)
+    (front : List Records) × (range : List Records) × (back : List Records)
+    × AreAt before (length (records_in (merged ∷ []))) old front range back × (new ≡ front ++ merged ∷ back)

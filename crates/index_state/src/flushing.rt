@@ -1,5 +1,6 @@
 //! Lists of segments: adding one, replacing several by one, sharing them, and counting their documents.
-ghost use Rattle.std.specs.Prelude.{◌≡◌, ◌≢◌, ◌≤◌, ◌<◌, ◌+◌, ◌++◌, [], ◌∷◌, length, map, take, drop, replicate, IfErr, IfOk, OnOk};
+ghost use Rattle.std.specs.Prelude.{◌≡◌, ◌≢◌, ◌≤◌, ◌<◌, ◌+◌, ◌++◌, [], ◌∷◌, length, map, take, drop, replicate, IfErr};
+ghost use Rattle.std.specs.Prelude.{IfOk, OnOk};
 ghost use Rattle.std.specs.Arc.{arc_value};
 ghost use Rattle.seg_grammar.specs.Spelling.{IsSegment, seg_bytes};
 ghost use Rattle.seg_terms.specs.Entries.{segment_of};
@@ -24,8 +25,10 @@ pub fn flush(
 ) -> Result<u32, NoMemory>
     requires { length entries.old.items ≤ 1000000 }
     ensures added { IfOk result (λ n. n ≡ length entries.old.items) }
-    ensures segments { OnOk result (map arc_value segments.new.items ≡ flushed (map arc_value segments.old.items) entries.old.items) }
-    ensures own { OnOk result (entries.old.items ≢ [] → IsSegment (seg_bytes (segment_of entries.old.items)) (segment_of entries.old.items)) }
+    ensures segments { OnOk result (map arc_value segments.new.items
+        ≡ flushed (map arc_value segments.old.items) entries.old.items) }
+    ensures own { OnOk result (entries.old.items ≢ []
+        → IsSegment (seg_bytes (segment_of entries.old.items)) (segment_of entries.old.items)) }
     ensures entries { OnOk result (entries.new.items ≡ []) }
     ensures same_segments { IfErr result (λ _. segments.new.items ≡ segments.old.items) }
     ensures same_entries { IfErr result (λ _. entries.new.items ≡ entries.old.items) }
@@ -69,9 +72,11 @@ pub fn shared(alloc: Global, segments: &[Arc<Segment>]) -> Result<Vec<Arc<Segmen
     Ok(again)
 }
 
-/// Returns all segments as a shared list. `shared` has the first of them, as the last such list did; it gets the others too.
+/// Returns all segments as a shared list. `shared` has the first of them, as the last such list did; it gets the others
+/// too.
 ///
-/// It allocates eight bytes per segment that was not in it, per 256 segments, and per segment after the last full piece.
+/// It allocates eight bytes per segment that was not in it, per 256 segments, and per segment after the last full
+/// piece.
 ///
 /// Errors: out of memory. Then `shared` may have got some of them, from the first on.
 pub fn share_all(

@@ -1,4 +1,5 @@
-//! The index under the lock of the operations: documents in segments, documents that wait to become one, and the session that added each.
+//! The index under the lock of the operations: documents in segments, documents that wait to become one, and the
+//! session that added each.
 #![tactic(auto)]
 
 mod fault;

@@ -26,11 +26,13 @@ pub(crate) fn live_sizes(alloc: Global, segments: &[Arc<Segment>]) -> Result<Vec
     Ok(sizes)
 }
 
-/// Returns one segment of the live documents of these segments, in their order, as [`seg_merge::merge`]. The segments decode under some labels, and at least one
-/// document is live. Under all labels and configs under which they decode, the merged segment decodes to the same documents.
+/// Returns one segment of the live documents of these segments, in their order, as [`seg_merge::merge`]. The segments
+/// decode under some labels, and at least one document is live. Under all labels and configs under which they decode,
+/// the merged segment decodes to the same documents.
 ///
-/// It needs no lock and waits for nobody. Its time is that of writing the merged segment, with a lookup for each term of each segment. Meanwhile it allocates
-/// memory for the terms with their places; the segments and the merged one are in memory together.
+/// It needs no lock and waits for nobody. Its time is that of writing the merged segment, with a lookup for each term
+/// of each segment. Meanwhile it allocates memory for the terms with their places; the segments and the merged one are
+/// in memory together.
 pub fn merge_segments(
     alloc: Global,
     keys: RandomState,
@@ -38,7 +40,8 @@ pub fn merge_segments(
 ) -> Result<Arc<Segment>, NoMemory>
     requires some { 0 < length (records_in (map arc_value segments.now)) }
     requires few { length (records_in (map arc_value segments.now)) ≤ 1000000 }
-    requires decodes { (known : List (List (List ℕ))) × (config : Config) × (docs : List Doc) × Decodes known config (map arc_value segments.now) docs }
+    requires decodes { (known : List (List (List ℕ))) × (config : Config) × (docs : List Doc)
+        × Decodes known config (map arc_value segments.now) docs }
     ensures merge { IfOk result (λ m. IsMergeOf (map arc_value segments.now) (arc_value m)) }
     ensures documents { IfOk result (λ m. (known : List (List (List ℕ))) (config : Config) (docs : List Doc)
         → Decodes known config (map arc_value segments.now) docs → Decodes known config (arc_value m ∷ []) docs) }

@@ -4,8 +4,8 @@ use facet_model::Document;
 use std::marker::Model;
 use std::snapshot::Snapshot;
 
-/// An entry of the operations chronicle: a session added a document. The document is in it for the proofs only: an operation allocates nothing and copies
-/// none.
+/// An entry of the operations chronicle: a session added a document. The document is in it for the proofs only: an
+/// operation allocates nothing and copies none.
 #[derive(Drop)]
 pub struct Operation {
     session: u32,

@@ -28,13 +28,15 @@ fn cut_at(segments: &[Arc<Segment>], docs: u64) -> Option<usize>
     }
 }
 
-/// The first of the neighbours that have `many` documents with `before` documents before theirs, and how many neighbours they are; `None` where there are none.
-/// It takes no memory, and goes over the list of segments once or twice.
+/// The first of the neighbours that have `many` documents with `before` documents before theirs, and how many
+/// neighbours they are; `None` where there are none. It takes no memory, and goes over the list of segments once or
+/// twice.
 pub fn find_range(segments: &[Arc<Segment>], before: u64, many: u64) -> Option<(usize, usize)>
     requires { length (records_in (map arc_value segments.now)) ≤ 1000000 }
     ensures within { IfSome result (λ r. r.0 + r.1 ≤ length segments.now) }
     ensures found { IfSome result (λ r. AreAt before many (map arc_value segments.now)
-        (take r.0 (map arc_value segments.now)) (take r.1 (drop r.0 (map arc_value segments.now))) (drop (r.0 + r.1) (map arc_value segments.now))) }
+        (take r.0 (map arc_value segments.now)) (take r.1 (drop r.0 (map arc_value segments.now))) (drop (r.0
+        + r.1) (map arc_value segments.now))) }
     ensures none { result ≡ None → HasNoPlace before many (map arc_value segments.now) }
 {
     let first = cut_at(segments, before)?;

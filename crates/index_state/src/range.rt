@@ -7,10 +7,12 @@ use facet_names::Path;
 use seg_file::Segment;
 use std::sync::Arc;
 
-/// Neighbouring segments that are to become one, as they were under the index's lock: the segments, shared; how many documents come before theirs; and a note of
-/// the labels under which they decode. They have at most 1,000,000 documents.
+/// Neighbouring segments that are to become one, as they were under the index's lock: the segments, shared; how many
+/// documents come before theirs; and a note of the labels under which they decode. They have at most 1,000,000
+/// documents.
 ///
-/// The index may change while they are merged. [`IndexState::try_install`](crate::IndexState::try_install) finds their place again by the number of documents.
+/// The index may change while they are merged. [`IndexState::try_install`](crate::IndexState::try_install) finds their
+/// place again by the number of documents.
 #[derive(Drop)]
 pub struct SegmentRange {
     pub segments: Vec<Arc<Segment>>,

@@ -1,4 +1,5 @@
-ghost use Rattle.std.specs.Prelude.{◌≡◌, ◌≢◌, ◌≤◌, ◌<◌, ◌+◌, ◌⊎◌, ◌++◌, [], ◌∷◌, true, false, Err, IfOk, IfErr, OnOk, OnErr, List, length, map, take, drop};
+ghost use Rattle.std.specs.Prelude.{◌≡◌, ◌≢◌, ◌≤◌, ◌<◌, ◌+◌, ◌⊎◌, ◌++◌, [], ◌∷◌, true, false, Err, IfOk, IfErr, OnOk};
+ghost use Rattle.std.specs.Prelude.{OnErr, List, length, map, take, drop};
 ghost use Rattle.std.specs.Arc.{arc_value};
 ghost use mathlib.Core.List.{IsPrefix};
 ghost use Rattle.facet_model.specs.Histories.{Operation as Added};
@@ -9,7 +10,8 @@ ghost use Rattle.seg_documents.specs.Decoding.{records_in};
 ghost use Rattle.seg_documents.specs.Entries.{IsEntry};
 ghost use Rattle.merge_policy.specs.Tiers.{first_small};
 ghost use Rattle.taxo_cache.specs.Seen.{labels_of, SeesLabels};
-ghost use Rattle.index_state.specs.Index.{StandsFor, StandsForMore, opened, docs_under, DecodeUnder, AreOwn, IsAppended, IsFlushed};
+ghost use Rattle.index_state.specs.Index.{StandsFor, StandsForMore, opened, docs_under, DecodeUnder, AreOwn};
+ghost use Rattle.index_state.specs.Index.{IsAppended, IsFlushed};
 ghost use Rattle.index_state.specs.Kept.{IsFirst};
 ghost use Rattle.index_state.specs.Merging.{live_sizes, ComeAfter, IsRangeOf, HasNoPlace, IsInstalled};
 ghost use Rattle.index_state.specs.declared.fault.AppendFault.TheVariants.{DocsFull, NoMemory as Memory};
@@ -33,8 +35,8 @@ use std::marker::Model;
 use std::sync::Arc;
 use taxo_adding::LabelList;
 
-/// The value of the operations chronicle, like Lucene's `IndexWriter` with a lock. The documents of its segments, followed by those that wait in memory, are
-/// those of the history, under the labels that it has noted.
+/// The value of the operations chronicle, like Lucene's `IndexWriter` with a lock. The documents of its segments,
+/// followed by those that wait in memory, are those of the history, under the labels that it has noted.
 ///
 /// A document that waits is kept with its ordinals, until it becomes part of a segment and is bytes.
 #[derive(Drop)]
@@ -61,9 +63,11 @@ impl Model for IndexState {
 
     ghost Value = { Index };
 
-    ghost view = { λ s. index_of (map arc_value s.segments.items) s.waiting.items s.sessions.items (arc_value s.config) s.max_docs s.labels };
+    ghost view = { λ s. index_of (map arc_value s.segments.items) s.waiting.items s.sessions.items
+        (arc_value s.config) s.max_docs s.labels };
 
-    ghost invariant = { λ s. IsKept (arc_value s.config) s.labels (map arc_value s.segments.items) s.waiting.items s.sessions.items s.max_docs };
+    ghost invariant = { λ s. IsKept (arc_value s.config) s.labels
+        (map arc_value s.segments.items) s.waiting.items s.sessions.items s.max_docs };
 }
 
 impl Standing for IndexState {
@@ -88,7 +92,8 @@ fn add_waiting(
 ) -> Result<(), AppendFault>
     ensures sessions { OnOk result (sessions.new.items ≡ sessions.old.items ++ session ∷ []) }
     ensures waiting { OnOk result (waiting.new.items ≡ waiting.old.items ++ entry ∷ []) }
-    ensures unchanged { OnErr result ((sessions.new.items ≡ sessions.old.items) × (waiting.new.items ≡ waiting.old.items)) }
+    ensures unchanged { OnErr result ((sessions.new.items ≡ sessions.old.items)
+        × (waiting.new.items ≡ waiting.old.items)) }
     ensures memory { IfErr result (λ e. e ≡ Memory) }
 {
     sessions.reserve(1)?;
@@ -99,8 +104,8 @@ fn add_waiting(
 }
 
 impl IndexState {
-    /// Makes the index of segments that were opened, under labels that were noted. Each of their documents counts as added by session 0. It allocates four
-    /// bytes per document.
+    /// Makes the index of segments that were opened, under labels that were noted. Each of their documents counts as
+    /// added by session 0. It allocates four bytes per document.
     ///
     /// Errors: out of memory.
     pub fn open(
@@ -137,8 +142,9 @@ impl IndexState {
         })
     }
 
-    /// Adds a document of a session after all others and returns its place, from 0. Its ordinals are those under the labels that `seen` has seen. The index
-    /// has then noted these labels. The cost does not depend on how many documents there are.
+    /// Adds a document of a session after all others and returns its place, from 0. Its ordinals are those under the
+    /// labels that `seen` has seen. The index has then noted these labels. The cost does not depend on how many
+    /// documents there are.
     ///
     /// Errors: `DocsFull`; out of memory. Then nothing changes.
     pub fn append(
@@ -157,7 +163,8 @@ impl IndexState {
         ensures stands { OnOk result (StandsForMore session entry.doc self.old self.new) }
         ensures noted { OnOk result (IsPrefix seen.old.seen self.new.labels.seen) }
         ensures full { self.old.max_docs ≤ length self.old.docs → result ≡ Err (DocsFull (length self.old.docs)) }
-        ensures refused { IfErr result (λ e. e ≢ Memory → (e ≡ DocsFull (length self.old.docs)) × (self.old.max_docs ≤ length self.old.docs)) }
+        ensures refused { IfErr result (λ e. e ≢ Memory → (e ≡ DocsFull (length self.old.docs))
+            × (self.old.max_docs ≤ length self.old.docs)) }
         ensures unchanged { OnErr result (self.new ≡ self.old) }
     {
         let at = self.sessions.len() as u64;
@@ -170,8 +177,9 @@ impl IndexState {
         Ok(at)
     }
 
-    /// Makes a segment of the documents that wait, and returns how many they are. If none waits, it makes no segment and allocates nothing. Otherwise it
-    /// costs as much as [`Segment::build`] of these documents, whatever else the index has.
+    /// Makes a segment of the documents that wait, and returns how many they are. If none waits, it makes no segment
+    /// and allocates nothing. Otherwise it costs as much as [`Segment::build`] of these documents, whatever else the
+    /// index has.
     ///
     /// Errors: out of memory. Then nothing changes.
     pub fn flush(&mut self) -> Result<u32, NoMemory>
@@ -183,10 +191,12 @@ impl IndexState {
         Ok(docs)
     }
 
-    /// Returns the index as it is. The documents that wait become a segment first. All segments are shared and none is copied.
+    /// Returns the index as it is. The documents that wait become a segment first. All segments are shared and none is
+    /// copied.
     ///
-    /// The list of segments is shared with earlier snapshots in pieces of 256. So it allocates eight bytes per new segment, per 256 segments, and per segment
-    /// after the last full piece, of which there are fewer than 256. Where segments were replaced since the last snapshot, it goes over all of them once.
+    /// The list of segments is shared with earlier snapshots in pieces of 256. So it allocates eight bytes per new
+    /// segment, per 256 segments, and per segment after the last full piece, of which there are fewer than 256. Where
+    /// segments were replaced since the last snapshot, it goes over all of them once.
     ///
     /// Errors: out of memory. The documents that waited may be a segment then.
     pub fn snapshot(&mut self, chronicle: &Chronicle<LabelList>) -> Result<IndexView, NoMemory>
@@ -197,7 +207,8 @@ impl IndexState {
         ensures operations { IfOk result (λ v. v.operations ≡ length self.old.docs) }
         ensures note { IfOk result (λ v. IsNoteOf self.old.labels v.labels) }
         ensures labels { IfOk result (λ v. SeesLabels v.labels) }
-        ensures decodes { IfOk result (λ v. Decodes (labels_of v.labels.seen) self.old.config v.segments self.old.docs) }
+        ensures decodes { IfOk result
+            (λ v. Decodes (labels_of v.labels.seen) self.old.config v.segments self.old.docs) }
         ensures own { IfOk result (λ v. AreOwn v.segments) }
     {
         self.flush()?;
@@ -209,15 +220,17 @@ impl IndexState {
         })
     }
 
-    /// Replaces `count` segments from `first` on by one segment that has the same documents, such as their merge. All documents, and the operations that the
-    /// index represents, stay as they are. It allocates nothing.
+    /// Replaces `count` segments from `first` on by one segment that has the same documents, such as their merge. All
+    /// documents, and the operations that the index represents, stay as they are. It allocates nothing.
     pub fn install_merged(&mut self, first: usize, count: usize, merged: Arc<Segment>)
         requires some { 0 < count }
         requires range { first + count ≤ length self.old.segments }
         requires decodes { DecodeUnder self.old.labels self.old.config (arc_value merged ∷ []) }
-        requires same { docs_under self.old.labels (arc_value merged ∷ []) ≡ docs_under self.old.labels (take count (drop first self.old.segments)) }
+        requires same { docs_under self.old.labels (arc_value merged ∷ [])
+            ≡ docs_under self.old.labels (take count (drop first self.old.segments)) }
         requires own { IsSegment (seg_bytes (arc_value merged)) (arc_value merged) }
-        ensures list { self.new.segments ≡ take first self.old.segments ++ arc_value merged ∷ drop (first + count) self.old.segments }
+        ensures list { self.new.segments ≡ take first self.old.segments
+            ++ arc_value merged ∷ drop (first + count) self.old.segments }
         ensures rest { self.new ≡ record self.old { segments = self.new.segments } }
         ensures stands { (history : List Added) → StandsFor self.old history → StandsFor self.new history }
     {
@@ -225,8 +238,8 @@ impl IndexState {
         put_merged(&mut self.segments, first, count, merged);
     }
 
-    /// Returns the first segment that [`merge_from`] names: it becomes one with all segments after it. Where none is to be merged, it returns how many
-    /// segments there are. A segment's size is the number of its live documents.
+    /// Returns the first segment that [`merge_from`] names: it becomes one with all segments after it. Where none is to
+    /// be merged, it returns how many segments there are. A segment's size is the number of its live documents.
     ///
     /// It goes over the list of segments once, and allocates four bytes per segment.
     pub fn first_to_merge(&self) -> Result<usize, NoMemory>
@@ -237,7 +250,8 @@ impl IndexState {
         Ok(merge_from(&sizes))
     }
 
-    /// Shares the segments from `first` on, so that they can be merged without the index's lock. The index stays as it is.
+    /// Shares the segments from `first` on, so that they can be merged without the index's lock. The index stays as it
+    /// is.
     ///
     /// No segment is copied; it allocates eight bytes per segment.
     pub fn segments_from(
@@ -272,14 +286,16 @@ impl IndexState {
         chronicle.meet(&mut self.labels, labels);
     }
 
-    // Puts a merged segment in the place of the neighbours that have as many documents, with `before` documents before theirs, where there are such neighbours.
+    // Puts a merged segment in the place of the neighbours that have as many documents, with `before` documents before
+    // theirs, where there are such neighbours.
     fn install_at(&mut self, before: u64, merged: Arc<Segment>) -> bool
         requires decodes { DecodeUnder self.old.labels self.old.config (arc_value merged ∷ []) }
         requires docs { ComeAfter before (docs_under self.old.labels (arc_value merged ∷ [])) self.old.docs }
         requires own { IsSegment (seg_bytes (arc_value merged)) (arc_value merged) }
         ensures rest { self.new ≡ record self.old { segments = self.new.segments } }
         ensures installed { result ≡ true → IsInstalled before (arc_value merged) self.old.segments self.new.segments }
-        ensures none { result ≡ false → (self.new.segments ≡ self.old.segments) × HasNoPlace before (length (records_in (arc_value merged ∷ []))) self.old.segments }
+        ensures none { result ≡ false → (self.new.segments ≡ self.old.segments)
+            × HasNoPlace before (length (records_in (arc_value merged ∷ []))) self.old.segments }
     {
         let many = merged.live() as u64;
         let place = find_range(self.segments(), before, many);
@@ -292,12 +308,15 @@ impl IndexState {
         }
     }
 
-    /// Puts a merged segment in the place of the segments that it was merged of, which were shared before, and returns whether it did. `before` and
-    /// `labels` are those of their [`SegmentRange`]: the documents of the merged segment come after `before` others among all.
+    /// Puts a merged segment in the place of the segments that it was merged of, which were shared before, and returns
+    /// whether it did. `before` and
+    /// `labels` are those of their [`SegmentRange`]: the documents of the merged segment come after `before` others
+    /// among all.
     ///
-    /// The place is found by the number of documents. The history only grows, so neighbours that have as many documents, with as many before theirs, have the
-    /// same documents. If another merge replaced segments in between, there may be none: then the segments stay. All documents, and the
-    /// operations that the index represents, stay in either case; the labels that `labels` has seen are noted.
+    /// The place is found by the number of documents. The history only grows, so neighbours that have as many
+    /// documents, with as many before theirs, have the same documents. If another merge replaced segments in between,
+    /// there may be none: then the segments stay. All documents, and the operations that the index represents, stay in
+    /// either case; the labels that `labels` has seen are noted.
     ///
     /// It goes over the list of segments a few times. It reads no segment, compares no bytes and allocates nothing.
     pub fn try_install(
@@ -318,7 +337,8 @@ impl IndexState {
         ensures more { SeesOn self.old.labels self.new.labels }
         ensures noted { IsPrefix labels.seen self.new.labels.seen }
         ensures installed { result ≡ true → IsInstalled before (arc_value merged) self.old.segments self.new.segments }
-        ensures none { result ≡ false → (self.new.segments ≡ self.old.segments) × HasNoPlace before (length (records_in (arc_value merged ∷ []))) self.old.segments }
+        ensures none { result ≡ false → (self.new.segments ≡ self.old.segments)
+            × HasNoPlace before (length (records_in (arc_value merged ∷ []))) self.old.segments }
         ensures stands { (history : List Added) → StandsFor self.old history → StandsFor self.new history }
     {
         self.note_labels(chronicle, labels);
@@ -329,16 +349,18 @@ impl IndexState {
     fn merged(&self) -> Result<Arc<Segment>, NoMemory>
         requires some { 0 < length self.now.segments }
         ensures decodes { IfOk result (λ m. DecodeUnder self.now.labels self.now.config (arc_value m ∷ [])) }
-        ensures same { IfOk result (λ m. docs_under self.now.labels (arc_value m ∷ []) ≡ docs_under self.now.labels self.now.segments) }
+        ensures same { IfOk result (λ m. docs_under self.now.labels (arc_value m ∷ [])
+            ≡ docs_under self.now.labels self.now.segments) }
         ensures own { IfOk result (λ m. IsSegment (seg_bytes (arc_value m)) (arc_value m)) }
     {
         merge_segments(self.alloc, self.keys, &self.segments)
     }
 
-    /// Makes a segment of the documents that wait, and then one segment of all. All documents, and the operations that the index represents, stay.
+    /// Makes a segment of the documents that wait, and then one segment of all. All documents, and the operations that
+    /// the index represents, stay.
     ///
-    /// It costs what [`merge_segments`] costs, and whoever waits for the index's lock waits for all of it. To merge without the lock, use
-    /// [`segments_from`](IndexState::segments_from) and [`try_install`](IndexState::try_install).
+    /// It costs what [`merge_segments`] costs, and whoever waits for the index's lock waits for all of it. To merge
+    /// without the lock, use [`segments_from`](IndexState::segments_from) and [`try_install`](IndexState::try_install).
     ///
     /// Errors: out of memory. The documents that waited may be a segment then, and nothing else has changed.
     pub fn merge(&mut self) -> Result<(), NoMemory>

@@ -6,8 +6,8 @@ use chronicle::Token;
 use facet_names::Path;
 use seg_file::Segment;
 
-/// The index as it was under its lock: its segments, which have all documents, at most 1,000,000; how many operations there were; and a note of the labels
-/// under which the segments decode.
+/// The index as it was under its lock: its segments, which have all documents, at most 1,000,000; how many operations
+/// there were; and a note of the labels under which the segments decode.
 #[derive(Drop)]
 pub struct IndexView {
     pub segments: ArcList<Segment>,

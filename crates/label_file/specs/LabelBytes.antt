@@ -23,4 +23,5 @@ label_bytes labels path = be32 (parent_ordinal labels path) ++ text (last_part p
 
 -- `FTAX`, the version, the ordinal of the first label, how many labels there are from it on, and the labels
 unfoldable pub labels_bytes : List (List (List ℕ)) → ℕ → List ℕ
-labels_bytes labels first = be32 0x46544158 ++ (be32 1 ++ (be32 first ++ (be32 (length labels - first) ++ flat_map (label_bytes labels) (drop first labels))))
+labels_bytes labels first = be32 0x46544158 ++ (be32 1 ++ (be32 first
+    ++ (be32 (length labels - first) ++ flat_map (label_bytes labels) (drop first labels))))

@@ -1,5 +1,6 @@
 -- Reading the labels of a taxonomy segment from left to right. A fault is its place.
-use Rattle.std.specs.Prelude.{◌≡◌, ◌≤◌, ◌⊎◌, ℕ, zero, suc, ◌||◌, List, [], ◌∷◌, ◌++◌, length, Option, Some, None, is_some, slice_get, option_and_then, Result, Ok, Err, ◌==◌, nat_lt, if◌then◌else◌}
+use Rattle.std.specs.Prelude.{◌≡◌, ◌≤◌, ◌⊎◌, ℕ, zero, suc, ◌||◌, List, [], ◌∷◌, ◌++◌, length, Option, Some, None}
+use Rattle.std.specs.Prelude.{is_some, slice_get, option_and_then, Result, Ok, Err, ◌==◌, nat_lt, if◌then◌else◌}
 use Rattle.std.specs.Option.{option_map}
 use Rattle.facet_names.specs.Faults.{path_fault}
 use Rattle.facet_names.specs.Labels.{stands}
@@ -69,7 +70,8 @@ labels_at (suc n) labels p = do
   labels_at n (labels ++ first.0 ∷ []) first.1
 
 -- These labels are the known ones and at most so many that are read from a place on.
-pub record AreFirst (count : ℕ) (known : List (List (List ℕ))) (start : Place) (labels : List (List (List ℕ))) : Type 0 where
+pub record AreFirst (count : ℕ) (known : List (List (List ℕ))) (start : Place)
+    (labels : List (List (List ℕ))) : Type 0 where
   pub number : ℕ
   pub few : number ≤ count
   pub end : Place
@@ -97,4 +99,6 @@ stored_labels known first count bytes = do
 
 -- The labels after a fault: the known ones, and those of the segment that were read before it.
 abbrev pub StandBefore : List (List (List ℕ)) → ℕ → ℕ → List ℕ → List (List (List ℕ)) → Type 0
-StandBefore known first count bytes labels = (labels ≡ known) ⊎ ((start : Place) × (head_at first count (record { at = 0; rest = bytes }) ≡ Ok start) × AreFirst count known start labels)
+StandBefore known first count bytes labels = (labels ≡ known)
+    ⊎ ((start : Place) × (head_at first count (record { at = 0; rest = bytes }) ≡ Ok start)
+    × AreFirst count known start labels)

@@ -1,8 +1,10 @@
-ghost use Rattle.std.specs.Prelude.{◌≡◌, ◌≢◌, ◌≤◌, ◌<◌, ◌+◌, ◌++◌, [], ◌∷◌, ℕ, List, Some, None, Ok, length, option_and_then, IfOk, IfErr, OnOk, OnErr};
+ghost use Rattle.std.specs.Prelude.{◌≡◌, ◌≢◌, ◌≤◌, ◌<◌, ◌+◌, ◌++◌, [], ◌∷◌, ℕ, List, Some, None, Ok, length};
+ghost use Rattle.std.specs.Prelude.{option_and_then, IfOk, IfErr, OnOk, OnErr};
 ghost use Rattle.facet_names.specs.declared.fault.PathFault.TheVariants.{NoMemory as Memory};
 ghost use Rattle.facet_names.specs.Faults.{path_fault};
 ghost use Rattle.facet_names.specs.Labels.{GoesOn, IsLabelList};
-ghost use Rattle.label_file.specs.LabelReading.{Fails, behind, head_at, joined, path_below, parent_at, label_at, labels_at, AreFirst, stored_labels, StandBefore};
+ghost use Rattle.label_file.specs.LabelReading.{Fails, behind, head_at, joined, path_below, parent_at, label_at};
+ghost use Rattle.label_file.specs.LabelReading.{labels_at, AreFirst, stored_labels, StandBefore};
 
 use crate::fault::LabelsFault;
 use facet_codec::Cursor;
@@ -46,8 +48,10 @@ fn joined(labels: &Taxonomy, alloc: Global, parent: u32, part: &str) -> Result<P
     requires within { parent < length labels.now }
     ensures ok { IfOk result (λ p. joined labels.now parent part.now ≡ Some p) }
     ensures fits { IfOk result (λ p. path_fault p ≡ None) }
-    ensures err { IfErr result (λ e. e ≢ Memory → option_and_then path_fault (joined labels.now parent part.now) ≡ Some e) }
-    ensures memory { IfErr result (λ e. e ≡ Memory → option_and_then path_fault (joined labels.now parent part.now) ≡ None) }
+    ensures err { IfErr result (λ e. e ≢ Memory → option_and_then path_fault (joined labels.now parent part.now)
+        ≡ Some e) }
+    ensures memory { IfErr result (λ e. e ≡ Memory → option_and_then path_fault (joined labels.now parent part.now)
+        ≡ None) }
 {
     if parent == 0 {
         return Path::of_dim(alloc, part);
@@ -99,7 +103,8 @@ fn parent_at(cursor: &mut Cursor<'_>, known: u32) -> Result<u32, LabelsFault>
 #[tactic(auto, unfolding(crate::specs::LabelReading::label_at))]
 fn label(labels: &mut Taxonomy, alloc: Global, cursor: &mut Cursor<'_>) -> Result<(), LabelsFault>
     requires { length labels.old < 1000000 }
-    ensures ok { OnOk result ((path : List (List ℕ)) × (label_at labels.old cursor.old ≡ Ok (path, cursor.new)) × (labels.new ≡ labels.old ++ path ∷ [])) }
+    ensures ok { OnOk result ((path : List (List ℕ)) × (label_at labels.old cursor.old ≡ Ok (path, cursor.new))
+        × (labels.new ≡ labels.old ++ path ∷ [])) }
     ensures err { IfErr result (λ e. Fails e (label_at labels.old cursor.old)) }
     ensures unchanged { OnErr result (labels.new ≡ labels.old) }
     ensures goes_on { GoesOn labels.old labels.new }

@@ -1,4 +1,5 @@
-ghost use Rattle.std.specs.Prelude.{◌≡◌, ◌≤◌, ◌<◌, ◌-◌, ◌++◌, Some, Ok, length, take, drop, slice_index_or, IfOk, OnOk, []};
+ghost use Rattle.std.specs.Prelude.{◌≡◌, ◌≤◌, ◌<◌, ◌-◌, ◌++◌, Some, Ok, length, take, drop, slice_index_or, IfOk, OnOk};
+ghost use Rattle.std.specs.Prelude.{[]};
 ghost use Rattle.std.specs.List.{flat_map, AllByRecursion};
 ghost use Rattle.facet_names.specs.Labels.{IsLabelList};
 ghost use Rattle.label_file.specs.LabelBytes.{IsStorable, label_bytes, labels_bytes};
@@ -14,7 +15,8 @@ fn put_label(out: &mut Vec<u8>, view: &TaxoView, ord: u32) -> Result<(), NoMemor
     requires few { length view.now ≤ 1000000 }
     requires some { 0 < ord }
     requires within { ord < length view.now }
-    ensures bytes { OnOk result (out.new.items ≡ out.old.items ++ label_bytes view.now (slice_index_or view.now ord [])) }
+    ensures bytes { OnOk result (out.new.items ≡ out.old.items
+        ++ label_bytes view.now (slice_index_or view.now ord [])) }
     ensures fits { OnOk result (IsStorable (slice_index_or view.now ord [])) }
 {
     let path = view.path_of(ord);
@@ -27,7 +29,8 @@ fn put_label(out: &mut Vec<u8>, view: &TaxoView, ord: u32) -> Result<(), NoMemor
 fn put_labels(out: &mut Vec<u8>, view: &TaxoView, first: u32) -> Result<(), NoMemory>
     requires some { 0 < first }
     requires within { first < length view.now }
-    ensures bytes { OnOk result (out.new.items ≡ out.old.items ++ flat_map (label_bytes view.now) (drop first view.now)) }
+    ensures bytes { OnOk result (out.new.items ≡ out.old.items
+        ++ flat_map (label_bytes view.now) (drop first view.now)) }
     ensures fit { OnOk result (AllByRecursion IsStorable (drop first view.now)) }
 {
     for ord in first..view.size() {
@@ -45,7 +48,8 @@ pub fn write_labels(alloc: Global, view: &TaxoView, first: u32) -> Result<Vec<u8
     requires some { 0 < first }
     requires within { first < length view.now }
     ensures bytes { IfOk result (λ v. v.items ≡ labels_bytes view.now first) }
-    ensures again { IfOk result (λ v. stored_labels (take first view.now) first (length view.now - first) v.items ≡ Ok view.now) }
+    ensures again { IfOk result (λ v. stored_labels (take first view.now) first (length view.now - first) v.items
+        ≡ Ok view.now) }
 {
     let count = view.size() - first;
     let mut out = Vec::new(alloc);

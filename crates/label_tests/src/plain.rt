@@ -1,4 +1,6 @@
-ghost use Rattle.std.specs.Prelude.{◌≡◌, ◌<◌, ◌≤◌, ◌^◌, ◌*◌, ◌+◌, ◌++◌, ◌∷◌, [], List, ℕ, IfOk, IfSome, OnOk, option_map, length, map, count_by, sum_by, unwrap_or, if◌then◌else◌, not, pos, negsuc};
+ghost use Rattle.std.specs.Prelude.{◌≡◌, ◌<◌, ◌≤◌, ◌^◌, ◌*◌, ◌+◌, ◌++◌, ◌∷◌, [], List, ℕ, IfOk, IfSome, OnOk};
+ghost use Rattle.std.specs.Prelude.{option_map, length, map, count_by, sum_by, unwrap_or, if◌then◌else◌, not, pos};
+ghost use Rattle.std.specs.Prelude.{negsuc};
 ghost use Rattle.std.specs.BTreeMap.{get, values};
 ghost use Rattle.std.specs.List.{list_any};
 ghost use Rattle.std.specs.Str.{bytes_eq};
@@ -49,7 +51,8 @@ fn note(alloc: Global, parts: &mut Vec<Word>, part: Option<&str>) -> Result<(), 
 
 /// Returns the components directly below the path in a document's labels, each once.
 fn parts_of(alloc: Global, doc: &Document, path: &Path) -> Result<Vec<Word>, NoMemory>
-    ensures each { IfOk result (λ v. (q : List ℕ) → count_by (bytes_eq q) v.items ≡ (if has doc.now (path.now ++ q ∷ []) then 1 else 0)) }
+    ensures each { IfOk result (λ v. (q : List ℕ) → count_by (bytes_eq q) v.items
+        ≡ (if has doc.now (path.now ++ q ∷ []) then 1 else 0)) }
     ensures few { IfOk result (λ v. length v.items ≤ 256) }
 {
     let mut parts = Vec::new(alloc);
@@ -61,7 +64,8 @@ fn parts_of(alloc: Global, doc: &Document, path: &Path) -> Result<Vec<Word>, NoM
 
 /// Returns the components directly below the path, once for each document that has them.
 fn parts_below(alloc: Global, docs: &[Document], path: &Path) -> Result<Vec<Word>, NoMemory>
-    ensures each { IfOk result (λ v. (q : List ℕ) → count_by (bytes_eq q) v.items ≡ count docs.now (path.now ++ q ∷ [])) }
+    ensures each { IfOk result (λ v. (q : List ℕ) → count_by (bytes_eq q) v.items
+        ≡ count docs.now (path.now ++ q ∷ [])) }
     ensures few { IfOk result (λ v. length v.items ≤ 256 * length docs.now) }
 {
     let mut parts = Vec::new(alloc);
@@ -74,7 +78,8 @@ fn parts_below(alloc: Global, docs: &[Document], path: &Path) -> Result<Vec<Word
 
 fn tally(alloc: Global, parts: Vec<Word>) -> Result<BTreeMap<Word, u32>, NoMemory>
     requires { length parts.items < 2 ^ 32 }
-    ensures counts { IfOk result (λ m. (q : List ℕ) → unwrap_or (get word_cmp m q) 0 ≡ count_by (bytes_eq q) parts.items) }
+    ensures counts { IfOk result (λ m. (q : List ℕ) → unwrap_or (get word_cmp m q) 0
+        ≡ count_by (bytes_eq q) parts.items) }
     ensures positive { IfOk result (λ m. (q : List ℕ) → IfSome (get word_cmp m q) (λ n. 0 < n)) }
     ensures total { IfOk result (λ m. sum_by (λ n. n) (values m) ≡ length parts.items) }
     ensures few { IfOk result (λ m. length m.entries ≤ length parts.items) }
@@ -99,7 +104,8 @@ fn children_of(alloc: Global, counts: BTreeMap<Word, u32>) -> Result<Vec<Child>,
 
 fn listing(alloc: Global, parts: Vec<Word>) -> Result<Vec<Child>, NoMemory>
     requires { length parts.items < 2 ^ 32 }
-    ensures listing { IfOk result (λ v. IsListing (λ q. count_by (bytes_eq q) parts.items) (map counted_child v.items)) }
+    ensures listing { IfOk result (λ v. IsListing (λ q. count_by (bytes_eq q) parts.items)
+        (map counted_child v.items)) }
     ensures total { IfOk result (λ v. sum_by (λ c. c.1) (map counted_child v.items) ≡ length parts.items) }
     ensures few { IfOk result (λ v. length v.items ≤ length parts.items) }
 {
@@ -115,7 +121,8 @@ fn listing(alloc: Global, parts: Vec<Word>) -> Result<Vec<Child>, NoMemory>
 fn value_for(flags: DimFlags, docs: &[Document], path: &Path, sum: usize) -> i64
     requires sum { sum < 2 ^ 32 }
     requires docs { length docs.now < 2 ^ 24 }
-    ensures { result ≡ (if not flags.multi_valued then pos sum else (if flags.require_dim_count then pos (count docs.now path.now) else negsuc 0)) }
+    ensures { result ≡ (if not flags.multi_valued then pos sum
+        else (if flags.require_dim_count then pos (count docs.now path.now) else negsuc 0)) }
 {
     if !flags.multi_valued {
         sum as i64
@@ -139,7 +146,8 @@ pub fn plain_top(
     n: u32,
 ) -> Result<Option<FacetResult>, NoMemory>
     requires { length docs.now < 2 ^ 24 }
-    ensures { IfOk result (λ o. (config : Config) → flags config (dim_of path.now) ≡ dim_flags → IsTop config docs.now path.now n (option_map result_view o)) }
+    ensures { IfOk result (λ o. (config : Config) → flags config (dim_of path.now) ≡ dim_flags
+        → IsTop config docs.now path.now n (option_map result_view o)) }
 {
     let parts = parts_below(alloc, docs, path)?;
     let sum = parts.len();

@@ -1,4 +1,5 @@
-//! Views of a list that grows, each from the view before it, at the sizes where a piece of labels is nearly full, full, and followed by others.
+//! Views of a list that grows, each from the view before it, at the sizes where a piece of labels is nearly full, full,
+//! and followed by others.
 ghost use Rattle.std.specs.Prelude.{◌≡◌, ◌<◌, length, IfOk};
 ghost use Rattle.facet_names.specs.Labels.{GoesOn};
 
@@ -13,7 +14,8 @@ use std::test::Fail;
 use taxo_list::{Labelled, TaxoView, Taxonomy};
 use test_keys::fixed_keys;
 
-// The label at a place: the first of each hundred is a dimension, and the first of each ten below the first ten has the nine that follow below it.
+// The label at a place: the first of each hundred is a dimension, and the first of each ten below the first ten has the
+// nine that follow below it.
 fn label_at(alloc: Global, at: usize) -> Result<Path, Fail> {
     let dimension = format!(in alloc; "d{}", at / 100)?;
     let middle = format!(in alloc; "m{}", at / 10)?;

@@ -29,7 +29,8 @@ impl Model for LiveRecords {
 
     ghost view = { λ l. record { docs = l.docs; dead = l.dead.items } };
 
-    ghost invariant = { λ l. IsRising l.dead.items × AllByRecursion (IsBelow l.docs) l.dead.items × (l.docs < 4294967296) };
+    ghost invariant = { λ l. IsRising l.dead.items × AllByRecursion (IsBelow l.docs) l.dead.items
+        × (l.docs < 4294967296) };
 }
 
 impl LiveRecords {
@@ -89,7 +90,8 @@ impl LiveRecords {
     pub fn without(&self, alloc: Global, places: &[u32]) -> Result<LiveRecords, NoMemory>
         requires { AllByRecursion (IsBelow self.now.docs) places.now }
         ensures docs { IfOk result (λ r. r.docs ≡ self.now.docs) }
-        ensures dead { IfOk result (λ r. (n : ℕ) → is_dead r.dead n ≡ (is_dead self.now.dead n || is_dead places.now n)) }
+        ensures dead { IfOk result (λ r. (n : ℕ) → is_dead r.dead n
+            ≡ (is_dead self.now.dead n || is_dead places.now n)) }
     {
         let mut set = Bits::none(alloc, self.docs)?;
         add_each(&mut set, &self.dead);

@@ -6,15 +6,18 @@ use Rattle.merge_policy.specs.Moving.{merged, kept, sizes_in, sizes_of, work_of,
 
 -- (4/3) to the power of the number of tiered segments less one is at most the number of documents
 abbrev pub TieredAreFew : Type 0
-TieredAreFew = (s : ℕ) (ss : List ℕ) → AllByRecursion IsSome (s ∷ ss) → IsTiered (s ∷ ss) → 4 ^ length ss ≤ 3 ^ length ss * sum (s ∷ ss)
+TieredAreFew = (s : ℕ) (ss : List ℕ) → AllByRecursion IsSome (s ∷ ss) → IsTiered (s ∷ ss)
+    → 4 ^ length ss ≤ 3 ^ length ss * sum (s ∷ ss)
 
 -- tiered segments of at most a million documents are at most 49
 abbrev pub TieredAreAtMost49 : Type 0
-TieredAreAtMost49 = (sizes : List ℕ) → AllByRecursion IsSome sizes → IsTiered sizes → sum sizes ≤ 1000000 → length sizes ≤ 49
+TieredAreAtMost49 =
+    (sizes : List ℕ) → AllByRecursion IsSome sizes → IsTiered sizes → sum sizes ≤ 1000000 → length sizes ≤ 49
 
 -- what becomes of segments is what the policy names
 abbrev pub FollowsPolicy : Type 0
-FollowsPolicy = (segments : List (ℕ × ℕ)) → sizes_in (merged segments).segments ≡ merged_from (first_small (sizes_in segments)) (sizes_in segments)
+FollowsPolicy = (segments : List (ℕ × ℕ)) → sizes_in (merged segments).segments
+    ≡ merged_from (first_small (sizes_in segments)) (sizes_in segments)
 
 -- segments that came one after the other are tiered
 abbrev pub KeptIsTiered : Type 0

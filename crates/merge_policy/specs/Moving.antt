@@ -1,5 +1,6 @@
 -- How often documents are moved if the policy is applied after each new segment.
-use Rattle.std.specs.Prelude.{ℕ, ◌≤◌, ◌+◌, ◌*◌, ◌^◌, max, nat_le, if◌then◌else◌, List, [], ◌∷◌, ◌++◌, map, fold, sum, sum_by}
+use Rattle.std.specs.Prelude.{ℕ, ◌≤◌, ◌+◌, ◌*◌, ◌^◌, max, nat_le, if◌then◌else◌, List, [], ◌∷◌, ◌++◌, map, fold, sum}
+use Rattle.std.specs.Prelude.{sum_by}
 
 -- the segments, each with its size and the most moves of any of its documents; and how many documents were moved in all
 pub record Tiers : Type 0 where

@@ -1,4 +1,5 @@
-ghost use Rattle.merge_policy.specs.Laws.{TieredAreFew, TieredAreAtMost49, KeptIsTiered, MovedSeldom, WorkIsBounded, NoneIsLost, FollowsPolicy};
+ghost use Rattle.merge_policy.specs.Laws.{TieredAreFew, TieredAreAtMost49, KeptIsTiered, MovedSeldom, WorkIsBounded};
+ghost use Rattle.merge_policy.specs.Laws.{NoneIsLost, FollowsPolicy};
 
 /// States that tiered segments are few: at most one more than the logarithm to the base 4/3 of the number of documents,
 /// so at most 49 for a million.

@@ -1,5 +1,6 @@
 -- The numbers that texts say.
-use Rattle.std.specs.Prelude.{◌==◌, ◌&&◌, ◌*◌, ◌+◌, ◌-◌, ◌^◌, ℕ, ℤ, pos, neg_ℤ, nat_lt, nat_le, int_lt, int_le, Bool, true, false, if◌then◌else◌, List, [], ◌∷◌, length, Option, Some, None, option_and_then}
+use Rattle.std.specs.Prelude.{◌==◌, ◌&&◌, ◌*◌, ◌+◌, ◌-◌, ◌^◌, ℕ, ℤ, pos, neg_ℤ, nat_lt, nat_le, int_lt, int_le, Bool}
+use Rattle.std.specs.Prelude.{true, false, if◌then◌else◌, List, [], ◌∷◌, length, Option, Some, None, option_and_then}
 use Rattle.std.specs.Str.{all_ascii_digits}
 
 -- what decimal digits say behind a number, the first one first
@@ -14,7 +15,9 @@ are_plain_digits (c ∷ cs) = all_ascii_digits (c ∷ cs) && (if c == 48 then le
 
 -- the number of digits behind a minus, which is not 0
 abbrev pub minus_of : List ℕ → Option ℤ
-minus_of cs = if are_plain_digits cs && nat_lt 0 (read_on 0 cs) && nat_le (read_on 0 cs) (2 ^ 63) then Some (neg_ℤ (pos (read_on 0 cs))) else None
+minus_of cs =
+    if are_plain_digits cs && nat_lt 0 (read_on 0 cs) && nat_le (read_on 0 cs) (2 ^ 63)
+    then Some (neg_ℤ (pos (read_on 0 cs))) else None
 
 -- the number of digits alone
 abbrev pub plain_of : List ℕ → Option ℤ

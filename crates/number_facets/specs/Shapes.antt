@@ -5,4 +5,5 @@ use Rattle.number_facets.specs.Numbers.{are_plain_digits}
 -- an optional `-` and plain digits, which are not 0 behind it
 abbrev pub is_number_shaped : List ℕ → Bool
 is_number_shaped [] = false
-is_number_shaped (c ∷ cs) = if c == 45 then are_plain_digits cs && not (slice_index_or cs 0 0 == 48) else are_plain_digits (c ∷ cs)
+is_number_shaped (c ∷ cs) =
+    if c == 45 then are_plain_digits cs && not (slice_index_or cs 0 0 == 48) else are_plain_digits (c ∷ cs)

@@ -1,5 +1,6 @@
 -- The numbers of documents in a dimension, and what is counted and added up of them.
-use Rattle.std.specs.Prelude.{◌≡◌, ◌&&◌, ◌+ℤ◌, ℕ, ℤ, pos, nat_lt, int_lt, int_le, Bool, if◌then◌else◌, List, [], ◌∷◌, length, take, filter_map, flat_map, fold, count_by, Option, Some, None, All}
+use Rattle.std.specs.Prelude.{◌≡◌, ◌&&◌, ◌+ℤ◌, ℕ, ℤ, pos, nat_lt, int_lt, int_le, Bool, if◌then◌else◌, List, [], ◌∷◌}
+use Rattle.std.specs.Prelude.{length, take, filter_map, flat_map, fold, count_by, Option, Some, None, All}
 use Rattle.std.specs.List.{list_any}
 use Rattle.std.specs.List.Sorted.{IsSorted}
 use Rattle.std.specs.declared.cmp.Ordering.{Ordering}
@@ -29,7 +30,8 @@ pub record Range : Type 0 where
   pub max_open : Bool
 
 abbrev pub contains : Range → ℤ → Bool
-contains r v = (if r.min_open then int_lt r.min v else int_le r.min v) && (if r.max_open then int_lt v r.max else int_le v r.max)
+contains r v = (if r.min_open then int_lt r.min v else int_le r.min v)
+    && (if r.max_open then int_lt v r.max else int_le v r.max)
 
 -- how many documents have a value in the range; one counts once, however many of its values lie in it
 abbrev pub range_count : List Doc → List ℕ → Range → ℕ
@@ -64,7 +66,8 @@ sums_cmp = then_cmp (flip_args (on (λ c. c.1) int_cmp)) (on (λ c. c.0) (slice_
 
 -- All components that a document has with a number, each once, with its sum, also where that is 0 or less.
 pub record AreSums (docs : List Doc) (dim : List ℕ) (all : List PartSum) : Type 0 where
-  pub each_once : (part : List ℕ) → count_by (λ c. bytes_eq part c.0) all ≡ (if nat_lt 0 (length (weights docs dim part)) then 1 else 0)
+  pub each_once : (part : List ℕ) → count_by (λ c. bytes_eq part c.0) all
+      ≡ (if nat_lt 0 (length (weights docs dim part)) then 1 else 0)
   pub summed : All (λ c. c.1 ≡ int_sum (weights docs dim c.0)) all
   pub ordered : IsSorted sums_cmp all
 

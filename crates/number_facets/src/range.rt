@@ -24,7 +24,13 @@ impl Model for Range {
 
     ghost Value = { values.Range };
 
-    ghost view = { λ r. record { name = string_bytes r.name; min = r.min; max = r.max; min_open = r.min_open; max_open = r.max_open } };
+    ghost view = { λ r. record {
+      name = string_bytes r.name;
+      min = r.min;
+      max = r.max;
+      min_open = r.min_open;
+      max_open = r.max_open;
+    } };
 }
 
 // Returns the least number that is not below an end, or that is above an open one.
@@ -76,7 +82,13 @@ impl Range {
         min_open: bool,
         max_open: bool,
     ) -> Result<Range, NoMemory>
-        ensures { IfOk result (λ r. r ≡ record { name = name.now; min = min; max = max; min_open = min_open; max_open = max_open }) }
+        ensures { IfOk result (λ r. r ≡ record {
+          name = name.now;
+          min = min;
+          max = max;
+          min_open = min_open;
+          max_open = max_open;
+        }) }
     {
         let name = String::from_str(alloc, name)?;
         Ok(Range {

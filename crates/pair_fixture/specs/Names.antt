@@ -12,4 +12,5 @@ label_of session number = codes "Name" ∷ name_of session number ∷ []
 
 -- labels of different sessions or numbers are different
 abbrev pub LabelsDiffer : Type 0
-LabelsDiffer = (session number other next : ℕ) → session < 2 ^ 32 → number < 2 ^ 32 → other < 2 ^ 32 → next < 2 ^ 32 → label_of session number ≡ label_of other next → (session ≡ other) × (number ≡ next)
+LabelsDiffer = (session number other next : ℕ) → session < 2 ^ 32 → number < 2 ^ 32 → other < 2 ^ 32 → next < 2 ^ 32
+    → label_of session number ≡ label_of other next → (session ≡ other) × (number ≡ next)

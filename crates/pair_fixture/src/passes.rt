@@ -37,7 +37,11 @@ impl Standing for Commits {
 
     ghost opening = { λ _. [] };
 
-    ghost frame = { λ c. record { numbers = []; texts = config_texts (arc_value c.config); identities = c.operations.identity ∷ c.labels.identity ∷ [] } };
+    ghost frame = { λ c. record {
+      numbers = [];
+      texts = config_texts (arc_value c.config);
+      identities = c.operations.identity ∷ c.labels.identity ∷ [];
+    } };
 }
 
 /// A manager over no documents, and two passes.

@@ -17,7 +17,8 @@ pub record GoOn (labels labels' : Shown (List (List ℕ))) (operations operation
   pub list : SeesLabels labels'
 
 -- The pair is of what these tokens have seen, under this config.
-pub record IsNext (config : Config) (operations : Shown Operation) (labels : Shown (List (List ℕ))) (p : Published) : Type 0 where
+pub record IsNext (config : Config) (operations : Shown Operation) (labels : Shown (List (List ℕ)))
+    (p : Published) : Type 0 where
   pub history : IsNoteOf operations p.history
   pub known : IsNoteOf labels p.labels
   pub under : p.config ≡ config
@@ -25,5 +26,6 @@ pub record IsNext (config : Config) (operations : Shown Operation) (labels : Sho
 
 -- the next pair was published; where there was none, nothing was
 abbrev pub Ends : {E : Type 0} → Result Published E → Result ℕ E → Shown Publication → Shown Publication → Type 0
-Ends (Ok next) result old new = (result ≡ Ok (length next.history.seen)) × (new.seen ≡ old.seen ++ (old.number, publication_of next) ∷ [])
+Ends (Ok next) result old new = (result ≡ Ok (length next.history.seen))
+    × (new.seen ≡ old.seen ++ (old.number, publication_of next) ∷ [])
 Ends (Err e) result old new = (result ≡ Err e) × (new.seen ≡ old.seen)

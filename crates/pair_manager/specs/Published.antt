@@ -19,7 +19,12 @@ pub record Published : Type 0 where
   pub segments : List Records
 
 abbrev pub published : Shown Operation → Shown (List (List ℕ)) → Config → List Records → Published
-published history labels config segments = record { history = history; labels = labels; config = config; segments = segments }
+published history labels config segments = record {
+  history = history;
+  labels = labels;
+  config = config;
+  segments = segments;
+}
 
 -- all operations and labels that tokens have seen, the root among the labels
 abbrev pub seen_of : Shown Operation → Shown (List (List ℕ)) → Publication
@@ -35,7 +40,8 @@ numbers p = (p.operations, p.labels)
 
 -- No number ever fell, and the labels of each cover its operations, in these labels and this history.
 abbrev pub ArePublications : List (ℕ × List (List ℕ)) → List (ℕ × Operation) → List Publication → Type 0
-ArePublications labels history publications = IsTrue (are_publications (labels_of labels) (entries history) (map numbers publications))
+ArePublications labels history publications = IsTrue (are_publications (labels_of labels) (entries history)
+    (map numbers publications))
 
 -- the last publication is this one
 abbrev pub IsLast : Publication → List Publication → Type 0
@@ -52,7 +58,11 @@ IsNewest newest publications = All (λ p. (p.operations ≤ newest.operations) �
 
 -- the config of all pairs, and the chronicles of their operations and labels
 abbrev pub pair_frame : Config → TableId → TableId → Frame
-pair_frame config operations labels = record { numbers = []; texts = config_texts config; identities = operations ∷ labels ∷ [] }
+pair_frame config operations labels = record {
+  numbers = [];
+  texts = config_texts config;
+  identities = operations ∷ labels ∷ [];
+}
 
 abbrev pub frame_of : Published → Frame
 frame_of pair = pair_frame pair.config pair.history.identity pair.labels.identity

@@ -4,7 +4,8 @@ use crate::pair::Pair;
 use std::marker::Model;
 use std::sync::Arc;
 
-/// A pair that was acquired, like a searcher of Lucene's `SearcherTaxonomyManager`. It does not change until it is released, whatever is published meanwhile.
+/// A pair that was acquired, like a searcher of Lucene's `SearcherTaxonomyManager`. It does not change until it is
+/// released, whatever is published meanwhile.
 #[derive(Drop)]
 pub struct Lease {
     pub(crate) pair: Arc<Pair>,

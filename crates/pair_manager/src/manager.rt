@@ -1,4 +1,5 @@
-ghost use Rattle.std.specs.Prelude.{◌≡◌, ◌≢◌, ◌<◌, ◌≤◌, ◌++◌, ◌∷◌, [], false, true, ℕ, List, IfOk, IfErr, OnOk, OnErr, flat_map, length, map, take};
+ghost use Rattle.std.specs.Prelude.{◌≡◌, ◌≢◌, ◌<◌, ◌≤◌, ◌++◌, ◌∷◌, [], false, true, ℕ, List, IfOk, IfErr, OnOk, OnErr};
+ghost use Rattle.std.specs.Prelude.{flat_map, length, map, take};
 ghost use Rattle.std.specs.Arc.{arc_value};
 ghost use mathlib.Core.List.{IsPrefix};
 ghost use Rattle.facet_names.specs.Labels.{prefixes};
@@ -18,7 +19,8 @@ ghost use Rattle.taxo_adding.specs.Several.{AddsInTurn, IsFullForOne};
 ghost use Rattle.index_state.specs.Index.{opened, docs_under, DecodeUnder, AreOwn};
 ghost use Rattle.index_state.specs.Frames.{index_frame};
 ghost use Rattle.index_state.specs.declared.fault.AppendFault.TheVariants.{DocsFull};
-ghost use Rattle.pair_manager.specs.Published.{ArePublications, publication_of, frame_of, pair_frame, StandsFor, IsLast, IsNewest, seen_of};
+ghost use Rattle.pair_manager.specs.Published.{ArePublications, publication_of, frame_of, pair_frame, StandsFor};
+ghost use Rattle.pair_manager.specs.Published.{IsLast, IsNewest, seen_of};
 ghost use Rattle.pair_manager.specs.Next.{Ends, GoOn, IsNext};
 ghost use Rattle.pair_manager.specs.Passes.{IsOf, IsFirst, SamePass, all_seen};
 ghost use Rattle.pair_manager.specs.Appended.{HasNoRoom, IsPlaced};
@@ -57,10 +59,11 @@ pub struct Stats {
     pub documents: u32,
 }
 
-/// Publishes pairs, and hands out the last one, to callers on any threads. Each caller has a [`Pass`] of its own. The manager has the writer of labels and
-/// the chronicles of the operations and of the pairs.
+/// Publishes pairs, and hands out the last one, to callers on any threads. Each caller has a [`Pass`] of its own. The
+/// manager has the writer of labels and the chronicles of the operations and of the pairs.
 ///
-/// No call holds two locks, except [`refresh`](Manager::refresh), which takes that of the pairs before any other. So no two callers wait for each other.
+/// No call holds two locks, except [`refresh`](Manager::refresh), which takes that of the pairs before any other. So no
+/// two callers wait for each other.
 #[derive(Drop)]
 pub struct Manager<N: Name> {
     alloc: Global,
@@ -79,8 +82,8 @@ impl<N: Name> Model for Manager<N> {
 }
 
 impl<N: Name> Manager<N> {
-    /// Makes a manager over the writer's labels, and publishes the pair of what was opened. Each opened document counts as added by session 0. Also returns
-    /// the first tokens of the operations and of the pairs.
+    /// Makes a manager over the writer's labels, and publishes the pair of what was opened. Each opened document counts
+    /// as added by session 0. Also returns the first tokens of the operations and of the pairs.
     ///
     /// Errors: out of memory.
     pub fn open(
@@ -102,7 +105,8 @@ impl<N: Name> Manager<N> {
         requires most { max_docs ≤ 1000000 }
         ensures labels { labels.new ≡ labels.old }
         ensures writer { IfOk result (λ r. r.0.writer ≡ writer) }
-        ensures operations { IfOk result (λ r. IsFirst r.1 r.0.operations (opened (docs_under labels.old (map arc_value segments.items)))) }
+        ensures operations { IfOk result (λ r. IsFirst r.1 r.0.operations
+            (opened (docs_under labels.old (map arc_value segments.items)))) }
         ensures pairs { IfOk result (λ r. IsFirst r.2 r.0.pairs (seen_of r.1 labels.old ∷ [])) }
         ensures right { IfOk result (λ r. ArePublications labels.old.seen r.1.seen (entries r.2.seen)) }
         ensures index_frame { IfOk result (λ r. r.1.frame ≡ index_frame (arc_value config) max_docs writer.labels) }
@@ -170,7 +174,8 @@ impl<N: Name> Manager<N> {
         view
     }
 
-    // Shares the segments that are to be merged, under the lock of the operations, after the documents that wait have become a segment.
+    // Shares the segments that are to be merged, under the lock of the operations, after the documents that wait have
+    // become a segment.
     fn share_segments<R: Wait>(
         &self,
         rt: &R,
@@ -182,9 +187,11 @@ impl<N: Name> Manager<N> {
         requires tied { token.old.frame.identities ≡ self.now.writer.labels ∷ [] }
         ensures token { SameToken token.old token.new × (token.new.holds_turn ≡ false) }
         ensures more { SeesOn token.old token.new }
-        ensures shared { IfOk result (λ r. AreShared self.now.writer.labels token.new r.labels r.before (map arc_value r.segments.items)) }
+        ensures shared { IfOk result (λ r. AreShared self.now.writer.labels token.new r.labels r.before
+            (map arc_value r.segments.items)) }
         ensures from { IfOk result (λ r. AreFrom scope token.new r.labels r.before (map arc_value r.segments.items)) }
-        ensures some { IfOk result (λ r. 0 < length r.segments.items → 0 < length (records_in (map arc_value r.segments.items))) }
+        ensures some { IfOk result (λ r. 0 < length r.segments.items
+            → 0 < length (records_in (map arc_value r.segments.items))) }
     {
         let mut index = self.operations.take(rt, token);
         let range = share(&mut index, self.writer.labels(), scope);
@@ -251,12 +258,13 @@ impl<N: Name> Manager<N> {
         self.replace_segments(rt, token, before, labels, merged, scope)
     }
 
-    /// Merges all segments into one. The documents that wait become a segment first. Documents and operations stay, and published pairs keep the segments that
-    /// they have. With fewer than two segments nothing changes.
+    /// Merges all segments into one. The documents that wait become a segment first. Documents and operations stay, and
+    /// published pairs keep the segments that they have. With fewer than two segments nothing changes.
     ///
-    /// Locks: that of the operations, twice: to share the segments, and to put the merged one in their place. It merges in between, as [`merge_segments`], and
-    /// holds no lock: other sessions add and refresh meanwhile. What they add stays as further segments. If another merge has replaced the segments in between,
-    /// all segments are merged under the second lock, and then others wait for it. All old segments and the merged one are in memory together.
+    /// Locks: that of the operations, twice: to share the segments, and to put the merged one in their place. It merges
+    /// in between, as [`merge_segments`], and holds no lock: other sessions add and refresh meanwhile. What they add
+    /// stays as further segments. If another merge has replaced the segments in between, all segments are merged under
+    /// the second lock, and then others wait for it. All old segments and the merged one are in memory together.
     ///
     /// Errors: out of memory. The documents that waited may be a segment then, and nothing else has changed.
     pub fn merge<R: Wait>(&self, rt: &R, token: &mut Token<Operation>) -> Result<(), NoMemory>
@@ -270,13 +278,14 @@ impl<N: Name> Manager<N> {
         self.merge_scope(rt, token, MergeScope::All)
     }
 
-    /// Merges the segments that the policy names, as [`IndexState::first_to_merge`]: from the first that has less than a third of the documents after it. The
-    /// documents that wait become a segment first. If the policy names none, nothing else changes.
+    /// Merges the segments that the policy names, as [`IndexState::first_to_merge`]: from the first that has less than
+    /// a third of the documents after it. The documents that wait become a segment first. If the policy names none,
+    /// nothing else changes.
     ///
     /// Called after each of many additions, it leaves few segments and moves each document a few times.
     ///
-    /// Locks: that of the operations, twice, as [`merge`](Manager::merge). If another merge has replaced the segments in between, it leaves the segments as they
-    /// are and drops its own: adds of other sessions never wait for a merge.
+    /// Locks: that of the operations, twice, as [`merge`](Manager::merge). If another merge has replaced the segments
+    /// in between, it leaves the segments as they are and drops its own: adds of other sessions never wait for a merge.
     ///
     /// Errors: out of memory. The documents that waited may be a segment then, and nothing else has changed.
     pub fn merge_few<R: Wait>(&self, rt: &R, token: &mut Token<Operation>) -> Result<(), NoMemory>
@@ -290,7 +299,8 @@ impl<N: Name> Manager<N> {
         self.merge_scope(rt, token, MergeScope::Policy)
     }
 
-    /// Returns the ordinals of the prefixes of each path, as [`TaxoWriter::resolve_each`] does. Missing labels are added.
+    /// Returns the ordinals of the prefixes of each path, as [`TaxoWriter::resolve_each`] does. Missing labels are
+    /// added.
     ///
     /// Locks: that of the labels, once, if any label is missing from the cache. It is not held afterwards.
     ///
@@ -303,17 +313,19 @@ impl<N: Name> Manager<N> {
     ) -> Result<Vec<Resolved>, TaxoFault>
         requires own { IsOf self.now pass.old }
         ensures same { SamePass pass.old pass.new }
-        ensures rest { (pass.new.operations ≡ pass.old.operations) × (pass.new.pairs ≡ pass.old.pairs) × (pass.new.commits ≡ pass.old.commits) }
+        ensures rest { (pass.new.operations ≡ pass.old.operations) × (pass.new.pairs ≡ pass.old.pairs)
+            × (pass.new.commits ≡ pass.old.commits) }
         ensures more { IsPrefix pass.old.labels.seen pass.new.labels.seen }
         ensures adds { AddsInTurn (flat_map prefixes paths.now) self.now.writer.limit pass.old.labels pass.new.labels }
         ensures resolved { IfOk result (λ v. AreResolved (labels_of pass.new.labels.seen) paths.now v.items) }
-        ensures full { IfErr result (λ e. e ≢ ListNoMemory → IsFullForOne e self.now.writer.limit (labels_of pass.new.labels.seen) paths.now) }
+        ensures full { IfErr result (λ e. e ≢ ListNoMemory
+            → IsFullForOne e self.now.writer.limit (labels_of pass.new.labels.seen) paths.now) }
     {
         self.writer.resolve_each(rt, &mut pass.labels, paths)
     }
 
-    /// Adds the document of an entry after all others, as an operation of this session, and returns its place, from 0. The entry has to be one under the
-    /// labels that the pass has seen.
+    /// Adds the document of an entry after all others, as an operation of this session, and returns its place, from 0.
+    /// The entry has to be one under the labels that the pass has seen.
     ///
     /// Locks: that of the operations. In it, the document is only moved into memory, as by [`IndexState::append`].
     ///
@@ -326,10 +338,15 @@ impl<N: Name> Manager<N> {
         entry: Entry,
     ) -> Result<u64, AppendFault>
         requires own { IsOf self.now pass.old }
-        requires entry { (config : Config) → config_texts config ≡ pass.old.operations.frame.texts → IsEntry config (labels_of pass.old.labels.seen) entry }
+        requires entry { (config : Config) → config_texts config ≡ pass.old.operations.frame.texts
+            → IsEntry config (labels_of pass.old.labels.seen) entry }
         ensures same { SamePass pass.old pass.new }
-        ensures rest { (pass.new.labels ≡ pass.old.labels) × (pass.new.pairs ≡ pass.old.pairs) × (pass.new.commits ≡ pass.old.commits) }
-        ensures placed { IfOk result (λ at. IsPlaced at (record { session = session; doc = entry.doc }) pass.old.operations pass.new.operations) }
+        ensures rest { (pass.new.labels ≡ pass.old.labels) × (pass.new.pairs ≡ pass.old.pairs)
+            × (pass.new.commits ≡ pass.old.commits) }
+        ensures placed { IfOk result (λ at. IsPlaced at (record {
+          session = session;
+          doc = entry.doc;
+        }) pass.old.operations pass.new.operations) }
         ensures none { OnErr result (SeesOn pass.old.operations pass.new.operations) }
         ensures full { IfErr result (λ e. (count : ℕ) → e ≡ DocsFull count → HasNoRoom count pass.new.operations) }
     {
@@ -348,7 +365,8 @@ impl<N: Name> Manager<N> {
         }
     }
 
-    // Makes the next pair, of all operations and labels that there are. It shares the config of the last pair, and its view if no label is new.
+    // Makes the next pair, of all operations and labels that there are. It shares the config of the last pair, and its
+    // view if no label is new.
     fn make_pair<R: Wait>(
         &self,
         rt: &R,
@@ -356,7 +374,8 @@ impl<N: Name> Manager<N> {
         labels: &mut Token<Path>,
         operations: &mut Token<Operation>,
     ) -> Result<Pair, NoMemory>
-        requires own { (labels.old.identity ≡ self.now.writer.labels) × (operations.old.identity ≡ self.now.operations) }
+        requires own { (labels.old.identity ≡ self.now.writer.labels)
+            × (operations.old.identity ≡ self.now.operations) }
         requires idle { MayTake labels.old × MayTake operations.old }
         requires list { SeesLabels labels.old }
         requires last { IsPrefix last.now.labels.seen labels.old.seen }
@@ -391,7 +410,8 @@ impl<N: Name> Manager<N> {
         labels: &mut Token<Path>,
         operations: &mut Token<Operation>,
     ) -> Result<PairState, NoMemory>
-        requires own { (labels.old.identity ≡ self.now.writer.labels) × (operations.old.identity ≡ self.now.operations) }
+        requires own { (labels.old.identity ≡ self.now.writer.labels)
+            × (operations.old.identity ≡ self.now.operations) }
         requires idle { MayTake labels.old × MayTake operations.old }
         requires list { SeesLabels labels.old }
         requires last { IsPrefix last.now.labels.seen labels.old.seen }
@@ -416,8 +436,10 @@ impl<N: Name> Manager<N> {
         labels: &mut Token<Path>,
         operations: &mut Token<Operation>,
     )
-        requires own { (labels.old.identity ≡ self.now.writer.labels) × (operations.old.identity ≡ self.now.operations) }
-        requires of { (state.old.labels.identity ≡ self.now.writer.labels) × (state.old.history.identity ≡ self.now.operations) }
+        requires own { (labels.old.identity ≡ self.now.writer.labels)
+            × (operations.old.identity ≡ self.now.operations) }
+        requires of { (state.old.labels.identity ≡ self.now.writer.labels)
+            × (state.old.history.identity ≡ self.now.operations) }
         requires idle { MayTake labels.old × MayTake operations.old }
         requires list { SeesLabels labels.old }
         ensures state { state.new ≡ state.old }
@@ -425,7 +447,8 @@ impl<N: Name> Manager<N> {
         ensures more_labels { SeesOn labels.old labels.new }
         ensures operations { SameToken operations.old operations.new × (operations.new.holds_turn ≡ false) }
         ensures more_operations { SeesOn operations.old operations.new }
-        ensures told { IsPrefix state.old.history.seen operations.new.seen × IsPrefix state.old.labels.seen labels.new.seen }
+        ensures told { IsPrefix state.old.history.seen operations.new.seen
+            × IsPrefix state.old.labels.seen labels.new.seen }
         ensures list { SeesLabels labels.new }
     {
         let note = self.operations.note(&mut state.history);
@@ -442,7 +465,8 @@ impl<N: Name> Manager<N> {
         labels: &mut Token<Path>,
         operations: &mut Token<Operation>,
     ) -> PairState
-        requires own { (labels.old.identity ≡ self.now.writer.labels) × (operations.old.identity ≡ self.now.operations) }
+        requires own { (labels.old.identity ≡ self.now.writer.labels)
+            × (operations.old.identity ≡ self.now.operations) }
         requires own_pairs { pairs.old.identity ≡ self.now.pairs }
         requires idle { MayTake labels.old × MayTake operations.old × MayTake pairs.old }
         requires list { SeesLabels labels.old }
@@ -473,7 +497,8 @@ impl<N: Name> Manager<N> {
         requires own { pairs.old.identity ≡ self.now.pairs }
         requires turn { MayEnter pairs.old }
         requires last { StandsFor last (entries pairs.old.seen) × (frame_of last ≡ pairs.old.frame) }
-        requires next { IfOk next (λ p. StandsFor p (entries pairs.old.seen ++ publication_of p ∷ []) × (frame_of p ≡ pairs.old.frame)) }
+        requires next { IfOk next (λ p. StandsFor p (entries pairs.old.seen ++ publication_of p ∷ [])
+            × (frame_of p ≡ pairs.old.frame)) }
         ensures pairs { SameToken pairs.old pairs.new × (pairs.new.holds_turn ≡ false) }
         ensures ended { Ends next result pairs.old pairs.new }
     {
@@ -491,13 +516,15 @@ impl<N: Name> Manager<N> {
         }
     }
 
-    /// Publishes a pair of all operations and labels that there are, and returns the number of its operations. The pass has then seen exactly these.
+    /// Publishes a pair of all operations and labels that there are, and returns the number of its operations. The pass
+    /// has then seen exactly these.
     ///
-    /// Locks: that of the pairs; in it, that of the operations and then that of the labels. So the labels cover the documents. The documents that wait become
-    /// a segment first. Each new label is copied, and at most 4,095 others; other sessions can add documents meanwhile.
+    /// Locks: that of the pairs; in it, that of the operations and then that of the labels. So the labels cover the
+    /// documents. The documents that wait become a segment first. Each new label is copied, and at most 4,095 others;
+    /// other sessions can add documents meanwhile.
     ///
-    /// The list of segments is shared with earlier pairs, as [`IndexState::snapshot`] says: it allocates eight bytes per new
-    /// segment, per 256 segments, and per segment after the last full 256.
+    /// The list of segments is shared with earlier pairs, as [`IndexState::snapshot`] says: it allocates eight bytes
+    /// per new segment, per 256 segments, and per segment after the last full 256.
     ///
     /// Errors: out of memory. Then no pair is published.
     pub fn refresh<R: Wait>(&self, rt: &R, pass: &mut Pass) -> Result<u64, NoMemory>
@@ -519,8 +546,8 @@ impl<N: Name> Manager<N> {
         self.end_turn(&mut pass.pairs, last, next)
     }
 
-    /// Returns the last published pair, which is no older than any that the pass had seen. The pass has then seen its operations and labels. It copies
-    /// nothing.
+    /// Returns the last published pair, which is no older than any that the pass had seen. The pass has then seen its
+    /// operations and labels. It copies nothing.
     ///
     /// Locks: that of the pairs. So it waits for a refresh in progress.
     ///
@@ -534,7 +561,8 @@ impl<N: Name> Manager<N> {
         ensures commits { pass.new.commits ≡ pass.old.commits }
         ensures last { IfOk result (λ lease. IsLast (publication_of lease) (entries pass.new.pairs.seen)) }
         ensures newest { IfOk result (λ lease. IsNewest (publication_of lease) (entries pass.new.pairs.seen)) }
-        ensures told { IfOk result (λ l. IsPrefix l.history.seen pass.new.operations.seen × IsPrefix l.labels.seen pass.new.labels.seen) }
+        ensures told { IfOk result (λ l. IsPrefix l.history.seen pass.new.operations.seen
+            × IsPrefix l.labels.seen pass.new.labels.seen) }
         ensures frame { IfOk result (λ lease. frame_of lease ≡ pass.old.pairs.frame) }
     {
         let last = self.take_last(rt, &mut pass.pairs, &mut pass.labels, &mut pass.operations);
@@ -546,7 +574,8 @@ impl<N: Name> Manager<N> {
         }
     }
 
-    /// Returns the numbers of the last published pair. The pass has then seen its operations and labels. It allocates nothing.
+    /// Returns the numbers of the last published pair. The pass has then seen its operations and labels. It allocates
+    /// nothing.
     ///
     /// Locks: that of the pairs. So it waits for a refresh in progress.
     pub fn stats<R: Wait>(&self, rt: &R, pass: &mut Pass) -> Stats
@@ -556,10 +585,18 @@ impl<N: Name> Manager<N> {
         ensures operations { SeesOn pass.old.operations pass.new.operations }
         ensures pairs { SeesOn pass.old.pairs pass.new.pairs }
         ensures commits { pass.new.commits ≡ pass.old.commits }
-        ensures last { IsLast (record { operations = result.operations; labels = result.labels }) (entries pass.new.pairs.seen) }
-        ensures newest { IsNewest (record { operations = result.operations; labels = result.labels }) (entries pass.new.pairs.seen) }
-        ensures documents { result.documents ≡ length (docs (take result.operations (entries pass.new.operations.seen))) }
-        ensures told { (result.operations ≤ length pass.new.operations.seen) × (result.labels ≤ length (labels_of pass.new.labels.seen)) }
+        ensures last { IsLast (record {
+          operations = result.operations;
+          labels = result.labels;
+        }) (entries pass.new.pairs.seen) }
+        ensures newest { IsNewest (record {
+          operations = result.operations;
+          labels = result.labels;
+        }) (entries pass.new.pairs.seen) }
+        ensures documents { result.documents
+            ≡ length (docs (take result.operations (entries pass.new.operations.seen))) }
+        ensures told { (result.operations ≤ length pass.new.operations.seen)
+            × (result.labels ≤ length (labels_of pass.new.labels.seen)) }
     {
         let last = self.take_last(rt, &mut pass.pairs, &mut pass.labels, &mut pass.operations);
         let Publication { operations, labels } = last.publication();

@@ -1,4 +1,5 @@
-//! What a merge does under the lock of the operations: first it shares segments, and later it replaces them by the merged one.
+//! What a merge does under the lock of the operations: first it shares segments, and later it replaces them by the
+//! merged one.
 ghost use Rattle.std.specs.Prelude.{◌≡◌, ◌≤◌, ◌⊎◌, false, [], ◌∷◌, List, IfOk, OnOk, length, map};
 ghost use Rattle.std.specs.Arc.{arc_value};
 ghost use Rattle.facet_model.specs.Histories.{Operation as Added};
@@ -36,8 +37,8 @@ fn first_in(index: &IndexState, scope: MergeScope) -> Result<usize, NoMemory>
     }
 }
 
-/// Shares the segments that are to be merged: all, or those from the policy's first one on. The documents that wait become a segment first, also where there is
-/// no memory for the rest.
+/// Shares the segments that are to be merged: all, or those from the policy's first one on. The documents that wait
+/// become a segment first, also where there is no memory for the rest.
 pub(crate) fn share(
     index: &mut IndexState,
     chronicle: &Chronicle<LabelList>,
@@ -48,15 +49,16 @@ pub(crate) fn share(
     ensures frame { frame_of index.new ≡ frame_of index.old }
     ensures rest { (index.new ≡ index.old) ⊎ IsFlushed index.old index.new }
     ensures flushed { OnOk result (IsFlushed index.old index.new) }
-    ensures range { IfOk result (λ r. IsRangeOf index.new (first_in scope index.new.segments) r.labels r.before (map arc_value r.segments.items)) }
+    ensures range { IfOk result (λ r. IsRangeOf index.new (first_in scope index.new.segments) r.labels r.before
+        (map arc_value r.segments.items)) }
 {
     index.flush()?;
     let first = first_in(index, scope)?;
     index.segments_from(chronicle, first)
 }
 
-/// Puts a merged segment in the place of those that were shared. If another merge has replaced these in between, all segments are merged now if all were to be
-/// merged, and otherwise they stay as they are.
+/// Puts a merged segment in the place of those that were shared. If another merge has replaced these in between, all
+/// segments are merged now if all were to be merged, and otherwise they stay as they are.
 pub(crate) fn replace(
     index: &mut IndexState,
     chronicle: &Chronicle<LabelList>,

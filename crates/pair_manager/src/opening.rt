@@ -50,7 +50,8 @@ pub fn open_index(
     ensures frame { IfOk result (λ r. frame_of r.0 ≡ index_frame (arc_value config.now) max_docs chronicle.now) }
     ensures noted { IfOk result (λ r. (r.1.labels.seen ≡ labels.old.seen) × (r.1.labels.identity ≡ chronicle.now)) }
     ensures operations { IfOk result (λ r. r.1.operations ≡ length r.0.docs) }
-    ensures decodes { IfOk result (λ r. Decodes (labels_of labels.old.seen) (arc_value config.now) r.1.segments r.0.docs) }
+    ensures decodes { IfOk result (λ r. Decodes (labels_of labels.old.seen)
+        (arc_value config.now) r.1.segments r.0.docs) }
 {
     let note = chronicle.note(labels);
     let mut index = IndexState::open(
@@ -84,7 +85,8 @@ pub fn open_chronicle<V: Standing + Drop>(
     }
 }
 
-/// Makes the chronicle of the pairs. Its first pair has this view and this index, with notes of the labels and of the operations.
+/// Makes the chronicle of the pairs. Its first pair has this view and this index, with notes of the labels and of the
+/// operations.
 ///
 /// Errors: out of memory.
 pub fn open_pairs<N: Name>(
@@ -101,7 +103,8 @@ pub fn open_pairs<N: Name>(
     requires list { SeesLabels labels.old }
     requires view { view ≡ labels_of labels.old.seen }
     requires count { taken.operations ≡ length first.old.seen }
-    requires decodes { Decodes (labels_of labels.old.seen) (arc_value config) taken.segments (docs (entries first.old.seen)) }
+    requires decodes { Decodes (labels_of labels.old.seen) (arc_value config) taken.segments
+        (docs (entries first.old.seen)) }
     ensures labels { labels.new ≡ labels.old }
     ensures first { first.new ≡ first.old }
     ensures pairs { IfOk result (λ r. IsFirst r.1 r.0 (seen_of first.old labels.old ∷ [])) }
@@ -121,7 +124,8 @@ pub fn open_pairs<N: Name>(
     open_chronicle(alloc, state)
 }
 
-/// Makes the chronicles of the operations and of the pairs, with their first tokens. The first pair is of what was opened, over the writer's labels.
+/// Makes the chronicles of the operations and of the pairs, with their first tokens. The first pair is of what was
+/// opened, over the writer's labels.
 ///
 /// Errors: out of memory.
 pub fn open_both<N: Name>(
@@ -150,7 +154,8 @@ pub fn open_both<N: Name>(
     requires few { length (docs_under labels.old (map arc_value segments.items)) ≤ 1000000 }
     requires most { max_docs ≤ 1000000 }
     ensures labels { labels.new ≡ labels.old }
-    ensures operations { IfOk result (λ r. IsFirst r.1 r.0 (opened (docs_under labels.old (map arc_value segments.items)))) }
+    ensures operations { IfOk result (λ r. IsFirst r.1 r.0 (opened
+        (docs_under labels.old (map arc_value segments.items)))) }
     ensures pairs { IfOk result (λ r. IsFirst r.3 r.2 (seen_of r.1 labels.old ∷ [])) }
     ensures right { IfOk result (λ r. ArePublications labels.old.seen r.1.seen (entries r.3.seen)) }
     ensures index_frame { IfOk result (λ r. r.1.frame ≡ index_frame (arc_value config) max_docs writer.now.labels) }

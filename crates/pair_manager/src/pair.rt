@@ -18,10 +18,11 @@ use std::marker::Model;
 use std::sync::Arc;
 use taxo_list::TaxoView;
 
-/// A published pair of an index and a taxonomy. It never changes, and threads may share it. Its segments decode, under its own view, to the documents of its
-/// operations.
+/// A published pair of an index and a taxonomy. It never changes, and threads may share it. Its segments decode, under
+/// its own view, to the documents of its operations.
 ///
-/// It shares its segments with the pairs before it, the list of segments by pieces of 256, and its view if no label is new.
+/// It shares its segments with the pairs before it, the list of segments by pieces of 256, and its view if no label is
+/// new.
 #[derive(Drop)]
 pub struct Pair {
     view: Arc<TaxoView>,
@@ -41,11 +42,13 @@ impl Model for Pair {
 
     ghost view = { λ p. published p.history p.labels (arc_value p.config) p.segments };
 
-    ghost invariant = { λ p. IsKept (published p.history p.labels (arc_value p.config) p.segments) (arc_value p.view) p.operations };
+    ghost invariant = { λ p. IsKept (published p.history p.labels (arc_value p.config) p.segments)
+        (arc_value p.view) p.operations };
 }
 
 impl Pair {
-    // The pair of this view and of the segments of so many operations, with notes of these operations and of the labels.
+    // The pair of this view and of the segments of so many operations, with notes of these operations and of the
+    // labels.
     pub(crate) fn new(
         view: Arc<TaxoView>,
         segments: ArcList<Segment>,

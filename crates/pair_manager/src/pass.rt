@@ -10,8 +10,9 @@ use chronicle::Token;
 use facet_names::Path;
 use index_state::Operation;
 
-/// A token of each of four chronicles, for one caller. The operations name the labels in their frame, the pairs and the commits name both, and all three have
-/// one config. The publications that it has seen are right in the labels and the operations that it has seen.
+/// A token of each of four chronicles, for one caller. The operations name the labels in their frame, the pairs and the
+/// commits name both, and all three have one config. The publications that it has seen are right in the labels and the
+/// operations that it has seen.
 #[derive(Drop)]
 pub struct Pass {
     /// The token of the labels.

@@ -13,7 +13,8 @@ use std::marker::Model;
 use std::sync::Arc;
 use taxo_list::Labelled;
 
-/// The value of the pairs chronicle: the last published pair. Its notes are stored next to it once more, since only these can be copied.
+/// The value of the pairs chronicle: the last published pair. Its notes are stored next to it once more, since only
+/// these can be copied.
 #[derive(Drop)]
 pub struct PairState {
     pub(crate) pair: Arc<Pair>,

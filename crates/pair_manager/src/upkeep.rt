@@ -6,7 +6,8 @@ use std::sync::Wait;
 use taxo_cache::Name;
 
 impl<N: Name> Manager<N> {
-    /// Merges segments if there are too many, as [`merge_few`](Manager::merge_few). Without memory for it the segments stay as they are.
+    /// Merges segments if there are too many, as [`merge_few`](Manager::merge_few). Without memory for it the segments
+    /// stay as they are.
     pub fn keep_few<R: Wait>(&self, rt: &R, pass: &mut Pass)
         requires own { IsOf self.now pass.old }
         ensures { SeesMoreOperations pass.old pass.new }

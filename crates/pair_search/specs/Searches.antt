@@ -13,11 +13,18 @@ use Rattle.sideways.specs.declared.ask.AskRefused.TheVariants as refusals
 use Rattle.sideways.specs.declared.ask.SearchAsk.{SearchAsk}
 
 abbrev pub search_view : SearchAsk → Search
-search_view ask = record { query = query_view ask.query; drill = ask.drill; sideways = ask.sideways; asks = map ask_view ask.asks.items; hits = ask.hits }
+search_view ask = record {
+  query = query_view ask.query;
+  drill = ask.drill;
+  sideways = ask.sideways;
+  asks = map ask_view ask.asks.items;
+  hits = ask.hits;
+}
 
 -- the reply is right over the documents of the pair
 abbrev pub IsFoundIn : Published → Search → Reply → Type 0
-IsFoundIn pair s reply = IsFound pair.config s (first_refused pair.config s.asks) (length pair.history.seen) (docs (entries pair.history.seen)) reply
+IsFoundIn pair s reply = IsFound pair.config s (first_refused pair.config s.asks) (length pair.history.seen)
+    (docs (entries pair.history.seen)) reply
 
 abbrev pub refusal_as : AskRefused → Refusal
 refusal_as (refusals.TopZero ask) = top_zero ask

@@ -10,5 +10,7 @@ use Rattle.taxo_cache.specs.Seen.{labels_of}
 
 -- The reply shows a place of the pair's documents, under any label list that continues its own.
 abbrev pub IsShownIn : Published → ℕ → Reply → Type 0
-IsShownIn pair at reply = (labels : List (List (List ℕ))) → IsLabelList labels → GoesOn (labels_of pair.labels.seen) labels
-    → IsShown labels (length pair.history.seen) (docs (entries pair.history.seen)) at (slice_get (docs (entries pair.history.seen)) at) reply
+IsShownIn pair at reply = (labels : List (List (List ℕ))) → IsLabelList labels
+    → GoesOn (labels_of pair.labels.seen) labels
+    → IsShown labels (length pair.history.seen) (docs (entries pair.history.seen)) at
+    (slice_get (docs (entries pair.history.seen)) at) reply

@@ -72,7 +72,8 @@ fn answers(
 ) -> Result<Vec<FacetAnswer>, NoMemory>
     requires { asks ≡ length answer.now.ask.asks.items }
     ensures { IfOk result (λ v. (docs : List Doc) → HasDocs (question answer.now) docs
-        → AllZip (IsAnswer answer.now.config docs (docs_of (question answer.now) docs)) (question answer.now).asks (map answer_view v.items)) }
+        → AllZip (IsAnswer answer.now.config docs (docs_of (question answer.now) docs)) (question answer.now).asks
+        (map answer_view v.items)) }
 {
     let mut found = Vec::with_capacity(alloc, asks)?;
     for at in 0..asks {
@@ -102,7 +103,8 @@ fn hit_lines(
     places: &[u32],
 ) -> Result<Vec<HitLine>, NoMemory>
     requires { All (λ at. at < length (records_in (map arc_value segments.now))) places.now }
-    ensures { IfOk result (λ v. map hit_view v.items ≡ map (λ at. (at, (record_at (map arc_value segments.now) at).id)) places.now) }
+    ensures { IfOk result (λ v. map hit_view v.items
+        ≡ map (λ at. (at, (record_at (map arc_value segments.now) at).id)) places.now) }
 {
     let mut lines = Vec::with_capacity(alloc, places.len())?;
     for place in places {

@@ -41,7 +41,8 @@ pub enum DocumentFault {
 /// Returns the segment that has the live document at a place, and the document's place in the segment. It visits the
 /// segments in order, and allocates nothing.
 pub(crate) fn find(segments: &[Arc<Segment>], at: usize) -> Option<(&Segment, u32)>
-    ensures { MatchOption result (slice_get (records_in (map arc_value segments.now)) at ≡ None) (λ p. (p.1 < length p.0.now.records)
+    ensures { MatchOption result (slice_get (records_in (map arc_value segments.now)) at
+        ≡ None) (λ p. (p.1 < length p.0.now.records)
         × (slice_get (records_in (map arc_value segments.now)) at ≡ Some (record_of p.0.now p.1))) }
 {
     let mut at = at;
@@ -66,7 +67,8 @@ fn show(
     requires leaves { All (λ ord. (0 < ord) × (ord < length view.now)) (record_of segment.now place).leaves }
     requires place { place < length segment.now.records }
     ensures { IfOk result (λ s. (s.operations ≡ operations)
-        × (s.doc ≡ doc_in view.now (record_of segment.now place)) × (s.ordinals.items ≡ (record_of segment.now place).leaves)) }
+        × (s.doc ≡ doc_in view.now (record_of segment.now place))
+        × (s.ordinals.items ≡ (record_of segment.now place).leaves)) }
 {
     let ordinals = ordinals_of(alloc, segment.leaves(place))?;
     let doc = document_of(alloc, view, segment, place, &ordinals)?;

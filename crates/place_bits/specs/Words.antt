@@ -1,5 +1,6 @@
 -- Sets of places as words of 64 bits.
-use Rattle.std.specs.Prelude.{◌≡◌, ℕ, ◌*◌, ◌/◌, ◌%◌, Bool, List, [], slice_index, length, ◌==◌, ◌<◌, ◌≤◌, true, false, Option, None, Some}
+use Rattle.std.specs.Prelude.{◌≡◌, ℕ, ◌*◌, ◌/◌, ◌%◌, Bool, List, [], slice_index, length, ◌==◌, ◌<◌, ◌≤◌, true, false}
+use Rattle.std.specs.Prelude.{Option, None, Some}
 use Rattle.std.specs.Int.{bit_at}
 use Rattle.std.specs.List.{filter, range_with_len, AllByRecursion}
 use Rattle.seg_postings.specs.Rising.{from_place}

@@ -132,10 +132,12 @@ impl Bits {
         requires twos { twos.old.words ≡ self.now.words }
         ensures missed { IsMissed self.now.places dim.old dim.new }
         ensures ones_words { ones.new.words ≡ ones.old.words }
-        ensures ones { (n : ℕ) → is_in n ones.new.places ≡ (is_in n ones.old.places || (is_in n self.now.places && not (is_in n dim.old.places))) }
+        ensures ones { (n : ℕ) → is_in n ones.new.places ≡ (is_in n ones.old.places
+            || (is_in n self.now.places && not (is_in n dim.old.places))) }
         ensures twos_words { twos.new.words ≡ twos.old.words }
         ensures twos { (n : ℕ) → is_in n twos.new.places
-            ≡ (is_in n twos.old.places || (is_in n ones.old.places && (is_in n self.now.places && not (is_in n dim.old.places)))) }
+            ≡ (is_in n twos.old.places || (is_in n ones.old.places
+            && (is_in n self.now.places && not (is_in n dim.old.places)))) }
     {
         words::note(
             &self.words,

@@ -77,7 +77,8 @@ pub(crate) fn has_place(words: &[u64], place: u32) -> bool
 pub(crate) fn common(words: &[u64], other: &[u64]) -> u64
     requires same { length words.now ≡ length other.now }
     requires few { length words.now ≤ 67108864 }
-    ensures { result ≡ length (filter (λ n. has words.now n && has other.now n) (range_with_len 0 (64 * length words.now))) }
+    ensures { result ≡ length (filter (λ n. has words.now n
+        && has other.now n) (range_with_len 0 (64 * length words.now))) }
 {
     let mut number = 0;
     for k in 0..words.len() {
@@ -97,7 +98,8 @@ pub(crate) fn note(base: &[u64], dim: &mut [u64], ones: &mut [u64], twos: &mut [
     ensures twos_len { length twos.new ≡ length twos.old }
     ensures missed { (n : ℕ) → has dim.new n ≡ (has base.now n && not (has dim.old n)) }
     ensures ones { (n : ℕ) → has ones.new n ≡ (has ones.old n || (has base.now n && not (has dim.old n))) }
-    ensures twos { (n : ℕ) → has twos.new n ≡ (has twos.old n || (has ones.old n && (has base.now n && not (has dim.old n)))) }
+    ensures twos { (n : ℕ) → has twos.new n ≡ (has twos.old n
+        || (has ones.old n && (has base.now n && not (has dim.old n)))) }
 {
     for k in 0..base.len() {
         let miss = base[k] & !dim[k];

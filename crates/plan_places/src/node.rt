@@ -122,7 +122,8 @@ impl<'a> PlanNode<'a> {
         excluded: Vec<PlanNode<'a>>,
     ) -> Result<PlanNode<'a>, NoMemory>
         requires { 0 < length children.items }
-        ensures members { IfOk result (λ r. (n : ℕ) → is_in n r.left ≡ (all_have n children.entry.items && not (is_in n (any_of excluded.entry.items)))) }
+        ensures members { IfOk result (λ r. (n : ℕ) → is_in n r.left
+            ≡ (all_have n children.entry.items && not (is_in n (any_of excluded.entry.items)))) }
         ensures rising { All (λ p. IsRising p.left) children.entry.items → IfOk result (λ r. IsRising r.left) }
     {
         let mut others = children;

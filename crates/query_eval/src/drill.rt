@@ -28,7 +28,8 @@ pub fn paths_node<'a>(
     drill: &Drill,
     dim: &str,
 ) -> Result<PlanNode<'a>, NoMemory>
-    ensures { IfOk result (λ node. (docs : List Doc) → HasTermsOf segment.now docs → node.left ≡ places (λ doc. passes doc drill.now dim.now) docs) }
+    ensures { IfOk result (λ node. (docs : List Doc) → HasTermsOf segment.now docs
+        → node.left ≡ places (λ doc. passes doc drill.now dim.now) docs) }
 {
     let mut nodes = Vec::new(alloc);
     let paths = drill.paths();
@@ -44,7 +45,8 @@ pub fn paths_node<'a>(
 /// Returns whether a live document has the path of a drill-down term. It looks the term up once, and visits its places
 /// up to the first live one. Errors: out of memory.
 pub fn has_path(alloc: Global, segment: &Segment, term: &str) -> Result<bool, NoMemory>
-    ensures { IfOk result (λ b. (docs : List Doc) (path : List (List ℕ)) → HasTermsOf segment.now docs → 0 < length path → term.now ≡ path_term path
+    ensures { IfOk result (λ b. (docs : List Doc) (path : List (List ℕ)) → HasTermsOf segment.now docs
+        → 0 < length path → term.now ≡ path_term path
         → b ≡ nat_lt 0 (count (alive segment.now.dead docs) path)) }
 {
     let node = term_node(segment, term);

@@ -29,7 +29,8 @@ pub fn query_node<'a>(
     segment: &'a Segment,
     query: &Query,
 ) -> Result<PlanNode<'a>, NoMemory>
-    ensures { IfOk result (λ node. (docs : List Doc) → HasTermsOf segment.now docs → node.left ≡ places (matches (query_view query.now)) docs) }
+    ensures { IfOk result (λ node. (docs : List Doc) → HasTermsOf segment.now docs
+        → node.left ≡ places (matches (query_view query.now)) docs) }
 {
     match query {
         Query::All => Ok(PlanNode::below(segment.docs())),
@@ -58,7 +59,8 @@ fn each_node<'a>(
     segment: &'a Segment,
     queries: &[Query],
 ) -> Result<Vec<PlanNode<'a>>, NoMemory>
-    ensures tests { IfOk result (λ v. (docs : List Doc) → HasTermsOf segment.now docs → AreTests docs (map (λ q. matches (query_view q)) queries.now) v.items) }
+    ensures tests { IfOk result (λ v. (docs : List Doc) → HasTermsOf segment.now docs
+        → AreTests docs (map (λ q. matches (query_view q)) queries.now) v.items) }
     ensures number { IfOk result (λ v. length v.items ≡ length queries.now) }
 {
     let mut nodes = Vec::with_capacity(alloc, queries.len())?;

@@ -27,7 +27,8 @@ pub fn any_without<'a>(
     nodes: Vec<PlanNode<'a>>,
     excluded: Vec<PlanNode<'a>>,
 ) -> Result<PlanNode<'a>, NoMemory>
-    ensures { IfOk result (λ r. (docs : List Doc) (tests others : List (Doc → Bool)) → AreTests docs tests nodes.entry.items
+    ensures { IfOk result (λ r. (docs : List Doc) (tests others : List (Doc → Bool))
+        → AreTests docs tests nodes.entry.items
         → AreTests docs others excluded.entry.items
         → r.left ≡ places (λ doc. list_any (λ test. test doc) tests && not (list_any (λ test. test doc) others)) docs) }
 {
@@ -44,7 +45,8 @@ pub fn all_without<'a>(
     excluded: Vec<PlanNode<'a>>,
 ) -> Result<PlanNode<'a>, NoMemory>
     requires { 0 < length nodes.items }
-    ensures { IfOk result (λ r. (docs : List Doc) (tests others : List (Doc → Bool)) → AreTests docs tests nodes.entry.items
+    ensures { IfOk result (λ r. (docs : List Doc) (tests others : List (Doc → Bool))
+        → AreTests docs tests nodes.entry.items
         → AreTests docs others excluded.entry.items
         → r.left ≡ places (λ doc. list_all (λ test. test doc) tests && not (list_any (λ test. test doc) others)) docs) }
 {

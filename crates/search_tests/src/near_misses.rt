@@ -171,7 +171,8 @@ fn is_alike(
     segments: &[Arc<Segment>],
     ask: &SearchAsk,
 ) -> Result<bool, Fail>
-    requires { (docs : List Doc) × Decodes view.now config.now (map arc_value segments.now) docs × (length docs ≤ 1000000) }
+    requires { (docs : List Doc) × Decodes view.now config.now (map arc_value segments.now) docs
+        × (length docs ≤ 1000000) }
 {
     let Ok(plan) = DrillPlan::new(alloc, view, config, segments, ask) else {
         return Err("a plan".into());
@@ -190,7 +191,8 @@ fn are_answered_alike(
     config: &FacetsConfig,
     segments: &[Arc<Segment>],
 ) -> Result<bool, Fail>
-    requires { (docs : List Doc) × Decodes view.now config.now (map arc_value segments.now) docs × (length docs ≤ 1000000) }
+    requires { (docs : List Doc) × Decodes view.now config.now (map arc_value segments.now) docs
+        × (length docs ≤ 1000000) }
 {
     for _ in 0..25 {
         let ask = ask(alloc, draws)?;

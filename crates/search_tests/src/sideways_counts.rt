@@ -41,7 +41,8 @@ fn counted(
     segments: &[Arc<Segment>],
     sideways: bool,
 ) -> Result<(u32, u32), Fail>
-    requires { (docs : List Doc) × Decodes view.now config.now (map arc_value segments.now) docs × (length docs ≤ 1000000) }
+    requires { (docs : List Doc) × Decodes view.now config.now (map arc_value segments.now) docs
+        × (length docs ≤ 1000000) }
 {
     let ask = drilled(alloc, sideways)?;
     let Ok(plan) = DrillPlan::new(alloc, view, config, segments, &ask) else {

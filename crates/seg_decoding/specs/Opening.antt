@@ -1,5 +1,6 @@
 -- Opening a segment that was stored for so many documents: what its bytes stand for, or the place of the first fault.
-use Rattle.std.specs.Prelude.{ℕ, ◌+◌, ◌&&◌, List, [], ◌∷◌, length, map, Option, Some, None, Result, Ok, Err, nat_lt, ◌==◌, if◌then◌else◌}
+use Rattle.std.specs.Prelude.{ℕ, ◌+◌, ◌&&◌, List, [], ◌∷◌, length, map, Option, Some, None, Result, Ok, Err, nat_lt}
+use Rattle.std.specs.Prelude.{◌==◌, if◌then◌else◌}
 use Rattle.std.specs.Option.{option_map}
 use Rattle.facet_codec.specs.Faults.{told_as}
 use Rattle.facet_codec.specs.Reading.{◌>>=◌}
@@ -52,7 +53,8 @@ opened documents bytes = do
 -- each leaf is the ordinal of a label after the root, below `needs`; the first stands at `at`, each takes four bytes
 unfoldable pub leaves_fit : ℕ → ℕ → List ℕ → Result (Unit {0}) ℕ
 leaves_fit needs at [] = Ok tt
-leaves_fit needs at (leaf ∷ leaves) = if nat_lt 0 leaf && nat_lt leaf needs then leaves_fit needs (at + 4) leaves else Err at
+leaves_fit needs at (leaf ∷ leaves) =
+    if nat_lt 0 leaf && nat_lt leaf needs then leaves_fit needs (at + 4) leaves else Err at
 
 -- where the first leaf of a record stands that begins at `at`
 abbrev pub leaves_place : ℕ → Stored → ℕ
@@ -75,11 +77,20 @@ documents_fit config known needs at (r ∷ rs) = do
 
 -- the record with the ordinals that are counted for its document
 abbrev pub counted_anew : Config → List (List (List ℕ)) → Stored → Stored
-counted_anew config known r = record { id = r.id; text = r.text; leaves = r.leaves; counted = counted_ordinals known config (doc_in known r).labels }
+counted_anew config known r = record {
+  id = r.id;
+  text = r.text;
+  leaves = r.leaves;
+  counted = counted_ordinals known config (doc_in known r).labels;
+}
 
 -- the segment of the documents that records stand for
 abbrev pub rebuilt : Config → List (List (List ℕ)) → List Stored → Records
-rebuilt config known rs = record { records = map (counted_anew config known) rs; terms = terms_of (map (doc_in known) rs); dead = [] }
+rebuilt config known rs = record {
+  records = map (counted_anew config known) rs;
+  terms = terms_of (map (doc_in known) rs);
+  dead = [];
+}
 
 -- the first place where two lists of bytes differ that begin at `at`; where one is longer, its first byte more
 unfoldable pub first_difference_from : ℕ → List ℕ → List ℕ → Option ℕ

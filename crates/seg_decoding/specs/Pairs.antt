@@ -25,7 +25,8 @@ has_at docs term place = option_map_or (has_term term) (slice_get docs place) fa
 abbrev pub AreTheirs : List Doc → Table → Type 0
 AreTheirs docs terms = (term : List ℕ) (place : ℕ) → is_stored terms term place ≡ has_at docs term place
 
--- The leaves are ordinals of labels below `needs`, the config accepts the document, and the counted ordinals are its own.
+-- The leaves are ordinals of labels below `needs`, the config accepts the document, and the counted ordinals are its
+-- own.
 pub record IsRight (config : Config) (known : List (List (List ℕ))) (needs : ℕ) (r : Stored) : Type 0 where
   pub leaves : All (IsLeaf needs) r.leaves
   pub accepted : Accepts config (doc_in known r)
@@ -47,9 +48,11 @@ abbrev pub OnlyTheirs : List Doc → Table → List ℕ → Type 0
 OnlyTheirs docs terms next = (at index : ℕ) → at < length terms → index < slice_index_or next at 0
     → has_at docs (term_of terms at).0 (slice_index_or (term_of terms at).1 index 0) ≡ true
 
--- The place was passed under each of the document's terms, under no other term, and nothing that was passed before was lost.
+-- The place was passed under each of the document's terms, under no other term, and nothing that was passed before was
+-- lost.
 pub record Passes (terms : Table) (place : ℕ) (own : List (List ℕ)) (old new : List ℕ) : Type 0 where
   pub size : length new ≡ length old
   pub grows : (at index : ℕ) → index < slice_index_or old at 0 → index < slice_index_or new at 0
-  pub only : (docs : List Doc) → All (λ term. has_at docs term place ≡ true) own → OnlyTheirs docs terms old → OnlyTheirs docs terms new
+  pub only : (docs : List Doc) → All (λ term. has_at docs term place ≡ true) own → OnlyTheirs docs terms old
+      → OnlyTheirs docs terms new
   pub each : All (λ term. IsPassed terms new term place) own

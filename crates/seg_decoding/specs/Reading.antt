@@ -12,7 +12,8 @@ abbrev pub WhereRead : Records → (ℕ → List ℕ → Type 0) → Type 0
 WhereRead s P = (documents : ℕ) (bytes : List ℕ) → opened documents bytes ≡ Ok s → IsSegment bytes s → P documents bytes
 
 -- The bytes are what is written for the segment's documents, whose leaves are labels below `needs`.
-pub record IsStored (config : Config) (known : List (List (List ℕ))) (needs documents : ℕ) (bytes : List ℕ) (s : Records) : Type 0 where
+pub record IsStored (config : Config) (known : List (List (List ℕ))) (needs documents : ℕ) (bytes : List ℕ)
+    (s : Records) : Type 0 where
   pub stored : stored_segment config known needs documents bytes ≡ Ok s
   pub decodes : IsSegmentOf known config s (map (doc_in known) s.records)
   pub leaves : All (λ r. All (IsLeaf needs) r.leaves) s.records

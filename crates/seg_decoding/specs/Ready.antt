@@ -7,7 +7,8 @@ use Rattle.seg_decoding.specs.Facts.{AreFacts}
 use Rattle.seg_decoding.specs.declared.verifying.Verifier.{Verifier}
 
 -- What is kept of each label that was met is its own, and each term has its number of passed places.
-pub record IsReady (config : Config) (known : List (List (List ℕ))) (needs : ℕ) (terms : Table) (v : Verifier) : Type 0 where
+pub record IsReady (config : Config) (known : List (List (List ℕ))) (needs : ℕ) (terms : Table)
+    (v : Verifier) : Type 0 where
   pub places : needs ≤ length v.met.places.items
   pub met : AllByRecursion (AreFacts config known needs terms) v.met.facts.items
   pub size : length v.walk.next.items ≡ length terms

@@ -1,5 +1,6 @@
 //! The documents of a segment's records, with their ordinals computed again.
-ghost use Rattle.std.specs.Prelude.{◌≡◌, ◌<◌, ◌≤◌, ◌+◌, ◌*◌, ◌^◌, ◌++◌, ◌&&◌, nat_lt, ℕ, List, Some, All, IfOk, length, map, slice_get};
+ghost use Rattle.std.specs.Prelude.{◌≡◌, ◌<◌, ◌≤◌, ◌+◌, ◌*◌, ◌^◌, ◌++◌, ◌&&◌, nat_lt, ℕ, List, Some, All, IfOk, length};
+ghost use Rattle.std.specs.Prelude.{map, slice_get};
 ghost use Rattle.facet_names.specs.Labels.{IsLabelList};
 ghost use Rattle.facet_model.specs.CountedPaths.{counted_ordinals};
 ghost use Rattle.facet_model.specs.Stored.{AreLabelsAt};
@@ -172,7 +173,8 @@ pub(crate) fn entries_of(
     requires needs { needs ≤ length labels.now }
     ensures fits { Gives (λ _. tt) result (documents_fit config.now labels.now needs 12 segment.now.records) }
     ensures docs { IfOk result (λ v. docs_of v.items ≡ map (doc_in labels.now) segment.now.records) }
-    ensures stored { IfOk result (λ v. map stored_of v.items ≡ map (counted_anew config.now labels.now) segment.now.records) }
+    ensures stored { IfOk result (λ v. map stored_of v.items
+        ≡ map (counted_anew config.now labels.now) segment.now.records) }
 {
     let docs = segment.docs();
     let mut entries = Vec::with_capacity(alloc, docs as usize)?;

@@ -13,8 +13,10 @@ pub fn of_opened()
 
 /// States that what is built for documents can be opened, also after the list of labels grew.
 pub fn of_built()
-    ensures again { (config : Config) (known : List (List (List ℕ))) (needs : ℕ) (s : Records) → OpensAgain config known needs s }
-    ensures later { (config : Config) (view known : List (List (List ℕ))) (s : Records) → OpensLater config view known s }
+    ensures again { (config : Config) (known : List (List (List ℕ))) (needs : ℕ) (s : Records)
+        → OpensAgain config known needs s }
+    ensures later { (config : Config) (view known : List (List (List ℕ))) (s : Records)
+        → OpensLater config view known s }
 {}
 
 /// States that a list of labels that grows changes nothing.

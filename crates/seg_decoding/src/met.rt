@@ -52,7 +52,8 @@ impl MetLabels {
         requires size { needs ≤ length self.old.places.items }
         requires met { AllByRecursion (AreFacts config.now labels.now needs segment.now.terms) self.old.facts.items }
         ensures size { OnOk result (length self.new.places.items ≡ length self.old.places.items) }
-        ensures met { OnOk result (AllByRecursion (AreFacts config.now labels.now needs segment.now.terms) self.new.facts.items) }
+        ensures met { OnOk result
+            (AllByRecursion (AreFacts config.now labels.now needs segment.now.terms) self.new.facts.items) }
         ensures has { IfOk result (λ at. HasFacts self.new.facts.items at ord) }
     {
         if !is_leaf(needs, ord) {

@@ -67,8 +67,10 @@ fn compare_anew(
     requires needs { needs ≤ length labels.now }
     requires some { 0 < length segment.now.records }
     requires few { length segment.now.records ≤ 1000000 }
-    ensures ok { IfOk result (λ _. WhereRead segment.now (λ documents bytes. IsStored config.now labels.now needs documents bytes segment.now)) }
-    ensures err { IfErr result (λ e. WhereRead segment.now (λ documents bytes. Fails e (stored_segment config.now labels.now needs documents bytes))) }
+    ensures ok { IfOk result (λ _. WhereRead segment.now
+        (λ documents bytes. IsStored config.now labels.now needs documents bytes segment.now)) }
+    ensures err { IfErr result (λ e. WhereRead segment.now (λ documents bytes. Fails e
+        (stored_segment config.now labels.now needs documents bytes))) }
 {
     let entries = entries_of(alloc, config, labels, needs, segment)?;
     let rebuilt = Segment::build(alloc, keys, &entries)?;
@@ -90,8 +92,10 @@ fn check_documents(
     requires needs { needs ≤ length labels.now }
     requires some { 0 < length segment.now.records }
     requires few { length segment.now.records ≤ 1000000 }
-    ensures ok { IfOk result (λ _. WhereRead segment.now (λ documents bytes. IsStored config.now labels.now needs documents bytes segment.now)) }
-    ensures err { IfErr result (λ e. WhereRead segment.now (λ documents bytes. Fails e (stored_segment config.now labels.now needs documents bytes))) }
+    ensures ok { IfOk result (λ _. WhereRead segment.now
+        (λ documents bytes. IsStored config.now labels.now needs documents bytes segment.now)) }
+    ensures err { IfErr result (λ e. WhereRead segment.now (λ documents bytes. Fails e
+        (stored_segment config.now labels.now needs documents bytes))) }
 {
     match verify(alloc, config, labels, needs, segment) {
         Ok(()) => Ok(()),

@@ -1,5 +1,6 @@
 //! Checks that a stored segment is what is written for its documents, in one pass and without making a document.
-ghost use Rattle.std.specs.Prelude.{◌≡◌, ◌≤◌, ◌<◌, ◌++◌, ◌||◌, ℕ, List, [], ◌∷◌, true, not, length, map, All, OnOk, IfOk};
+ghost use Rattle.std.specs.Prelude.{◌≡◌, ◌≤◌, ◌<◌, ◌++◌, ◌||◌, ℕ, List, [], ◌∷◌, true, not, length, map, All, OnOk};
+ghost use Rattle.std.specs.Prelude.{IfOk};
 ghost use Rattle.std.specs.List.{AllByRecursion, list_any};
 ghost use Rattle.std.specs.Str.{bytes_eq};
 ghost use Rattle.facet_names.specs.Labels.{IsLabelList};
@@ -54,7 +55,8 @@ fn may_follow(labels: &Taxonomy, leaves: &[u32], facts: &LabelFacts) -> bool
     requires leaves { All (IsLeaf (length labels.now)) leaves.now }
     requires leaf { IsLeaf (length labels.now) facts.now.ord }
     ensures { result ≡ (facts.now.multi_valued
-        || not (list_any (λ l. bytes_eq (dim_of l) (dim_of (label_of labels.now facts.now.ord))) (labels_of labels.now leaves.now))) }
+        || not (list_any (λ l. bytes_eq (dim_of l) (dim_of (label_of labels.now facts.now.ord)))
+        (labels_of labels.now leaves.now))) }
 {
     if facts.multi_valued {
         return true;
@@ -75,7 +77,8 @@ fn note_label(
     requires there { All (λ at. at < length segment.now.terms) facts.now.terms.items }
     requires size { length walk.old.next.items ≡ length segment.now.terms }
     ensures { OnOk result
-        (IsNoted segment.now.terms doc facts.now leaves.old.items counted.old.items walk.old.next.items leaves.new.items counted.new.items
+        (IsNoted segment.now.terms doc facts.now leaves.old.items counted.old.items walk.old.next.items
+        leaves.new.items counted.new.items
         walk.new.next.items) }
 {
     leaves.push(facts.ord)?;
@@ -132,8 +135,10 @@ impl Verifier {
         ensures fit { OnOk result (AllByRecursion (IsLeaf needs) self.new.leaves.items) }
         ensures leaves { OnOk result (self.new.leaves.items ≡ self.old.leaves.items ++ leaf ∷ []) }
         ensures seen { OnOk result ((start : List ℕ)
-            → AreSeen config.now labels.now segment.now.terms doc self.old.leaves.items self.old.counted.items start self.old.walk.next.items
-            → AreSeen config.now labels.now segment.now.terms doc self.new.leaves.items self.new.counted.items start self.new.walk.next.items) }
+            → AreSeen config.now labels.now segment.now.terms doc self.old.leaves.items
+            self.old.counted.items start self.old.walk.next.items
+            → AreSeen config.now labels.now segment.now.terms doc self.new.leaves.items
+            self.new.counted.items start self.new.walk.next.items) }
     {
         let at = self.met.meet(alloc, config, labels, needs, segment, leaf)?;
         let facts = &self.met.facts[at];
@@ -167,7 +172,8 @@ impl Verifier {
         ensures ready { OnOk result (IsReady config.now labels.now needs segment.now.terms self.new) }
         ensures fit { OnOk result (AllByRecursion (IsLeaf needs) (record_of segment.now doc).leaves) }
         ensures seen { OnOk result
-            (AreSeen config.now labels.now segment.now.terms doc (record_of segment.now doc).leaves self.new.counted.items
+            (AreSeen config.now labels.now segment.now.terms doc
+            (record_of segment.now doc).leaves self.new.counted.items
             self.old.walk.next.items self.new.walk.next.items) }
     {
         self.leaves.clear();
@@ -197,7 +203,8 @@ impl Verifier {
         ensures ready { OnOk result (IsReady config.now labels.now needs segment.now.terms self.new) }
         ensures right { OnOk result (IsRight config.now labels.now needs (record_of segment.now doc)) }
         ensures passes { OnOk result
-            (Passes segment.now.terms doc (doc_terms (doc_in labels.now (record_of segment.now doc))) self.old.walk.next.items self.new.walk.next.items) }
+            (Passes segment.now.terms doc (doc_terms (doc_in labels.now
+            (record_of segment.now doc))) self.old.walk.next.items self.new.walk.next.items) }
     {
         self.walk.pass_text(alloc, segment, segment.text(doc), doc)?;
         self.check_labels(alloc, config, labels, needs, segment, doc)?;

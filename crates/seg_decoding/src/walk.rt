@@ -29,7 +29,8 @@ pub struct Walk {
 fn pass(segment: &Segment, next: &mut Vec<usize>, term: usize, doc: u32) -> Result<(), Unlike>
     requires there { term < length segment.now.terms }
     requires size { length next.old.items ≡ length segment.now.terms }
-    ensures { OnOk result (Passes segment.now.terms doc ((term_of segment.now.terms term).0 ∷ []) next.old.items next.new.items) }
+    ensures { OnOk result (Passes segment.now.terms doc
+        ((term_of segment.now.terms term).0 ∷ []) next.old.items next.new.items) }
 {
     let places = segment.places(term);
     let at = next[term];
@@ -63,7 +64,8 @@ impl Walk {
     /// Checks that each place of each term was passed. Errors: `Differs`.
     pub fn check_end(&self, segment: &Segment) -> Result<(), Unlike>
         requires { length self.now.next.items ≡ length segment.now.terms }
-        ensures { OnOk result ((at : ℕ) → at < length segment.now.terms → slice_index_or self.now.next.items at 0 ≡ length (term_of segment.now.terms at).1) }
+        ensures { OnOk result ((at : ℕ) → at < length segment.now.terms
+            → slice_index_or self.now.next.items at 0 ≡ length (term_of segment.now.terms at).1) }
     {
         for term in 0..segment.terms() {
             if self.next[term] != segment.places(term).len() {
@@ -77,7 +79,8 @@ impl Walk {
     fn pass_word(&mut self, segment: &Segment, word: &[u8], doc: u32) -> Result<(), Unlike>
         requires utf8 { IsUtf8 word.now }
         requires size { length self.old.next.items ≡ length segment.now.terms }
-        ensures { OnOk result (Passes segment.now.terms doc (piece_terms (word.now ∷ [])) self.old.next.items self.new.next.items) }
+        ensures { OnOk result (Passes segment.now.terms doc (piece_terms
+            (word.now ∷ [])) self.old.next.items self.new.next.items) }
     {
         if word.is_empty() {
             return Ok(());
@@ -90,7 +93,8 @@ impl Walk {
     // The text is lowered.
     fn pass_words(&mut self, segment: &Segment, text: &str, doc: u32) -> Result<(), Unlike>
         requires { length self.old.next.items ≡ length segment.now.terms }
-        ensures { OnOk result (Passes segment.now.terms doc (piece_terms (slice_split is_blank text.now)) self.old.next.items self.new.next.items) }
+        ensures { OnOk result (Passes segment.now.terms doc (piece_terms
+            (slice_split is_blank text.now)) self.old.next.items self.new.next.items) }
     {
         let mut rest = text.as_bytes();
         while let Some(end) = word_end(rest) {
@@ -112,7 +116,8 @@ impl Walk {
     ) -> Result<(), Unlike>
         requires { length self.old.next.items ≡ length segment.now.terms }
         ensures { OnOk result
-            (Passes segment.now.terms doc (piece_terms (slice_split is_blank (str_to_ascii_lowercase text.now))) self.old.next.items self.new.next.items) }
+            (Passes segment.now.terms doc (piece_terms (slice_split is_blank
+            (str_to_ascii_lowercase text.now))) self.old.next.items self.new.next.items) }
     {
         let lowered = text.to_ascii_lowercase(alloc)?;
         self.pass_words(segment, lowered.as_str(), doc)
@@ -122,7 +127,8 @@ impl Walk {
     pub fn pass_terms(&mut self, segment: &Segment, terms: &[usize], doc: u32) -> Result<(), Unlike>
         requires there { All (λ at. at < length segment.now.terms) terms.now }
         requires size { length self.old.next.items ≡ length segment.now.terms }
-        ensures { OnOk result (Passes segment.now.terms doc (texts_at segment.now.terms terms.now) self.old.next.items self.new.next.items) }
+        ensures { OnOk result (Passes segment.now.terms doc
+            (texts_at segment.now.terms terms.now) self.old.next.items self.new.next.items) }
     {
         for term in terms {
             pass(segment, &mut self.next, *term, doc)?;

@@ -15,7 +15,12 @@ records_in segments = flat_map (λ s. alive s.dead s.records) segments
 
 -- the live record at a place, if it is there
 abbrev pub record_at : List Records → ℕ → Stored
-record_at segments at = slice_index_or (records_in segments) at (record { id = []; text = []; leaves = []; counted = [] })
+record_at segments at = slice_index_or (records_in segments) at (record {
+  id = [];
+  text = [];
+  leaves = [];
+  counted = [];
+})
 
 -- the documents of all live records, in order
 abbrev pub docs_in : List (List (List ℕ)) → List Records → List Doc

@@ -1,2 +1,3 @@
-//! The documents that segments represent under a list of labels: definitions for contracts, and lemmas about them for proofs. It has no code.
+//! The documents that segments represent under a list of labels: definitions for contracts, and lemmas about them for
+//! proofs. It has no code.
 #![tactic(auto)]

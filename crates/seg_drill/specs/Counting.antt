@@ -20,7 +20,8 @@ pub record IsSetWithin (segment : Records) (set : Marked) : Type 0 where
 
 -- the counter can count the counted ordinals of each record
 abbrev pub AreCountable : Config → List (List (List ℕ)) → Records → Type 0
-AreCountable config labels segment = (doc : ℕ) → doc < length segment.records → IsCounted config labels (record_of segment doc).counted
+AreCountable config labels segment = (doc : ℕ) → doc < length segment.records
+    → IsCounted config labels (record_of segment doc).counted
 
 -- the counted ordinals of the records at the places
 abbrev pub lists_at : Records → List ℕ → List (List ℕ)

@@ -1,5 +1,6 @@
 -- What the documents of a search have to match.
-use Rattle.std.specs.Prelude.{◌≡◌, ℕ, ◌∷◌, ◌++◌, ◌&&◌, ◌||◌, Bool, false, not, List, [], take, Option, Some, None, slice_get, slice_index_or}
+use Rattle.std.specs.Prelude.{◌≡◌, ℕ, ◌∷◌, ◌++◌, ◌&&◌, ◌||◌, Bool, false, not, List, [], take, Option, Some, None}
+use Rattle.std.specs.Prelude.{slice_get, slice_index_or}
 use Rattle.std.specs.List.{list_any, list_all, AllByRecursion}
 use Rattle.std.specs.Str.{bytes_eq}
 use Rattle.facet_model.specs.CountedPaths.{places}
@@ -17,7 +18,8 @@ is_lifted (Some other) dim = bytes_eq dim other
 
 -- it matches the dimensions of these paths of a drill, except the lifted one
 abbrev pub passes_each : List (List (List ℕ)) → Option (List ℕ) → List (List (List ℕ)) → Doc → Bool
-passes_each drill lift paths doc = list_all (λ path. is_lifted lift (dim_of path) || passes doc drill (dim_of path)) paths
+passes_each drill lift paths doc = list_all (λ path. is_lifted lift (dim_of path)
+    || passes doc drill (dim_of path)) paths
 
 -- it matches the query, and all dimensions of the drill except the lifted one
 abbrev pub passes_all : QueryTree → List (List (List ℕ)) → Option (List ℕ) → Doc → Bool
@@ -29,7 +31,8 @@ is_again drill at dim = list_any (λ path. bytes_eq (dim_of path) dim) (take at 
 
 -- the path at the place is the first of its dimension, and that is not lifted
 abbrev pub is_first : List (List (List ℕ)) → ℕ → Option (List ℕ) → Bool
-is_first drill at lift = not (is_again drill at (dim_of (slice_index_or drill at []))) && not (is_lifted lift (dim_of (slice_index_or drill at [])))
+is_first drill at lift = not (is_again drill at (dim_of (slice_index_or drill at [])))
+    && not (is_lifted lift (dim_of (slice_index_or drill at [])))
 
 -- Each node has only places of documents. All nodes have a document's place exactly if it passes the test.
 pub record AreAllOf (docs : List Doc) (test : Doc → Bool) (nodes : List Planned) : Type 0 where
@@ -37,7 +40,8 @@ pub record AreAllOf (docs : List Doc) (test : Doc → Bool) (nodes : List Planne
   pub have : (n : ℕ) (doc : Doc) → slice_get docs n ≡ Some doc → all_have n nodes ≡ test doc
 
 -- One node more: the documents that match the dimension.
-pub record HasPaths (segment : Records) (drill : List (List (List ℕ))) (dim : List ℕ) (old new : List Planned) : Type 0 where
+pub record HasPaths (segment : Records) (drill : List (List (List ℕ))) (dim : List ℕ)
+    (old new : List Planned) : Type 0 where
   pub node : Planned
   pub items : new ≡ old ++ node ∷ []
   pub left : (docs : List Doc) → HasTermsOf segment docs → node.left ≡ places (λ doc. passes doc drill dim) docs

@@ -49,7 +49,8 @@ pub fn base_nodes<'a>(
     segment: &'a Segment,
     query: &Query,
 ) -> Result<Vec<PlanNode<'a>>, NoMemory>
-    ensures { IfOk result (λ v. (docs : List Doc) → HasTermsOf segment.now docs → AreAllOf docs (matches (query_view query.now)) v.items) }
+    ensures { IfOk result (λ v. (docs : List Doc) → HasTermsOf segment.now docs
+        → AreAllOf docs (matches (query_view query.now)) v.items) }
 {
     let mut nodes = Vec::new(alloc);
     if let Query::All = query {
@@ -100,7 +101,8 @@ pub fn nodes_of<'a>(
 /// Returns the documents that all nodes have. There is at least one node. Errors: out of memory.
 pub fn joined<'a>(alloc: Global, nodes: Vec<PlanNode<'a>>) -> Result<PlanNode<'a>, NoMemory>
     requires { 0 < length nodes.items }
-    ensures { IfOk result (λ r. (docs : List Doc) (test : Doc → Bool) → AreAllOf docs test nodes.entry.items → r.left ≡ places test docs) }
+    ensures { IfOk result (λ r. (docs : List Doc) (test : Doc → Bool) → AreAllOf docs test nodes.entry.items
+        → r.left ≡ places test docs) }
 {
     let mut nodes = nodes;
     if nodes.len() == 1 {
@@ -116,7 +118,8 @@ pub fn without_one<'a>(
     nodes: Vec<PlanNode<'a>>,
     own: PlanNode<'a>,
 ) -> Result<PlanNode<'a>, NoMemory>
-    ensures { IfOk result (λ r. (among : List Doc) (test other : Doc → Bool) → docs ≡ length among → AreAllOf among test nodes.entry.items
+    ensures { IfOk result (λ r. (among : List Doc) (test other : Doc → Bool) → docs ≡ length among
+        → AreAllOf among test nodes.entry.items
         → own.entry.left ≡ places other among → r.left ≡ places (λ doc. test doc && not (other doc)) among) }
 {
     let mut nodes = nodes;

@@ -1,4 +1,5 @@
-ghost use Rattle.std.specs.Prelude.{◌≡◌, ◌≤◌, ◌<◌, ◌||◌, ◌-◌, ◌++◌, not, codes, false, ℕ, List, map, length, take, drop, IfOk, IfErr, MatchResult, None};
+ghost use Rattle.std.specs.Prelude.{◌≡◌, ◌≤◌, ◌<◌, ◌||◌, ◌-◌, ◌++◌, not, codes, false, ℕ, List, map, length, take};
+ghost use Rattle.std.specs.Prelude.{drop, IfOk, IfErr, MatchResult, None};
 ghost use Rattle.std.specs.List.{flat_map, AllByRecursion};
 ghost use Rattle.facet_codec.specs.Laws.{IsBelow};
 ghost use Rattle.seg_postings.specs.Rising.{IsRising};

@@ -22,12 +22,16 @@ pub record IsIndexOf (r : Records) (index : Index) : Type 0 where
   pub terms : index.terms.items ≡ offsets term_bytes (16 + length (flat_map record_bytes r.records)) r.terms
 
 -- A call passed records, and returned where they and their counted ordinals begin.
-abbrev pub MarksRecords : Result (Vec ℕ × Vec ℕ) SegFault → Place → Place → Result (List Stored × Place) SegFault → Type 0
-MarksRecords (Ok marks) old new read = (rs : List Stored) × (read ≡ Ok (rs, new)) × (marks.0.items ≡ offsets record_bytes old.at rs)
+abbrev pub MarksRecords : Result (Vec ℕ × Vec ℕ) SegFault → Place → Place → Result (List Stored × Place) SegFault
+    → Type 0
+MarksRecords (Ok marks) old new read = (rs : List Stored) × (read ≡ Ok (rs, new))
+    × (marks.0.items ≡ offsets record_bytes old.at rs)
     × (marks.1.items ≡ counted_offsets old.at rs)
 MarksRecords (Err e) old new read = Fails e read
 
 -- A call passed terms, and returned where they begin.
-abbrev pub MarksTerms : Result (Vec ℕ) SegFault → Place → Place → Result (List (List ℕ × List ℕ) × Place) SegFault → Type 0
-MarksTerms (Ok marks) old new read = (ts : List (List ℕ × List ℕ)) × (read ≡ Ok (ts, new)) × (marks.items ≡ offsets term_bytes old.at ts)
+abbrev pub MarksTerms : Result (Vec ℕ) SegFault → Place → Place → Result (List (List ℕ × List ℕ) × Place) SegFault
+    → Type 0
+MarksTerms (Ok marks) old new read = (ts : List (List ℕ × List ℕ)) × (read ≡ Ok (ts, new))
+    × (marks.items ≡ offsets term_bytes old.at ts)
 MarksTerms (Err e) old new read = Fails e read

@@ -1,5 +1,6 @@
 -- Reading a segment from left to right, with the first fault.
-use Rattle.std.specs.Prelude.{◌≡◌, ℕ, zero, suc, ◌+◌, ◌^◌, ◌||◌, List, [], ◌∷◌, length, Option, Some, None, Result, Ok, Err, nat_lt, nat_le, ◌==◌, if◌then◌else◌}
+use Rattle.std.specs.Prelude.{◌≡◌, ℕ, zero, suc, ◌+◌, ◌^◌, ◌||◌, List, [], ◌∷◌, length, Option, Some, None, Result, Ok}
+use Rattle.std.specs.Prelude.{Err, nat_lt, nat_le, ◌==◌, if◌then◌else◌}
 use Rattle.facet_codec.specs.declared.fault.CodecFault.{CodecFault}
 use Rattle.facet_codec.specs.Places.{Place}
 use Rattle.facet_codec.specs.Faults.{fault_at, told_as}
@@ -36,7 +37,8 @@ PassesRecord (Ok at) old new read = (r : Stored) × (read ≡ Ok (r, new)) × (a
 PassesRecord (Err e) old new read = Fails e read
 
 -- A call passed a term, and returned its text.
-abbrev pub PassesTerm : {X : Type 0} → (X → List ℕ) → Result X SegFault → Place → Result ((List ℕ × List ℕ) × Place) SegFault → Type 0
+abbrev pub PassesTerm : {X : Type 0} → (X → List ℕ) → Result X SegFault → Place
+    → Result ((List ℕ × List ℕ) × Place) SegFault → Type 0
 PassesTerm view (Ok x) new read = (t : List ℕ × List ℕ) × (read ≡ Ok (t, new)) × (t.0 ≡ view x)
 PassesTerm view (Err e) new read = Fails e read
 
@@ -161,4 +163,9 @@ segment_at bytes = do
   records ← list_at record_at docs.0 docs.1
   n ← number_at records.1
   terms ← terms_at n.0 None docs.0 n.1
-  if length terms.1.rest == 0 then Ok (record { records = records.0; terms = terms.0; dead = [] }) else Err (Disorder terms.1.at)
+  if length terms.1.rest == 0 then Ok (record {
+    records =
+        records.0;
+    terms = terms.0;
+    dead = [];
+  }) else Err (Disorder terms.1.at)

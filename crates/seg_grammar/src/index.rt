@@ -62,7 +62,8 @@ fn terms(alloc: Global, cursor: &mut Cursor<'_>, n: u32, docs: u32) -> Result<Ve
 /// Errors: the first fault; out of memory.
 #[tactic(auto, unfolding(crate::specs::Reading::segment_at))]
 pub fn read_index(alloc: Global, bytes: &[u8]) -> Result<Index, SegFault>
-    ensures found { IfOk result (λ i. (r : Records) × (segment_at bytes.now ≡ Ok r) × IsSegment bytes.now r × IsIndexOf r i) }
+    ensures found { IfOk result (λ i. (r : Records) × (segment_at bytes.now ≡ Ok r) × IsSegment bytes.now r
+        × IsIndexOf r i) }
     ensures fault { IfErr result (λ e. Fails e (segment_at bytes.now)) }
 {
     let mut cursor = Cursor::new(bytes);

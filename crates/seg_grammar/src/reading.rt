@@ -1,7 +1,9 @@
 ghost use Rattle.std.specs.Prelude.{ℕ, ◌≡◌, ◌^◌};
 ghost use Rattle.std.specs.Option.{option_map};
 ghost use Rattle.facet_codec.specs.Lists.{list_at};
-ghost use Rattle.seg_grammar.specs.Reading.{Reads, Passes, PassesRecord, PassesTerm, PassesHead, count_at, number_at, some_at, rising_at, id_at, leaves_at, counted_at, record_at, key_at, places_at, term_at, head_at, docs_at};
+ghost use Rattle.seg_grammar.specs.Reading.{Reads, Passes, PassesRecord, PassesTerm, PassesHead, count_at, number_at};
+ghost use Rattle.seg_grammar.specs.Reading.{some_at, rising_at, id_at, leaves_at, counted_at, record_at, key_at};
+ghost use Rattle.seg_grammar.specs.Reading.{places_at, term_at, head_at, docs_at};
 
 use crate::fault::SegFault;
 use facet_codec::Cursor;
@@ -134,7 +136,8 @@ pub(crate) fn term<'a>(
     previous: Option<&str>,
     docs: u32,
 ) -> Result<&'a str, SegFault>
-    ensures { PassesTerm (λ x. x.now) result cursor.new (term_at (option_map (λ u. u.now) previous.entry) docs cursor.old) }
+    ensures { PassesTerm (λ x. x.now) result cursor.new (term_at
+        (option_map (λ u. u.now) previous.entry) docs cursor.old) }
 {
     let key = key(cursor, previous)?;
     places(cursor, docs)?;

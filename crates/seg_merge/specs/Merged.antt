@@ -23,7 +23,8 @@ merged_of segments terms = record { records = records_in segments; terms = terms
 
 -- The segment has all live records of these, in order, and the terms of their documents.
 abbrev pub IsMergeOf : List Records → Records → Type 0
-IsMergeOf segments merged = (pieces : List (List Doc)) → HaveTerms segments pieces → merged ≡ merged_of segments (terms_of (live_docs segments pieces))
+IsMergeOf segments merged = (pieces : List (List Doc)) → HaveTerms segments pieces
+    → merged ≡ merged_of segments (terms_of (live_docs segments pieces))
 
 -- the segment was built of these entries, of which some may no longer be live
 abbrev pub IsOfEntries : Records → List Entry → Type 0
@@ -35,9 +36,11 @@ live_entries [] pieces = []
 live_entries (s ∷ ss) [] = []
 live_entries (s ∷ ss) (p ∷ ps) = alive s.dead p ++ live_entries ss ps
 
--- Where these were built of entries, the segment is the one that is built of all that are live, in order. Equal segments have equal bytes.
+-- Where these were built of entries, the segment is the one that is built of all that are live, in order. Equal
+-- segments have equal bytes.
 abbrev pub IsBuiltOfLive : List Records → Records → Type 0
-IsBuiltOfLive segments merged = (pieces : List (List Entry)) → AllZip IsOfEntries segments pieces → merged ≡ segment_of (live_entries segments pieces)
+IsBuiltOfLive segments merged = (pieces : List (List Entry)) → AllZip IsOfEntries segments pieces
+    → merged ≡ segment_of (live_entries segments pieces)
 
 -- the segment is read from its own bytes, of which some records may no longer be live
 abbrev pub IsOwn : Records → Type 0

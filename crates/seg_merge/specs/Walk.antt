@@ -1,5 +1,6 @@
 -- A walk over the terms of several segments, text by text.
-use Rattle.std.specs.Prelude.{◌≡◌, ◌⊎◌, ℕ, ◌+◌, ◌<◌, ◌≤◌, List, [], ◌∷◌, ◌++◌, None, length, take, slice_index_or, if◌then◌else◌}
+use Rattle.std.specs.Prelude.{◌≡◌, ◌⊎◌, ℕ, ◌+◌, ◌<◌, ◌≤◌, List, [], ◌∷◌, ◌++◌, None, length, take, slice_index_or}
+use Rattle.std.specs.Prelude.{if◌then◌else◌}
 use Rattle.std.specs.declared.cmp.Ordering.TheVariants.{Less}
 use Rattle.std.specs.List.{flat_map, AllByRecursion}
 use Rattle.std.specs.List.Sorted.{IsStrictlySortedBy}
@@ -21,7 +22,8 @@ bases_from base (s ∷ ss) = base ∷ bases_from (base + length (alive s.dead s.
 abbrev pub places_passed : ℕ → List Records → List ℕ → List ℕ → List ℕ
 places_passed base [] passed text = []
 places_passed base (s ∷ ss) [] text = []
-places_passed base (s ∷ ss) (n ∷ ns) text = moved base s.dead (all_places (take n s.terms) text) ++ places_passed (base + length (alive s.dead s.records)) ss ns text
+places_passed base (s ∷ ss) (n ∷ ns) text = moved base s.dead (all_places (take n s.terms) text)
+    ++ places_passed (base + length (alive s.dead s.records)) ss ns text
 
 -- one of the segments, which is there
 abbrev pub segment_at : List Records → ℕ → Records
@@ -48,15 +50,17 @@ pub record AreWritten (old new : List ℕ) (count : ℕ) (terms : Table) : Type 
 abbrev pub ComeBefore : Table → List ℕ → Type 0
 ComeBefore terms text = AllByRecursion (λ t. word_cmp t.0 text ≡ Less) terms
 
--- So many terms of each segment were passed. All that come before this text are written, and `places` are those of the text so far, from the segments
--- before number `from`.
-pub record IsWalk (ss : List Records) (old new : List ℕ) (count : ℕ) (passed : List ℕ) (text : List ℕ) (from : ℕ) (places : List ℕ) : Type 0 where
+-- So many terms of each segment were passed. All that come before this text are written, and `places` are those of the
+-- text so far, from the segments before number `from`.
+pub record IsWalk (ss : List Records) (old new : List ℕ) (count : ℕ) (passed : List ℕ) (text : List ℕ) (from : ℕ)
+    (places : List ℕ) : Type 0 where
   pub terms : Table
   pub written : AreWritten old new count terms
   pub before : ComeBefore terms text
   pub each : length passed ≡ length ss
   pub all : (q : List ℕ) → all_places terms q ++ (if bytes_eq q text then places else []) ≡ places_passed 0 ss passed q
-  pub order : (k i : ℕ) → k < length ss → i < slice_index_or passed k 0 → (word_cmp (text_in ss k i) text ≡ Less) ⊎ ((text_in ss k i ≡ text) × (k < from))
+  pub order : (k i : ℕ) → k < length ss → i < slice_index_or passed k 0 → (word_cmp (text_in ss k i) text ≡ Less)
+      ⊎ ((text_in ss k i ≡ text) × (k < from))
 
 -- The segment has this term, and it is the first of its terms that was not passed.
 pub record IsNextTerm (ss : List Records) (passed : List ℕ) (number at : ℕ) : Type 0 where

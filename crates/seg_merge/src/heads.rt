@@ -1,4 +1,5 @@
-//! The segments in the order of their next terms. No proof depends on this order: the walk over the terms compares each with the one before it.
+//! The segments in the order of their next terms. No proof depends on this order: the walk over the terms compares each
+//! with the one before it.
 
 ghost use Rattle.std.specs.Prelude.{◌≡◌, ◌<◌, length};
 
@@ -26,7 +27,8 @@ fn is_before(a: &Head<'_>, b: &Head<'_>) -> bool {
     }
 }
 
-/// Moves a head of a binary heap down until none below it comes before it. It compares about twice the logarithm of the number of heads.
+/// Moves a head of a binary heap down until none below it comes before it. It compares about twice the logarithm of the
+/// number of heads.
 pub(crate) fn sink(heads: &mut [Head<'_>], from: usize)
     requires { from < length heads.old }
     ensures { length heads.new ≡ length heads.old }

@@ -56,7 +56,8 @@ fn write(alloc: Global, segments: &[Arc<Segment>]) -> Result<Vec<u8>, facet_code
     requires few { length (records_in (map arc_value segments.now)) ≤ 1000000 }
     requires terms { (pieces : List (List Doc)) × HaveTerms (map arc_value segments.now) pieces }
     ensures { IfOk result (λ b. (pieces : List (List Doc)) → HaveTerms (map arc_value segments.now) pieces
-        → IsSegment b.items (merged_of (map arc_value segments.now) (terms_of (live_docs (map arc_value segments.now) pieces)))) }
+        → IsSegment b.items (merged_of (map arc_value segments.now)
+        (terms_of (live_docs (map arc_value segments.now) pieces)))) }
 {
     let mut bytes = Vec::with_capacity(alloc, most_bytes(segments))?;
     put_head(&mut bytes, count_live(segments))?;
@@ -74,7 +75,8 @@ fn merged_bytes(alloc: Global, segments: &[Arc<Segment>]) -> Result<Vec<u8>, NoM
     requires few { length (records_in (map arc_value segments.now)) ≤ 1000000 }
     requires terms { (pieces : List (List Doc)) × HaveTerms (map arc_value segments.now) pieces }
     ensures { IfOk result (λ b. (pieces : List (List Doc)) → HaveTerms (map arc_value segments.now) pieces
-        → IsSegment b.items (merged_of (map arc_value segments.now) (terms_of (live_docs (map arc_value segments.now) pieces)))) }
+        → IsSegment b.items (merged_of (map arc_value segments.now)
+        (terms_of (live_docs (map arc_value segments.now) pieces)))) }
 {
     match write(alloc, segments) {
         Ok(bytes) => Ok(bytes),
@@ -92,8 +94,8 @@ fn merged_bytes(alloc: Global, segments: &[Arc<Segment>]) -> Result<Vec<u8>, NoM
 /// their bytes, each compared with about twice the logarithm of the number of segments. It allocates the bytes of the
 /// result, the places of one term and 36 bytes per segment. Last it reads the bytes once, as [`Segment::open`].
 ///
-/// Errors: `NoMemory` if an allocation fails, and if there would be 2^32 terms or more, or 2^32 counted ordinals without a
-/// map.
+/// Errors: `NoMemory` if an allocation fails, and if there would be 2^32 terms or more, or 2^32 counted ordinals
+/// without a map.
 pub fn merge(
     alloc: Global,
     keys: RandomState,

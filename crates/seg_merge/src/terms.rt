@@ -9,7 +9,8 @@ ghost use Rattle.seg_terms.specs.Places.{IsShortTerm};
 ghost use Rattle.seg_documents.specs.Decoding.{records_in};
 ghost use Rattle.seg_merge.specs.Moved.{moved};
 ghost use Rattle.seg_merge.specs.Merged.{IsOwn};
-ghost use Rattle.seg_merge.specs.Walk.{bases_from, with_term, AreWritten, ComeBefore, IsNextTerm, AreAllPassed, IsWalk, AreMerged};
+ghost use Rattle.seg_merge.specs.Walk.{bases_from, with_term, AreWritten, ComeBefore, IsNextTerm, AreAllPassed, IsWalk};
+ghost use Rattle.seg_merge.specs.Walk.{AreMerged};
 
 use crate::heads::{Head, sink};
 use facet_codec::{NoMemory, put_text, put_u32};
@@ -18,7 +19,8 @@ use seg_postings::Postings;
 use std::alloc::Global;
 use std::sync::Arc;
 
-// Appends the places that live records of a segment have in the merged one, where `base` live records come before the segment's.
+// Appends the places that live records of a segment have in the merged one, where `base` live records come before the
+// segment's.
 fn put_moved(
     list: &mut Vec<u32>,
     segment: &Segment,
@@ -54,7 +56,8 @@ fn put_places(out: &mut Vec<u8>, places: &[u32]) -> Result<(), NoMemory>
 // Appends a term with its places, if it has any, and counts it.
 fn put_term(out: &mut Vec<u8>, count: &mut u32, text: &str, places: &[u32]) -> Result<(), NoMemory>
     requires { IsShortTerm text.now }
-    ensures { OnOk result ((start : List ℕ) (terms : Table) → AreWritten start out.old.items count.old terms → ComeBefore terms text.now
+    ensures { OnOk result ((start : List ℕ) (terms : Table) → AreWritten start out.old.items count.old terms
+        → ComeBefore terms text.now
         → AreWritten start out.new.items count.new (with_term terms text.now places.now)) }
 {
     if places.is_empty() {
@@ -69,8 +72,9 @@ fn put_term(out: &mut Vec<u8>, count: &mut u32, text: &str, places: &[u32]) -> R
     Ok(())
 }
 
-// Goes on from a text to a term of a segment: if that has another text, the places of the text are complete, and are written. It answers that there is no memory
-// where the term comes earlier than the text, or its segment earlier than number `from`.
+// Goes on from a text to a term of a segment: if that has another text, the places of the text are complete, and are
+// written. It answers that there is no memory where the term comes earlier than the text, or its segment earlier than
+// number `from`.
 fn turn(
     out: &mut Vec<u8>,
     count: &mut u32,
@@ -81,7 +85,8 @@ fn turn(
     segment: usize,
 ) -> Result<(), NoMemory>
     requires { IsShortTerm text.now }
-    ensures { OnOk result ((ss : List Records) (start passed : List ℕ) → IsWalk ss start out.old.items count.old passed text.now from places.old.items
+    ensures { OnOk result ((ss : List Records) (start passed : List ℕ)
+        → IsWalk ss start out.old.items count.old passed text.now from places.old.items
         → IsWalk ss start out.new.items count.new passed term.now segment places.new.items) }
 {
     let order = text.cmp(term);
@@ -179,9 +184,10 @@ fn step<'s>(heads: &mut [Head<'s>], text: Option<&'s str>) {
     sink(heads, 0);
 }
 
-/// Appends the terms of the live records, rising by their bytes, each once, with the places of the records one segment after the other, and returns how many
-/// there are. It goes over the terms of all segments at once, and compares each with about twice the logarithm of the number of segments. It takes memory for
-/// the places of one term, and 36 bytes a segment.
+/// Appends the terms of the live records, rising by their bytes, each once, with the places of the records one segment
+/// after the other, and returns how many there are. It goes over the terms of all segments at once, and compares each
+/// with about twice the logarithm of the number of segments. It takes memory for the places of one term, and 36 bytes a
+/// segment.
 pub(crate) fn put_merged_terms(
     alloc: Global,
     out: &mut Vec<u8>,

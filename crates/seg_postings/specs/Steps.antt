@@ -1,5 +1,6 @@
 -- What holds between the steps of a search and of a union.
-use Rattle.std.specs.Prelude.{◌≡◌, ℕ, ◌<◌, ◌≤◌, List, [], ◌∷◌, Option, Some, None, nat_lt, if◌then◌else◌, slice_index, length}
+use Rattle.std.specs.Prelude.{◌≡◌, ℕ, ◌<◌, ◌≤◌, List, [], ◌∷◌, Option, Some, None, nat_lt, if◌then◌else◌, slice_index}
+use Rattle.std.specs.Prelude.{length}
 use Rattle.seg_postings.specs.Rising.{IsRising}
 
 -- Those before low are below p, and those from high on are not.

@@ -10,7 +10,8 @@ ghost use Rattle.seg_postings.specs.Sets.{either, without};
 pub fn of_union()
     ensures members { (n : ℕ) (xs ys : List ℕ) → is_in n (either xs ys) ≡ (is_in n xs || is_in n ys) }
     ensures rising { (xs ys : List ℕ) → IsRising xs → IsRising ys → IsRising (either xs ys) }
-    ensures filters { (p q : ℕ → Bool) (xs : List ℕ) → IsRising xs → either (filter p xs) (filter q xs) ≡ filter (λ x. p x || q x) xs }
+    ensures filters { (p q : ℕ → Bool) (xs : List ℕ) → IsRising xs
+        → either (filter p xs) (filter q xs) ≡ filter (λ x. p x || q x) xs }
 {}
 
 /// States that a difference has what the first has and the second has not. If two tests choose from one rising list, it
@@ -18,7 +19,8 @@ pub fn of_union()
 pub fn of_difference()
     ensures members { (n : ℕ) (xs ys : List ℕ) → is_in n (without xs ys) ≡ (is_in n xs && not (is_in n ys)) }
     ensures rising { (xs ys : List ℕ) → IsRising xs → IsRising ys → IsRising (without xs ys) }
-    ensures filters { (p q : ℕ → Bool) (xs : List ℕ) → IsRising xs → without (filter p xs) (filter q xs) ≡ filter (λ x. p x && not (q x)) xs }
+    ensures filters { (p q : ℕ → Bool) (xs : List ℕ) → IsRising xs
+        → without (filter p xs) (filter q xs) ≡ filter (λ x. p x && not (q x)) xs }
 {}
 
 /// States that rising lists with the same numbers are equal.

@@ -23,4 +23,5 @@ TermsRise = (docs : List Doc) → IsStrictlySortedBy word_cmp (keys_of (terms_of
 
 -- a term is among them, with its places, exactly if a document has it
 abbrev pub TermsAreFound : Type 0
-TermsAreFound = (docs : List Doc) (term : List ℕ) → option_map (λ t. t.1) (find (λ t. bytes_eq term t.0) (terms_of docs)) ≡ term_places docs term
+TermsAreFound = (docs : List Doc) (term : List ℕ)
+    → option_map (λ t. t.1) (find (λ t. bytes_eq term t.0) (terms_of docs)) ≡ term_places docs term

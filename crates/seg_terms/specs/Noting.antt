@@ -1,5 +1,6 @@
 -- Noting documents under terms, in a table of terms with their places.
-use Rattle.std.specs.Prelude.{◌≡◌, ◌-◌, ◌++◌, ℕ, List, [], ◌∷◌, Bool, false, String, string_bytes, Option, Some, None, unwrap_or, map, filter, codes, length, nat_eq, nat_lt, slice_get, if◌then◌else◌}
+use Rattle.std.specs.Prelude.{◌≡◌, ◌-◌, ◌++◌, ℕ, List, [], ◌∷◌, Bool, false, String, string_bytes, Option, Some, None}
+use Rattle.std.specs.Prelude.{unwrap_or, map, filter, codes, length, nat_eq, nat_lt, slice_get, if◌then◌else◌}
 use Rattle.std.specs.declared.alloc.Global.{Global}
 use Rattle.std.specs.declared.vec.Vec.{Vec}
 use Rattle.std.specs.List.{list_any}
@@ -35,7 +36,8 @@ with_place (Some places) place = Some (put_place places place)
 
 -- the new table is the old one with the place under each of the terms
 abbrev pub AreNoted : ℕ → List (List ℕ) → Table → Table → Type 0
-AreNoted place terms old new = (t : List ℕ) → found new t ≡ (if list_any (bytes_eq t) terms then with_place (found old t) place else found old t)
+AreNoted place terms old new = (t : List ℕ) → found new t ≡ (if list_any (bytes_eq t) terms
+    then with_place (found old t) place else found old t)
 
 -- these places after those of a term, if there are any
 abbrev pub behind : Option (List ℕ) → List ℕ → Option (List ℕ)
@@ -44,7 +46,8 @@ behind places (p ∷ ps) = Some (unwrap_or places [] ++ p ∷ ps)
 
 -- the new table is the old one with these places after those of the term
 abbrev pub AreNotedBehind : List ℕ → List ℕ → Table → Table → Type 0
-AreNotedBehind term places old new = (t : List ℕ) → found new t ≡ (if bytes_eq t term then behind (found old t) places else found old t)
+AreNotedBehind term places old new = (t : List ℕ) → found new t
+    ≡ (if bytes_eq t term then behind (found old t) places else found old t)
 
 -- the terms of the pieces of a text between blanks
 abbrev pub piece_terms : List (List ℕ) → List (List ℕ)

@@ -1,4 +1,5 @@
-ghost use Rattle.std.specs.Prelude.{◌≡◌, ℕ, ◌<◌, List, [], ◌∷◌, ◌++◌, codes, map, flat_map, position, string_bytes, IfOk, OnOk};
+ghost use Rattle.std.specs.Prelude.{◌≡◌, ℕ, ◌<◌, List, [], ◌∷◌, ◌++◌, codes, map, flat_map, position, string_bytes};
+ghost use Rattle.std.specs.Prelude.{IfOk, OnOk};
 ghost use Rattle.std.specs.List.{slice_split, AllByRecursion};
 ghost use Rattle.std.specs.List.Sorted.{IsStrictlySortedBy};
 ghost use Rattle.std.specs.Map.{keys_of};
@@ -71,7 +72,8 @@ impl TermCollector {
 
     // The text is lowered.
     fn note_words(&mut self, text: &str, place: u32) -> Result<(), NoMemory>
-        ensures { OnOk result (AreNoted place (piece_terms (slice_split is_blank text.now)) self.old.table self.new.table) }
+        ensures { OnOk result (AreNoted place
+            (piece_terms (slice_split is_blank text.now)) self.old.table self.new.table) }
     {
         let mut rest = text.as_bytes();
         while let Some(end) = word_end(rest) {
@@ -97,7 +99,8 @@ impl TermCollector {
     }
 
     fn note_labels(&mut self, labels: &[Path], place: u32) -> Result<(), NoMemory>
-        ensures noted { OnOk result (AreNoted place (path_terms (flat_map prefixes labels.now)) self.old.table self.new.table) }
+        ensures noted { OnOk result (AreNoted place (path_terms
+            (flat_map prefixes labels.now)) self.old.table self.new.table) }
         ensures fit { OnOk result (AllByRecursion IsPath labels.now) }
     {
         for label in labels {

@@ -42,7 +42,8 @@ pub fn put_records(
     out: &mut Vec<u8>,
     entries: &[Entry],
 ) -> Result<(Vec<usize>, Vec<usize>), NoMemory>
-    ensures { IfOk result (λ marks. AreRecordsPut out.old.items out.new.items marks.0.items marks.1.items (map stored_of entries.now)) }
+    ensures { IfOk result (λ marks. AreRecordsPut out.old.items out.new.items marks.0.items marks.1.items
+        (map stored_of entries.now)) }
 {
     let mut marks = Vec::with_capacity(alloc, entries.len())?;
     let mut counted = Vec::with_capacity(alloc, entries.len())?;

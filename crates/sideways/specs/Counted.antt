@@ -1,5 +1,6 @@
 -- What a pass finds and counts, segment by segment.
-use Rattle.std.specs.Prelude.{◌≡◌, ℕ, ◌+◌, ◌<◌, ◌≤◌, ◌++◌, ◌/◌, ◌&&◌, Bool, nat_le, filter, true, not, List, [], ◌∷◌, length, take, map, flat_map, Some, sum_by}
+use Rattle.std.specs.Prelude.{◌≡◌, ℕ, ◌+◌, ◌<◌, ◌≤◌, ◌++◌, ◌/◌, ◌&&◌, Bool, nat_le, filter, true, not, List, [], ◌∷◌}
+use Rattle.std.specs.Prelude.{length, take, map, flat_map, Some, sum_by}
 use Rattle.std.specs.List.{list_any, AllZip, AllByRecursion}
 use Rattle.std.specs.Str.{bytes_eq}
 use Rattle.facet_model.specs.CountedPaths.{places}
@@ -74,7 +75,8 @@ placed base [] = []
 placed base (p ∷ ps) = ranks_from base p.segment p.left ++ placed (base + live_in p.segment) ps
 
 -- The first places of a part were taken, counted and noted.
-pub record IsTaking (old new : PartLeft) (before after : Tally) (base limit : ℕ) (hits more : List ℕ) (number : ℕ) : Type 0 where
+pub record IsTaking (old new : PartLeft) (before after : Tally) (base limit : ℕ) (hits more : List ℕ)
+    (number : ℕ) : Type 0 where
   pub first : List ℕ
   pub left : old.left ≡ first ++ new.left
   pub segment : new.segment ≡ old.segment
@@ -85,7 +87,8 @@ pub record IsTaking (old new : PartLeft) (before after : Tally) (base limit : �
 
 -- where the first places so far were noted, they still are with those of the part
 abbrev pub IsNoting : PartLeft → ℕ → ℕ → List ℕ → List ℕ → Type 0
-IsNoting part base limit hits more = (before : List ℕ) → hits ≡ take limit before → more ≡ take limit (before ++ ranks_from base part.segment part.left)
+IsNoting part base limit hits more = (before : List ℕ) → hits ≡ take limit before
+    → more ≡ take limit (before ++ ranks_from base part.segment part.left)
 
 -- ---- one pass over all segments
 

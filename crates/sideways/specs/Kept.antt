@@ -1,5 +1,6 @@
 -- The invariants of a plan and of an answer.
-use Rattle.std.specs.Prelude.{◌≡◌, ℕ, min, ◌<◌, ◌≤◌, ◌&&◌, ◌++◌, ◌∷◌, Bool, true, List, [], filter, length, slice_index_or, take, Option, Some, None}
+use Rattle.std.specs.Prelude.{◌≡◌, ℕ, min, ◌<◌, ◌≤◌, ◌&&◌, ◌++◌, ◌∷◌, Bool, true, List, [], filter, length}
+use Rattle.std.specs.Prelude.{slice_index_or, take, Option, Some, None}
 use Rattle.std.specs.List.{list_any, AllByRecursion}
 use Rattle.std.specs.Str.{bytes_eq}
 use Rattle.std.specs.Vec.{vec_capacity}
@@ -59,11 +60,13 @@ pub record HasParts (test : Doc → Bool) (segments : List Records) (old new : P
 
 -- the pass of the dimension has one part more: the near misses of a segment
 abbrev pub HasNear : QueryTree → List (List (List ℕ)) → Records → LiftedPass → LiftedPass → Type 0
-HasNear query drill segment old new = (new.dim ≡ old.dim) × HasPart (is_near query drill old.dim.now) segment old.pass new.pass
+HasNear query drill segment old new = (new.dim ≡ old.dim)
+    × HasPart (is_near query drill old.dim.now) segment old.pass new.pass
 
 -- the same for each segment
 abbrev pub HasNears : QueryTree → List (List (List ℕ)) → List Records → LiftedPass → LiftedPass → Type 0
-HasNears query drill segments old new = (new.dim ≡ old.dim) × HasParts (is_near query drill old.dim.now) segments old.pass new.pass
+HasNears query drill segments old new = (new.dim ≡ old.dim)
+    × HasParts (is_near query drill old.dim.now) segments old.pass new.pass
 
 -- The segments have documents, no ask is rejected, and there is a pass for the hits and, if sideways, for each drilled
 -- dimension.
@@ -73,7 +76,8 @@ pub record IsPlan (q : Question) (pass : Pass) (lifted : List LiftedPass) : Type
   pub fit : first_refused q.config q.asks ≡ None
   pub hits : IsPassOf q (passes_all q.query q.drill None) q.segments pass
   pub each : AllByRecursion (λ l. IsLiftedOf q q.segments l) lifted
-  pub covers : (dim : List ℕ) → list_any (λ l. bytes_eq l.dim.now dim) lifted ≡ (q.sideways && list_any (λ path. bytes_eq (dim_of path) dim) q.drill)
+  pub covers : (dim : List ℕ) → list_any (λ l. bytes_eq l.dim.now dim) lifted
+      ≡ (q.sideways && list_any (λ path. bytes_eq (dim_of path) dim) q.drill)
 
 -- The pass has one part more: the records at the places of a set.
 pub record IsGivenSet (segment : Records) (set : Marked) (old new : LiftedPass) : Type 0 where
@@ -89,7 +93,8 @@ pub record IsGivenSets (segment : Records) (sets : List Marked) (k : ℕ) (old n
   pub rest : (j : ℕ) (l : LiftedPass) → k ≤ j → slice_index_or new j l ≡ slice_index_or old j l
 
 -- There is capacity for the places of the wanted hits, at most a million, and for the counts of each pass.
-pub record HasRoom (wanted : ℕ) (lifted : List LiftedPass) (places : Vec ℕ Global) (counted : Vec LiftedCounts Global) : Type 0 where
+pub record HasRoom (wanted : ℕ) (lifted : List LiftedPass) (places : Vec ℕ Global)
+    (counted : Vec LiftedCounts Global) : Type 0 where
   pub no_places : places.items ≡ []
   pub for_places : min wanted 1000000 ≤ vec_capacity places
   pub no_counts : counted.items ≡ []
@@ -99,7 +104,8 @@ pub record HasRoom (wanted : ℕ) (lifted : List LiftedPass) (places : Vec ℕ G
 pub record AreCountsOf (q : Question) (lift : Option (List ℕ)) (counts : Totals) : Type 0 where
   pub labels : counts.labels ≡ q.labels
   pub config : counts.config ≡ q.config
-  pub each : (docs : List Doc) → HasDocs q docs → AreCounts counts (counted_of q (filter (passes_all q.query q.drill lift) docs))
+  pub each : (docs : List Doc) → HasDocs q docs
+      → AreCounts counts (counted_of q (filter (passes_all q.query q.drill lift) docs))
 
 -- the hits were counted
 abbrev pub AreHitsIn : Question → Tally → Type 0
@@ -111,6 +117,8 @@ pub record IsAnswered (q : Question) (found : Found) (lifted : List LiftedCounts
   pub fit : first_refused q.config q.asks ≡ None
   pub counts : AreCountsOf q None found.counts
   pub each : AllByRecursion (λ l. AreCountsOf q (Some l.dim.now) l.counts) lifted
-  pub covers : (dim : List ℕ) → list_any (λ l. bytes_eq l.dim.now dim) lifted ≡ (q.sideways && list_any (λ path. bytes_eq (dim_of path) dim) q.drill)
+  pub covers : (dim : List ℕ) → list_any (λ l. bytes_eq l.dim.now dim) lifted
+      ≡ (q.sideways && list_any (λ path. bytes_eq (dim_of path) dim) q.drill)
   pub number : (docs : List Doc) → HasDocs q docs → found.number ≡ length (hits docs q.query q.drill)
-  pub first : (docs : List Doc) → HasDocs q docs → found.places.items ≡ take q.hits (places (is_hit q.query q.drill) docs)
+  pub first : (docs : List Doc) → HasDocs q docs → found.places.items
+      ≡ take q.hits (places (is_hit q.query q.drill) docs)

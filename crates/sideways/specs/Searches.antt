@@ -35,7 +35,12 @@ abbrev pub records_of : List (Arc Records Global) → List Records
 records_of segments = map arc_value segments
 
 abbrev pub search_of : List (List (List ℕ)) → Config → List (Arc Records Global) → SearchAsk → Search
-search_of labels config segments ask = record { labels = labels; config = config; segments = records_of segments; ask = ask }
+search_of labels config segments ask = record {
+  labels = labels;
+  config = config;
+  segments = records_of segments;
+  ask = ask;
+}
 
 abbrev pub question_of : List (List (List ℕ)) → Config → List (Arc Records Global) → SearchAsk → Question
 question_of labels config segments ask = question (search_of labels config segments ask)

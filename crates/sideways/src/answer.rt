@@ -1,4 +1,5 @@
-ghost use Rattle.std.specs.Prelude.{◌≡◌, ◌<◌, List, Some, None, true, IfOk, length, map, option_map, slice_get, take, nat_lt};
+ghost use Rattle.std.specs.Prelude.{◌≡◌, ◌<◌, List, Some, None, true, IfOk, length, map, option_map, slice_get, take};
+ghost use Rattle.std.specs.Prelude.{nat_lt};
 ghost use Rattle.facet_counts.specs.Dims.{AreDims};
 ghost use Rattle.facet_counts.specs.Tallies.{AreCounts};
 ghost use Rattle.facet_model.specs.Asks.{Asked, all_dims, ask_fault, one_value};
@@ -49,7 +50,8 @@ impl<'a> Model for SidewaysAnswer<'a> {
 
     ghost view = { λ a. search_of a.view.now a.config.now a.segments.now a.ask.now };
 
-    ghost invariant = { λ a. IsAnswered (question_of a.view.now a.config.now a.segments.now a.ask.now) a.found a.lifted.items };
+    ghost invariant = { λ a. IsAnswered
+        (question_of a.view.now a.config.now a.segments.now a.ask.now) a.found a.lifted.items };
 }
 
 // Returns the results of all dimensions, the dimension that was added last first.
@@ -78,7 +80,8 @@ fn each_dim(
 impl<'a> SidewaysAnswer<'a> {
     /// Returns the number of hits, which are live documents. It takes constant time and allocates nothing.
     pub fn hit_count(&self) -> u64
-        ensures { (docs : List Doc) → HasDocs (question self.now) docs → result ≡ length (hits docs (question self.now).query (question self.now).drill) }
+        ensures { (docs : List Doc) → HasDocs (question self.now) docs
+            → result ≡ length (hits docs (question self.now).query (question self.now).drill) }
     {
         self.found.number
     }
@@ -87,7 +90,8 @@ impl<'a> SidewaysAnswer<'a> {
     /// documents of all segments from 0. It takes constant time.
     pub fn hits(&self) -> &[u32]
         ensures { (docs : List Doc) → HasDocs (question self.now) docs
-            → result.now ≡ take (question self.now).hits (places (is_hit (question self.now).query (question self.now).drill) docs) }
+            → result.now ≡ take (question self.now).hits (places
+            (is_hit (question self.now).query (question self.now).drill) docs) }
     {
         &self.found.places
     }
@@ -113,7 +117,8 @@ impl<'a> SidewaysAnswer<'a> {
 
     // Returns whether a live document of the snapshot has the path.
     fn exists(&self, alloc: Global, path: &Path) -> Result<bool, NoMemory>
-        ensures { IfOk result (λ b. (docs : List Doc) → HasDocs (question self.now) docs → b ≡ nat_lt 0 (count docs path.now)) }
+        ensures { IfOk result (λ b. (docs : List Doc) → HasDocs (question self.now) docs
+            → b ≡ nat_lt 0 (count docs path.now)) }
     {
         let term = path_term(alloc, path)?;
         for segment in self.segments {
@@ -138,7 +143,8 @@ impl<'a> SidewaysAnswer<'a> {
     fn top_of(&self, alloc: Global, path: &Path, n: u32) -> Result<Option<FacetResult>, NoMemory>
         requires { 0 < n }
         ensures { IfOk result (λ r. (docs : List Doc) → HasDocs (question self.now) docs
-            → IsTop self.now.config (docs_of (question self.now) docs (dim_of path.now)) path.now n (option_map result_view r)) }
+            → IsTop self.now.config (docs_of (question self.now) docs (dim_of path.now)) path.now n
+            (option_map result_view r)) }
     {
         self.counts(path.dim()).top(alloc, path, n)
     }
@@ -162,7 +168,8 @@ impl<'a> SidewaysAnswer<'a> {
     /// Errors: out of memory.
     pub fn answer(&self, alloc: Global, ask: usize) -> Result<FacetAnswer, NoMemory>
         requires { ask < length (question self.now).asks }
-        ensures { IfOk result (λ a. (docs : List Doc) (asked : Asked) → HasDocs (question self.now) docs → slice_get (question self.now).asks ask ≡ Some asked
+        ensures { IfOk result (λ a. (docs : List Doc) (asked : Asked) → HasDocs (question self.now) docs
+            → slice_get (question self.now).asks ask ≡ Some asked
             → IsAnswer self.now.config docs (docs_of (question self.now) docs) asked (answer_view a)) }
     {
         match &self.ask.asks[ask] {

@@ -61,11 +61,13 @@ pub(crate) fn in_common(
     docs: u32,
     dead: &[u32],
 ) -> Result<Bits, NoMemory>
-    requires within { (among : List Doc) × (test : Doc → Bool) × AreAllOf among test nodes.items × (docs ≡ length among) }
+    requires within { (among : List Doc) × (test : Doc → Bool) × AreAllOf among test nodes.items
+        × (docs ≡ length among) }
     requires rise { IsRising dead.now }
     requires below { AllByRecursion (IsBelow docs) dead.now }
     ensures words { IfOk result (λ b. b.words ≡ (docs + 63) / 64) }
-    ensures places { IfOk result (λ b. (among : List Doc) (test : Doc → Bool) → docs ≡ length among → AreAllOf among test nodes.entry.items
+    ensures places { IfOk result (λ b. (among : List Doc) (test : Doc → Bool) → docs ≡ length among
+        → AreAllOf among test nodes.entry.items
         → b.places ≡ without (places test among) dead.now) }
 {
     let mut nodes = nodes;

@@ -63,7 +63,8 @@ fn counts_over<'a>(
     ask: &SearchAsk,
     dim: &str,
 ) -> Result<Counts<'a>, NoMemory>
-    requires { (docs : List Doc) × Decodes view.now config.now (records_of segments.now) docs × (length docs ≤ 1000000) }
+    requires { (docs : List Doc) × Decodes view.now config.now (records_of segments.now) docs
+        × (length docs ≤ 1000000) }
     ensures { IfOk result (λ k. AreCountsOf (question_of view.now config.now segments.now ask.now) (Some dim.now) k) }
 {
     let pass = pass_over(alloc, view, config, segments, ask, Some(dim))?;
@@ -79,10 +80,13 @@ fn each_count<'a>(
     segments: &'a [Arc<Segment>],
     ask: &'a SearchAsk,
 ) -> Result<Vec<LiftedCounts<'a>>, NoMemory>
-    requires { (docs : List Doc) × Decodes view.now config.now (records_of segments.now) docs × (length docs ≤ 1000000) }
-    ensures each { IfOk result (λ v. AllByRecursion (λ l. AreCountsOf (question_of view.now config.now segments.now ask.now) (Some l.dim.now) l.counts)
+    requires { (docs : List Doc) × Decodes view.now config.now (records_of segments.now) docs
+        × (length docs ≤ 1000000) }
+    ensures each { IfOk result (λ v. AllByRecursion (λ l. AreCountsOf
+        (question_of view.now config.now segments.now ask.now) (Some l.dim.now) l.counts)
         v.items) }
-    ensures covers { IfOk result (λ v. (dim : List ℕ) → list_any (λ l. bytes_eq l.dim.now dim) v.items ≡ (ask.now.sideways && is_drilled ask.now.drill dim)) }
+    ensures covers { IfOk result (λ v. (dim : List ℕ) → list_any (λ l. bytes_eq l.dim.now dim) v.items
+        ≡ (ask.now.sideways && is_drilled ask.now.drill dim)) }
 {
     let mut counted = Vec::new(alloc);
     if !ask.sideways {
@@ -111,10 +115,13 @@ pub fn plain<'a>(
     segments: &'a [Arc<Segment>],
     ask: &'a SearchAsk,
 ) -> Result<SidewaysAnswer<'a>, AskRefused>
-    requires { (docs : List Doc) × Decodes view.now config.now (records_of segments.now) docs × (length docs ≤ 1000000) }
+    requires { (docs : List Doc) × Decodes view.now config.now (records_of segments.now) docs
+        × (length docs ≤ 1000000) }
     ensures answer { IfOk result (λ a. a ≡ search_of view.now config.now segments.now ask.now) }
-    ensures refused { (r : AskRefused) → first_refused config.now (map ask_view ask.now.asks.items) ≡ Some r → result ≡ Err r }
-    ensures memory { first_refused config.now (map ask_view ask.now.asks.items) ≡ None → IfErr result (λ e. e ≡ Memory) }
+    ensures refused { (r : AskRefused) → first_refused config.now (map ask_view ask.now.asks.items) ≡ Some r
+        → result ≡ Err r }
+    ensures memory { first_refused config.now (map ask_view ask.now.asks.items) ≡ None
+        → IfErr result (λ e. e ≡ Memory) }
 {
     if let Some(refused) = first_refusal(config, &ask.asks) {
         return Err(refused);
@@ -133,7 +140,8 @@ fn plain_answer<'a>(
     segments: &'a [Arc<Segment>],
     ask: &'a SearchAsk,
 ) -> Result<SidewaysAnswer<'a>, NoMemory>
-    requires docs { (docs : List Doc) × Decodes view.now config.now (records_of segments.now) docs × (length docs ≤ 1000000) }
+    requires docs { (docs : List Doc) × Decodes view.now config.now (records_of segments.now) docs
+        × (length docs ≤ 1000000) }
     requires fit { first_refused config.now (map ask_view ask.now.asks.items) ≡ None }
     ensures { IfOk result (λ a. a ≡ search_of view.now config.now segments.now ask.now) }
 {

@@ -1,6 +1,7 @@
 //! The parts of one segment: the hits, and for each drilled dimension its near misses, the documents that only it
 //! excludes. Dead records are in none.
-ghost use Rattle.std.specs.Prelude.{◌≡◌, ◌==◌, ◌+◌, ◌/◌, ◌&&◌, ◌∷◌, ◌++◌, [], Bool, ℕ, List, None, IfOk, OnOk, length, map, slice_index_or};
+ghost use Rattle.std.specs.Prelude.{◌≡◌, ◌==◌, ◌+◌, ◌/◌, ◌&&◌, ◌∷◌, ◌++◌, [], Bool, ℕ, List, None, IfOk, OnOk, length};
+ghost use Rattle.std.specs.Prelude.{map, slice_index_or};
 ghost use Rattle.std.specs.List.{AllByRecursion, AllZip, list_any};
 ghost use Rattle.std.specs.Str.{bytes_eq};
 ghost use Rattle.facet_model.specs.CountedPaths.{places};
@@ -58,7 +59,8 @@ fn leave_near(alloc: Global, docs: u32, base: &mut Bits, dims: &mut [Bits]) -> R
     requires words { base.old.words ≡ (docs + 63) / 64 }
     requires dims { HaveWords base.old.words dims.old }
     ensures words { OnOk result (base.new.words ≡ base.old.words) }
-    ensures hits { OnOk result ((n : ℕ) → is_in n base.new.places ≡ (is_in n base.old.places && fails dims.old n == 0)) }
+    ensures hits { OnOk result ((n : ℕ) → is_in n base.new.places
+        ≡ (is_in n base.old.places && fails dims.old n == 0)) }
     ensures rising { OnOk result (IsRising base.new.places) }
     ensures near { OnOk result (AllZip (IsNear base.old.places dims.old) dims.old dims.new) }
 {
@@ -77,18 +79,22 @@ fn near_sets(
     base: Vec<PlanNode<'_>>,
     dims: Vec<PlanNode<'_>>,
 ) -> Result<NearSets, NoMemory>
-    requires within { (among : List Doc) × (test : Doc → Bool) × (tests : List (Doc → Bool)) × AreAllOf among test base.items
+    requires within { (among : List Doc) × (test : Doc → Bool) × (tests : List (Doc → Bool))
+        × AreAllOf among test base.items
         × AreNodesFor among tests dims.items × (docs ≡ length among) }
     requires rise { IsRising dead.now }
     requires below { AllByRecursion (IsBelow docs) dead.now }
     ensures hits_words { IfOk result (λ s. s.hits.words ≡ (docs + 63) / 64) }
     ensures near_words { IfOk result (λ s. HaveWords ((docs + 63) / 64) s.near.items) }
-    ensures hits { IfOk result (λ s. (among : List Doc) (test : Doc → Bool) (tests : List (Doc → Bool)) → docs ≡ length among
+    ensures hits { IfOk result (λ s. (among : List Doc) (test : Doc → Bool) (tests : List (Doc → Bool))
+        → docs ≡ length among
         → AreAllOf among test base.entry.items → AreNodesFor among tests dims.entry.items
         → s.hits.places ≡ without (places (λ doc. test doc && passes_tests tests doc) among) dead.now) }
-    ensures near { IfOk result (λ s. (among : List Doc) (test : Doc → Bool) (tests : List (Doc → Bool)) → docs ≡ length among
+    ensures near { IfOk result (λ s. (among : List Doc) (test : Doc → Bool) (tests : List (Doc → Bool))
+        → docs ≡ length among
         → AreAllOf among test base.entry.items → AreNodesFor among tests dims.entry.items
-        → AllZip (λ t set. set.places ≡ without (places (λ doc. test doc && fails_alone tests t doc) among) dead.now) tests s.near.items) }
+        → AllZip (λ t set. set.places ≡ without (places (λ doc. test doc
+        && fails_alone tests t doc) among) dead.now) tests s.near.items) }
 {
     let mut hits = in_common(alloc, base, docs, dead)?;
     let mut near = marked_each(alloc, dims, docs)?;
@@ -123,7 +129,8 @@ fn add_walks<'a>(
     lifted: &mut Vec<LiftedPass<'a>>,
 ) -> Result<(), NoMemory>
     requires { (docs : List Doc) × HasTermsOf segment.now docs }
-    ensures { OnOk result (AllZip (HasNear (query_view query.now) drill.now segment.now) lifted.old.items lifted.new.items) }
+    ensures { OnOk result (AllZip
+        (HasNear (query_view query.now) drill.now segment.now) lifted.old.items lifted.new.items) }
 {
     for one in lifted.iter_mut() {
         let part = Part::near(alloc, segment, query, drill, one.dim)?;
@@ -143,10 +150,13 @@ pub(crate) fn add_segment<'a>(
     lifted: &mut Vec<LiftedPass<'a>>,
 ) -> Result<(), NoMemory>
     requires has { (docs : List Doc) × HasTermsOf segment.now docs }
-    requires covers { (sideways : Bool) × ((dim : List ℕ) → list_any (λ l. bytes_eq l.dim.now dim) lifted.old.items ≡ (sideways && is_drilled drill.now dim)) }
+    requires covers { (sideways : Bool) × ((dim : List ℕ) → list_any (λ l. bytes_eq l.dim.now dim) lifted.old.items
+        ≡ (sideways && is_drilled drill.now dim)) }
     requires distinct { AreDistinct (map dim_in lifted.old.items) }
-    ensures hits { OnOk result (HasPart (passes_all (query_view query.now) drill.now None) segment.now hits.old hits.new) }
-    ensures lifted { OnOk result (AllZip (HasNear (query_view query.now) drill.now segment.now) lifted.old.items lifted.new.items) }
+    ensures hits { OnOk result
+        (HasPart (passes_all (query_view query.now) drill.now None) segment.now hits.old hits.new) }
+    ensures lifted { OnOk result
+        (AllZip (HasNear (query_view query.now) drill.now segment.now) lifted.old.items lifted.new.items) }
 {
     if lifted.is_empty() {
         let part = Part::new(alloc, segment, query, drill, None)?;

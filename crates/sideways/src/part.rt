@@ -80,7 +80,8 @@ impl<'a> Part<'a> {
         lifted: Option<&str>,
     ) -> Result<Part<'a>, NoMemory>
         requires { (docs : List Doc) × HasTermsOf segment.now docs }
-        ensures { IfOk result (λ p. IsPartOf (passes_all (query_view query.now) drill.now (text_in lifted.entry)) segment.now p) }
+        ensures { IfOk result (λ p. IsPartOf (passes_all (query_view query.now) drill.now
+            (text_in lifted.entry)) segment.now p) }
     {
         let nodes = nodes_of(alloc, segment, query, drill, lifted)?;
         Part::of_nodes(alloc, segment, nodes, lists_of(query, drill))
@@ -94,8 +95,10 @@ impl<'a> Part<'a> {
         nodes: Vec<PlanNode<'a>>,
         lists: u64,
     ) -> Result<Part<'a>, NoMemory>
-        requires { (docs : List Doc) × (test : Doc → Bool) × AreAllOf docs test nodes.items × HasTermsOf segment.now docs }
-        ensures { IfOk result (λ p. (test : Doc → Bool) → ((docs : List Doc) → HasTermsOf segment.now docs → AreAllOf docs test nodes.entry.items)
+        requires { (docs : List Doc) × (test : Doc → Bool) × AreAllOf docs test nodes.items
+            × HasTermsOf segment.now docs }
+        ensures { IfOk result (λ p. (test : Doc → Bool) → ((docs : List Doc) → HasTermsOf segment.now docs
+            → AreAllOf docs test nodes.entry.items)
             → IsPartOf test segment.now p) }
     {
         if nodes.is_empty() || are_many(&nodes, lists, segment.docs()) {

@@ -71,7 +71,8 @@ fn take_hits(
     requires few { base + live_in part.old.segment ≤ 1000000 }
     requires limit { length hits.old.items ≤ limit }
     requires capacity { limit ≤ vec_capacity hits.old }
-    ensures taking { IsTaking part.old part.new counter.old counter.new base limit hits.old.items hits.new.items result }
+    ensures taking { IsTaking part.old part.new counter.old counter.new base limit hits.old.items hits.new.items
+        result }
     ensures enough { (limit ≤ length hits.new.items) ⊎ (part.new.left ≡ []) }
     ensures capacity { vec_capacity hits.old ≤ vec_capacity hits.new }
 {
@@ -143,7 +144,8 @@ impl<'a> Pass<'a> {
     pub(crate) fn count(self, hits: &Counter<'_>) -> Counts<'a>
         requires ready { IsReady self.parts.items self.counter }
         requires room { HasRoomFor self.parts.items self.counter hits.now }
-        ensures counts { (others : List (List ℕ)) → HasAdded hits.now others → AreCounts result (lists_of self.entry.parts.items ++ others) }
+        ensures counts { (others : List (List ℕ)) → HasAdded hits.now others
+            → AreCounts result (lists_of self.entry.parts.items ++ others) }
         ensures labels { result.labels ≡ self.entry.counter.labels }
         ensures config { result.config ≡ self.entry.counter.config }
     {

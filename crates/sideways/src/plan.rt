@@ -81,7 +81,8 @@ fn lifted_passes<'a>(
     segments: &'a [Arc<Segment>],
     ask: &'a SearchAsk,
 ) -> Result<Vec<LiftedPass<'a>>, NoMemory>
-    ensures each { IfOk result (λ v. AllByRecursion (λ l. IsLiftedOf (question_of view.now config.now segments.now ask.now) [] l) v.items) }
+    ensures each { IfOk result (λ v. AllByRecursion (λ l. IsLiftedOf
+        (question_of view.now config.now segments.now ask.now) [] l) v.items) }
     ensures covers { IfOk result (λ v. (dim : List ℕ) → list_any (λ l. bytes_eq l.dim.now dim) v.items
         ≡ (ask.now.sideways && list_any (λ path. bytes_eq (dim_of path) dim) ask.now.drill)) }
     ensures distinct { IfOk result (λ v. AreDistinct (map dim_in v.items)) }
@@ -110,10 +111,13 @@ fn add_segments<'a>(
     lifted: &mut Vec<LiftedPass<'a>>,
 ) -> Result<(), NoMemory>
     requires has { AllByRecursion (λ s. (docs : List Doc) × HasTermsOf s docs) (records_of segments.now) }
-    requires covers { (dim : List ℕ) → list_any (λ l. bytes_eq l.dim.now dim) lifted.old.items ≡ (ask.now.sideways && is_drilled ask.now.drill dim) }
+    requires covers { (dim : List ℕ) → list_any (λ l. bytes_eq l.dim.now dim) lifted.old.items
+        ≡ (ask.now.sideways && is_drilled ask.now.drill dim) }
     requires distinct { AreDistinct (map dim_in lifted.old.items) }
-    ensures hits { OnOk result (HasParts (passes_all (query_view ask.now.query) ask.now.drill None) (records_of segments.now) hits.old hits.new) }
-    ensures lifted { OnOk result (AllZip (HasNears (query_view ask.now.query) ask.now.drill (records_of segments.now)) lifted.old.items lifted.new.items) }
+    ensures hits { OnOk result (HasParts (passes_all (query_view ask.now.query) ask.now.drill None)
+        (records_of segments.now) hits.old hits.new) }
+    ensures lifted { OnOk result (AllZip (HasNears (query_view ask.now.query) ask.now.drill
+        (records_of segments.now)) lifted.old.items lifted.new.items) }
 {
     for segment in segments {
         add_segment(alloc, segment, &ask.query, &ask.drill, hits, lifted)?;
@@ -131,9 +135,11 @@ fn count_lifted<'a>(
     requires capacity { length lifted.items ≤ vec_capacity counted }
     requires ready { AllByRecursion (λ l. IsReady l.pass.parts.items l.pass.counter) lifted.items }
     requires room { AllByRecursion (λ l. HasRoomFor l.pass.parts.items l.pass.counter hits.now) lifted.items }
-    ensures each { (q : Question) → AreHitsIn q hits.now → AllByRecursion (λ l. IsLiftedOf q q.segments l) lifted.entry.items
+    ensures each { (q : Question) → AreHitsIn q hits.now
+        → AllByRecursion (λ l. IsLiftedOf q q.segments l) lifted.entry.items
         → AllByRecursion (λ l. AreCountsOf q (Some l.dim.now) l.counts) result.items }
-    ensures covers { (dim : List ℕ) → list_any (λ l. bytes_eq l.dim.now dim) result.items ≡ list_any (λ l. bytes_eq l.dim.now dim) lifted.entry.items }
+    ensures covers { (dim : List ℕ) → list_any (λ l. bytes_eq l.dim.now dim) result.items
+        ≡ list_any (λ l. bytes_eq l.dim.now dim) lifted.entry.items }
 {
     let mut lifted = lifted;
     let mut counted = counted;
@@ -157,10 +163,13 @@ impl<'a> DrillPlan<'a> {
         segments: &'a [Arc<Segment>],
         ask: &'a SearchAsk,
     ) -> Result<DrillPlan<'a>, AskRefused>
-        requires { (docs : List Doc) × Decodes view.now config.now (records_of segments.now) docs × (length docs ≤ 1000000) }
+        requires { (docs : List Doc) × Decodes view.now config.now (records_of segments.now) docs
+            × (length docs ≤ 1000000) }
         ensures plan { IfOk result (λ p. p ≡ search_of view.now config.now segments.now ask.now) }
-        ensures refused { (r : AskRefused) → first_refused config.now (map ask_view ask.now.asks.items) ≡ Some r → result ≡ Err r }
-        ensures memory { first_refused config.now (map ask_view ask.now.asks.items) ≡ None → IfErr result (λ e. e ≡ Memory) }
+        ensures refused { (r : AskRefused) → first_refused config.now (map ask_view ask.now.asks.items) ≡ Some r
+            → result ≡ Err r }
+        ensures memory { first_refused config.now (map ask_view ask.now.asks.items) ≡ None
+            → IfErr result (λ e. e ≡ Memory) }
     {
         if let Some(refused) = first_refusal(config, &ask.asks) {
             return Err(refused);
@@ -179,7 +188,8 @@ impl<'a> DrillPlan<'a> {
         segments: &'a [Arc<Segment>],
         ask: &'a SearchAsk,
     ) -> Result<DrillPlan<'a>, NoMemory>
-        requires docs { (docs : List Doc) × Decodes view.now config.now (records_of segments.now) docs × (length docs ≤ 1000000) }
+        requires docs { (docs : List Doc) × Decodes view.now config.now (records_of segments.now) docs
+            × (length docs ≤ 1000000) }
         requires fit { first_refused config.now (map ask_view ask.now.asks.items) ≡ None }
         ensures { IfOk result (λ p. p ≡ search_of view.now config.now segments.now ask.now) }
     {

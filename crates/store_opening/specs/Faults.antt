@@ -8,7 +8,8 @@ use Rattle.label_file.specs.declared.fault.LabelsFault.TheVariants as labels
 use Rattle.seg_decoding.specs.declared.fault.StoredFault.{StoredFault}
 use Rattle.seg_decoding.specs.declared.fault.StoredFault.TheVariants as segments
 use Rattle.store_opening.specs.declared.fault.OpenFault.{OpenFault}
-use Rattle.store_opening.specs.declared.fault.OpenFault.TheVariants.{Disk, Missing, Damaged, Malformed, Uncovered, NumbersSpent, OtherConfig, NoMemory}
+use Rattle.store_opening.specs.declared.fault.OpenFault.TheVariants.{Disk, Missing, Damaged, Malformed, Uncovered}
+use Rattle.store_opening.specs.declared.fault.OpenFault.TheVariants.{NumbersSpent, OtherConfig, NoMemory}
 
 -- the fault of a disk call
 abbrev pub of_disk : DiskFault → OpenFault

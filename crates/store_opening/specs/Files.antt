@@ -1,5 +1,6 @@
 -- What the files of a store represent, or the first fault in reading them.
-use Rattle.std.specs.Prelude.{ℕ, ◌^◌, List, [], ◌∷◌, ◌||◌, length, Bool, is_some, nat_eq, nat_lt, nat_le, if◌then◌else◌, Option, Some, None, Result, Ok, Err}
+use Rattle.std.specs.Prelude.{ℕ, ◌^◌, List, [], ◌∷◌, ◌||◌, length, Bool, is_some, nat_eq, nat_lt, nat_le, if◌then◌else◌}
+use Rattle.std.specs.Prelude.{Option, Some, None, Result, Ok, Err}
 use Rattle.std.specs.Option.{option_map}
 use Rattle.std.specs.List.{find}
 use Rattle.std.specs.Str.{bytes_eq}
@@ -25,7 +26,8 @@ use Rattle.commit_file.specs.declared.index.DocumentPart.{DocumentPart}
 use Rattle.label_file.specs.LabelReading.{stored_labels}
 use Rattle.seg_decoding.specs.Opening.{stored_segment}
 use Rattle.store_opening.specs.declared.fault.OpenFault.{OpenFault}
-use Rattle.store_opening.specs.declared.fault.OpenFault.TheVariants.{Missing, Damaged, Malformed, Uncovered, NumbersSpent, OtherConfig, NoMemory}
+use Rattle.store_opening.specs.declared.fault.OpenFault.TheVariants.{Missing, Damaged, Malformed, Uncovered}
+use Rattle.store_opening.specs.declared.fault.OpenFault.TheVariants.{NumbersSpent, OtherConfig, NoMemory}
 
 -- the labels with the root, and the records and terms of each segment of documents
 pub record Found : Type 0 where
@@ -44,7 +46,8 @@ segments_in dir c n = c (file dir Segment n)
 
 -- a file of some kind has this number
 abbrev pub has_number : Image → ℕ → Bool
-has_number c n = is_some (c (file Taxonomy Segment n)) || is_some (c (file Taxonomy Pending n)) || is_some (c (file Taxonomy Commit n))
+has_number c n = is_some (c (file Taxonomy Segment n)) || is_some (c (file Taxonomy Pending n))
+    || is_some (c (file Taxonomy Commit n))
     || is_some (c (file Index Segment n)) || is_some (c (file Index Pending n)) || is_some (c (file Index Commit n))
 
 -- the greatest number of a file
@@ -67,7 +70,8 @@ of_file name file_faults.NoMemory = NoMemory
 -- the bytes of a segment that a commit names with its digest
 unfoldable pub segment_bytes : FileName → List ℕ → Option (List ℕ) → Result (List ℕ) OpenFault
 segment_bytes name kept None = Err (Missing name)
-segment_bytes name kept (Some bytes) = if bytes_eq (sha256 bytes) kept then Ok bytes else Err (Damaged name kept (sha256 bytes))
+segment_bytes name kept (Some bytes) =
+    if bytes_eq (sha256 bytes) kept then Ok bytes else Err (Damaged name kept (sha256 bytes))
 
 -- ---- the taxonomy
 
@@ -115,7 +119,8 @@ segment_of config labels needs segments part = do
   told_as (Malformed (file Index Segment part.number)) (stored_segment config labels needs part.documents bytes)
 
 -- the records of each of these segments
-unfoldable pub segments_of : Config → List (List (List ℕ)) → ℕ → Segments → List DocumentPart → Result (List Records) OpenFault
+unfoldable pub segments_of : Config → List (List (List ℕ)) → ℕ → Segments → List DocumentPart
+    → Result (List Records) OpenFault
 segments_of config labels needs segments [] = Ok []
 segments_of config labels needs segments (part ∷ parts) = do
   first ← segment_of config labels needs segments part
@@ -123,7 +128,8 @@ segments_of config labels needs segments (part ∷ parts) = do
   Ok (first ∷ others)
 
 -- the segments of a commit; without one there are none
-unfoldable pub index_in : Config → List (List (List ℕ)) → Option (ℕ × List ℕ) → Segments → Result (List Records) OpenFault
+unfoldable pub index_in : Config → List (List (List ℕ)) → Option (ℕ × List ℕ) → Segments
+    → Result (List Records) OpenFault
 index_in config labels None segments = Ok []
 index_in config labels (Some (n, bytes)) segments = do
   commit ← told_as (of_file (file Index Commit n)) (index_commit n bytes)

@@ -27,16 +27,19 @@ next_after (Some n) = n + 1
 -- the number of the taxonomy's newest commit, and its segments, which hold all labels except the root
 abbrev pub IsNewestTaxonomy : Option (ℕ × List ℕ) → Option ℕ → List LabelPart → List (List (List ℕ)) → Type 0
 IsNewestTaxonomy None number parts labels = (number ≡ None) × (parts ≡ [])
-IsNewestTaxonomy (Some (n, bytes)) number parts labels = (number ≡ Some n) × (taxonomy_commit n bytes ≡ Ok (labels_listed (length labels) parts))
+IsNewestTaxonomy (Some (n, bytes)) number parts labels = (number ≡ Some n)
+    × (taxonomy_commit n bytes ≡ Ok (labels_listed (length labels) parts))
 
 -- the number of the index's newest commit, and its segments
 abbrev pub IsNewestIndex : Option (ℕ × List ℕ) → Option ℕ → List DocumentPart → Type 0
 IsNewestIndex None number parts = (number ≡ None) × (parts ≡ [])
-IsNewestIndex (Some (n, bytes)) number parts = (number ≡ Some n) × ((needs : ℕ) × (kept : Config) × (index_commit n bytes ≡ Ok (documents_listed needs kept parts)))
+IsNewestIndex (Some (n, bytes)) number parts = (number ≡ Some n)
+    × ((needs : ℕ) × (kept : Config) × (index_commit n bytes ≡ Ok (documents_listed needs kept parts)))
 
 -- a segment that a commit names: it has the named digest and number of documents, and is the segment of its bytes and
 -- of its documents
-pub record IsNamedAs (config : Config) (labels : List (List (List ℕ))) (part : DocumentPart) (segment : Records) : Type 0 where
+pub record IsNamedAs (config : Config) (labels : List (List (List ℕ))) (part : DocumentPart)
+    (segment : Records) : Type 0 where
   pub documents : length segment.records ≡ part.documents
   pub digest : sha256 (seg_bytes segment) ≡ part.digest
   pub own : IsSegment (seg_bytes segment) segment

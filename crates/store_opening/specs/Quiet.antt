@@ -39,7 +39,8 @@ pub record IsRead {D T : Type 0} (disk : Ghosts D) (old new : D) (result : Resul
 
 -- if this is true of the files on the disk, a fault of the disk is an I/O error
 abbrev pub FailsOnly : {D T : Type 0} → Ghosts D → (Image → Type 0) → D → D → Result T OpenFault → Type 0
-FailsOnly disk known old new result = (s : Told) → disk.told old ≡ Some s → known s.files → IsErrOf result Disk → Rose (disk.failures old) (disk.failures new)
+FailsOnly disk known old new result = (s : Told) → disk.told old ≡ Some s → known s.files → IsErrOf result Disk
+    → Rose (disk.failures old) (disk.failures new)
 
 -- ---- what it found
 

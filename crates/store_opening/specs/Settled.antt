@@ -40,11 +40,15 @@ there segments (n ∷ ns) = before n (segments n) (there segments ns)
 
 -- a directory's newest commit file, and the segments that it names
 abbrev pub held_in : Dir → Image → Held
-held_in dir c = record { commit = newest_file dir c; segments = there (segments_in dir c) (named dir (newest_file dir c)) }
+held_in dir c = record {
+  commit = newest_file dir c;
+  segments = there (segments_in dir c) (named dir (newest_file dir c));
+}
 
 -- each image represents what the disk reads, and has the commit files with the greatest numbers and the segments that
 -- these name
 pub record IsSettled {D : Type 0} (disk : Ghosts D) (config : Config) (s : Told) (now : D) : Type 0 where
   pub same : (c : Image) → disk.may_leave now c → files config c ≡ files config s.files
   pub commits : (dir : Dir) (c : Image) → disk.may_leave now c → newest_file dir c ≡ newest_file dir s.files
-  pub segments : (dir : Dir) (c : Image) → disk.may_leave now c → All (λ n. segments_in dir c n ≡ segments_in dir s.files n) (named dir (newest_file dir s.files))
+  pub segments : (dir : Dir) (c : Image) → disk.may_leave now c
+      → All (λ n. segments_in dir c n ≡ segments_in dir s.files n) (named dir (newest_file dir s.files))

@@ -1,5 +1,6 @@
 //! Reading the index of a disk.
-ghost use Rattle.std.specs.Prelude.{◌≡◌, ◌≢◌, ◌≤◌, ◌++◌, [], ◌∷◌, ℕ, List, Option, Some, Ok, Err, length, map, IfOk, IfErr, OnOk, IsErrOf};
+ghost use Rattle.std.specs.Prelude.{◌≡◌, ◌≢◌, ◌≤◌, ◌++◌, [], ◌∷◌, ℕ, List, Option, Some, Ok, Err, length, map, IfOk};
+ghost use Rattle.std.specs.Prelude.{IfErr, OnOk, IsErrOf};
 ghost use Rattle.std.specs.Arc.{arc_value};
 ghost use Rattle.std.specs.List.{AllZip, sum_by};
 ghost use Rattle.facet_codec.specs.Faults.{told_as};
@@ -11,7 +12,8 @@ ghost use Rattle.commit_file.specs.Commits.{index_listing, documents_of};
 ghost use Rattle.commit_file.specs.Reading.{index_commit};
 ghost use Rattle.store_opening.specs.declared.fault.OpenFault.TheVariants.{Disk, NoMemory as Memory};
 ghost use Rattle.store_opening.specs.Faults.{IsSound};
-ghost use Rattle.store_opening.specs.Files.{segments_in, of_file, same_flags, agrees, segment_of, segments_of, index_in};
+ghost use Rattle.store_opening.specs.Files.{segments_in, of_file, same_flags, agrees, segment_of, segments_of};
+ghost use Rattle.store_opening.specs.Files.{index_in};
 ghost use Rattle.store_opening.specs.Newest.{AreListed, IsNewestIndex, IsNamedAs};
 ghost use Rattle.store_opening.specs.Quiet.{IsRead, FailsOnly, OfListed, OfFiles};
 
@@ -51,7 +53,8 @@ fn read_document_part<D: Disk>(
     part: DocumentPart,
 ) -> Result<Segment, OpenFault>
     requires { needs ≤ length labels.now }
-    ensures ok { IfOk result (λ v. OfListed D.Disk listed.now disk.old (λ c. segment_of config.now labels.now needs (segments_in Dir.Index c) part ≡ Ok v)) }
+    ensures ok { IfOk result (λ v. OfListed D.Disk listed.now disk.old
+        (λ c. segment_of config.now labels.now needs (segments_in Dir.Index c) part ≡ Ok v)) }
     ensures named { IfOk result (λ v. IsNamedAs config.now labels.now part v) }
     ensures err { OfFiles result (λ e. OfListed D.Disk listed.now disk.old (λ c.
         segment_of config.now labels.now needs (segments_in Dir.Index c) part ≡ Err e)) }
@@ -116,7 +119,8 @@ fn commit_of(
     ensures ok { IfOk result (λ c. index_commit found.now.number found.now.bytes.items ≡ Ok (index_listing c)) }
     ensures few { IfOk result (λ c. sum_by documents_of c.parts.items ≤ 1000000) }
     ensures err { IfErr result (λ e. e ≢ Memory
-        → told_as (of_file (file Dir.Index Kind.Commit found.now.number)) (index_commit found.now.number found.now.bytes.items) ≡ Err e) }
+        → told_as (of_file (file Dir.Index Kind.Commit found.now.number))
+        (index_commit found.now.number found.now.bytes.items) ≡ Err e) }
     ensures sound { IfErr result IsSound }
 {
     let name = FileName {
@@ -154,7 +158,8 @@ fn check_commit(
 ) -> Result<(), OpenFault>
     ensures ok { IfOk result (λ _. agrees config.now (length labels.now) (index_listing commit.now) ≡ Ok tt) }
     ensures needs { IfOk result (λ _. commit.now.needs ≤ length labels.now) }
-    ensures err { IfErr result (λ e. e ≢ Memory → agrees config.now (length labels.now) (index_listing commit.now) ≡ Err e) }
+    ensures err { IfErr result (λ e. e ≢ Memory → agrees config.now (length labels.now) (index_listing commit.now)
+        ≡ Err e) }
     ensures device { IfErr result (λ e. e ≢ Disk) }
     ensures sound { IfErr result IsSound }
 {
@@ -179,9 +184,12 @@ pub(crate) fn read_index<D: Disk>(
     listed: &Names,
 ) -> Result<IndexRead, OpenFault>
     ensures ok { IfOk result (λ r. OfListed D.Disk listed.now disk.old (λ c.
-        index_in config.now labels.now (newest_file Dir.Index c) (segments_in Dir.Index c) ≡ Ok (map arc_value r.segments.items))) }
-    ensures newest { IfOk result (λ r. OfListed D.Disk listed.now disk.old (λ c. IsNewestIndex (newest_file Dir.Index c) r.number r.parts.items)) }
-    ensures named { IfOk result (λ r. AllZip (IsNamedAs config.now labels.now) r.parts.items (map arc_value r.segments.items)) }
+        index_in config.now labels.now (newest_file Dir.Index c) (segments_in Dir.Index c)
+        ≡ Ok (map arc_value r.segments.items))) }
+    ensures newest { IfOk result (λ r. OfListed D.Disk listed.now disk.old
+        (λ c. IsNewestIndex (newest_file Dir.Index c) r.number r.parts.items)) }
+    ensures named { IfOk result (λ r. AllZip (IsNamedAs config.now labels.now) r.parts.items
+        (map arc_value r.segments.items)) }
     ensures few { IfOk result (λ r. sum_by documents_of r.parts.items ≤ 1000000) }
     ensures err { OfFiles result (λ e. OfListed D.Disk listed.now disk.old (λ c.
         index_in config.now labels.now (newest_file Dir.Index c) (segments_in Dir.Index c) ≡ Err e)) }

@@ -1,6 +1,7 @@
 //! Laws of what files represent, for proofs of other crates. Each call does nothing: its contract is the law.
 
-ghost use Rattle.store_opening.specs.Laws.{StandsForHeld, HoldsFiles, SettledStands, StandsSettles, OneImageSettles, QuietStays};
+ghost use Rattle.store_opening.specs.Laws.{StandsForHeld, HoldsFiles, SettledStands, StandsSettles, OneImageSettles};
+ghost use Rattle.store_opening.specs.Laws.{QuietStays};
 ghost use Rattle.store_opening.specs.Stopped.{StoppedSettles};
 
 use facet_disk::{Disk, MemoryDisk};

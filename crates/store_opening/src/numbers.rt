@@ -1,5 +1,6 @@
 //! The numbers of files.
-ghost use Rattle.std.specs.Prelude.{◌≡◌, ◌≢◌, ◌<◌, ◌≤◌, ◌^◌, ◌&&◌, max, Some, Ok, Err, IfOk, IfErr, IfSome, if◌then◌else◌, Contains};
+ghost use Rattle.std.specs.Prelude.{◌≡◌, ◌≢◌, ◌<◌, ◌≤◌, ◌^◌, ◌&&◌, max, Some, Ok, Err, IfOk, IfErr, IfSome};
+ghost use Rattle.std.specs.Prelude.{if◌then◌else◌, Contains};
 ghost use Rattle.std.specs.Option.{option_map_or};
 ghost use Rattle.facet_disk.specs.declared.name.FileName.{FileName};
 ghost use Rattle.facet_disk.specs.declared.name.Kind.TheVariants.{Commit};

@@ -58,17 +58,22 @@ pub fn read_store<D: Disk>(
     // The result is what the files represent, or their first fault, unless it is out of memory or a call of the disk
     // failed.
     ensures ok { IfOk result (λ r. (s : Told) → D.told disk.old ≡ Some s → files config.now s.files ≡ Ok (found r)) }
-    ensures err { IfErr result (λ e. e ≢ Memory → e ≢ Disk → (s : Told) → D.told disk.old ≡ Some s → files config.now s.files ≡ Err e) }
+    ensures err { IfErr result (λ e. e ≢ Memory → e ≢ Disk → (s : Told) → D.told disk.old ≡ Some s
+        → files config.now s.files ≡ Err e) }
     ensures read { IsRead D.Disk disk.old disk.new result }
-    ensures failed { (s : Told) → D.told disk.old ≡ Some s → IsErrOf result Disk → Rose (D.failures disk.old) (D.failures disk.new) }
+    ensures failed { (s : Told) → D.told disk.old ≡ Some s → IsErrOf result Disk
+        → Rose (D.failures disk.old) (D.failures disk.new) }
 
     // Whatever the disk returns, the segments have their documents, at most 1,000,000.
-    ensures decodes { IfOk result (λ r. Decodes r.labels config.now (found r).segments (docs_in r.labels (found r).segments)) }
+    ensures decodes { IfOk result (λ r. Decodes r.labels config.now (found r).segments
+        (docs_in r.labels (found r).segments)) }
     ensures few { IfOk result (λ r. length (docs_in r.labels (found r).segments) ≤ 1000000) }
 
     // All files are listed, and the next number is one more than the greatest.
-    ensures listed { IfOk result (λ r. (s : Told) → D.told disk.old ≡ Some s → AreListed s.files r.newest.listed.items) }
-    ensures next { IfOk result (λ r. (s : Told) → D.told disk.old ≡ Some s → r.newest.next ≡ next_after (greatest_number s.files)) }
+    ensures listed { IfOk result (λ r. (s : Told) → D.told disk.old ≡ Some s
+        → AreListed s.files r.newest.listed.items) }
+    ensures next { IfOk result (λ r. (s : Told) → D.told disk.old ≡ Some s
+        → r.newest.next ≡ next_after (greatest_number s.files)) }
     ensures below { IfOk result (λ r. (n : FileName) → Contains r.newest.listed.items n → n.number < r.newest.next) }
     ensures some { IfOk result (λ r. 1 ≤ r.newest.next) }
     ensures room { IfOk result (λ r. r.newest.next ≤ 2 ^ 63) }
@@ -80,9 +85,11 @@ pub fn read_store<D: Disk>(
     ensures order { IfOk result (λ r. AreInOrder (length r.labels) 1 r.newest.label_parts.items) }
 
     // The numbers and the parts are those of the newest commits, and each part of the index describes its segment.
-    ensures taxonomy { IfOk result (λ r. (s : Told) → D.told disk.old ≡ Some s → IsTaxonomyOf s.files r.newest r.labels) }
+    ensures taxonomy { IfOk result (λ r. (s : Told) → D.told disk.old ≡ Some s
+        → IsTaxonomyOf s.files r.newest r.labels) }
     ensures index { IfOk result (λ r. (s : Told) → D.told disk.old ≡ Some s → IsIndexOf s.files r.newest) }
-    ensures named { IfOk result (λ r. AllZip (IsNamedAs config.now r.labels) r.newest.document_parts.items (found r).segments) }
+    ensures named { IfOk result (λ r. AllZip (IsNamedAs config.now r.labels) r.newest.document_parts.items
+        (found r).segments) }
 {
     let listed = list_all(alloc, disk)?;
     let next = next_number(listed.as_slice())?;

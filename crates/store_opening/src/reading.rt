@@ -67,7 +67,8 @@ pub(crate) fn read_newest<D: Disk>(
     listed: &Names,
     dir: Dir,
 ) -> Result<Option<CommitBytes>, OpenFault>
-    ensures ok { IfOk result (λ o. OfListed D.Disk listed.now disk.old (λ c. newest_file dir c ≡ option_map commit_bytes o)) }
+    ensures ok { IfOk result (λ o. OfListed D.Disk listed.now disk.old (λ c. newest_file dir c
+        ≡ option_map commit_bytes o)) }
     ensures err { IfErr result (λ e. (e ≡ Memory) ⊎ (e ≡ Disk)) }
     ensures read { IsRead D.Disk disk.old disk.new result }
     ensures failed { FailsOnly D.Disk (λ c. AreListed c listed.now) disk.old disk.new result }
@@ -94,9 +95,11 @@ pub(crate) fn read_segment<D: Disk>(
     name: FileName,
     digest: [u8; 32],
 ) -> Result<Vec<u8>, OpenFault>
-    ensures ok { IfOk result (λ v. OfListed D.Disk listed.now disk.old (λ c. segment_bytes name digest (c name) ≡ Ok v.items)) }
+    ensures ok { IfOk result (λ v. OfListed D.Disk listed.now disk.old (λ c. segment_bytes name digest (c name)
+        ≡ Ok v.items)) }
     ensures digest { IfOk result (λ v. sha256 v.items ≡ digest) }
-    ensures err { OfFiles result (λ e. OfListed D.Disk listed.now disk.old (λ c. segment_bytes name digest (c name) ≡ Err e)) }
+    ensures err { OfFiles result (λ e. OfListed D.Disk listed.now disk.old (λ c. segment_bytes name digest (c name)
+        ≡ Err e)) }
     ensures read { IsRead D.Disk disk.old disk.new result }
     ensures failed { FailsOnly D.Disk (λ c. AreListed c listed.now) disk.old disk.new result }
 {

@@ -1,5 +1,6 @@
 //! Reading the taxonomy of a disk.
-ghost use Rattle.std.specs.Prelude.{◌≡◌, ◌≢◌, ◌+◌, ◌≤◌, ◌<◌, [], ◌∷◌, ℕ, List, Option, Some, Ok, Err, length, IfOk, IfErr, OnOk, IsErrOf};
+ghost use Rattle.std.specs.Prelude.{◌≡◌, ◌≢◌, ◌+◌, ◌≤◌, ◌<◌, [], ◌∷◌, ℕ, List, Option, Some, Ok, Err, length, IfOk};
+ghost use Rattle.std.specs.Prelude.{IfErr, OnOk, IsErrOf};
 ghost use Rattle.facet_codec.specs.Faults.{told_as};
 ghost use Rattle.facet_disk.specs.Calls.{Rose};
 ghost use Rattle.facet_names.specs.Labels.{IsLabelList};
@@ -42,11 +43,13 @@ fn read_label_part<D: Disk>(
     requires first { length labels.old ≡ part.first }
     requires few { part.first + part.count ≤ 1000000 }
     requires list { IsLabelList labels.old }
-    ensures ok { OnOk result (OfListed D.Disk listed.now disk.old (λ c. labels_behind (segments_in Dir.Taxonomy c) labels.old part ≡ Ok labels.new)) }
+    ensures ok { OnOk result (OfListed D.Disk listed.now disk.old
+        (λ c. labels_behind (segments_in Dir.Taxonomy c) labels.old part ≡ Ok labels.new)) }
     ensures count { OnOk result (length labels.new ≡ length labels.old + part.count) }
     ensures some { OnOk result (0 < part.count) }
     ensures list { OnOk result (IsLabelList labels.new) }
-    ensures err { OfFiles result (λ e. OfListed D.Disk listed.now disk.old (λ c. labels_behind (segments_in Dir.Taxonomy c) labels.old part ≡ Err e)) }
+    ensures err { OfFiles result (λ e. OfListed D.Disk listed.now disk.old
+        (λ c. labels_behind (segments_in Dir.Taxonomy c) labels.old part ≡ Err e)) }
     ensures read { IsRead D.Disk disk.old disk.new result }
     ensures failed { FailsOnly D.Disk (λ c. AreListed c listed.now) disk.old disk.new result }
 {
@@ -73,11 +76,13 @@ fn read_label_parts<D: Disk>(
 ) -> Result<Taxonomy, OpenFault>
     requires order { AreInOrder total 1 parts.now }
     requires few { total ≤ 1000000 }
-    ensures ok { IfOk result (λ labels. OfListed D.Disk listed.now disk.old (λ c. labels_of (segments_in Dir.Taxonomy c) ([] ∷ []) parts.now ≡ Ok labels)) }
+    ensures ok { IfOk result (λ labels. OfListed D.Disk listed.now disk.old
+        (λ c. labels_of (segments_in Dir.Taxonomy c) ([] ∷ []) parts.now ≡ Ok labels)) }
     ensures count { IfOk result (λ labels. length labels ≡ total) }
     ensures list { IfOk result (λ labels. IsLabelList labels) }
     ensures many { IfOk result (λ labels. length parts.now < length labels) }
-    ensures err { OfFiles result (λ e. OfListed D.Disk listed.now disk.old (λ c. labels_of (segments_in Dir.Taxonomy c) ([] ∷ []) parts.now ≡ Err e)) }
+    ensures err { OfFiles result (λ e. OfListed D.Disk listed.now disk.old
+        (λ c. labels_of (segments_in Dir.Taxonomy c) ([] ∷ []) parts.now ≡ Err e)) }
     ensures read { IsRead D.Disk disk.old disk.new result }
     ensures failed { FailsOnly D.Disk (λ c. AreListed c listed.now) disk.old disk.new result }
 {
@@ -94,7 +99,8 @@ fn commit_of(alloc: Global, found: &CommitBytes) -> Result<TaxonomyCommit, OpenF
     ensures order { IfOk result (λ c. AreInOrder c.labels 1 c.parts.items) }
     ensures few { IfOk result (λ c. c.labels ≤ 1000000) }
     ensures err { IfErr result (λ e. e ≢ Memory
-        → told_as (of_file (file Dir.Taxonomy Kind.Commit found.now.number)) (taxonomy_commit found.now.number found.now.bytes.items) ≡ Err e) }
+        → told_as (of_file (file Dir.Taxonomy Kind.Commit found.now.number))
+        (taxonomy_commit found.now.number found.now.bytes.items) ≡ Err e) }
     ensures sound { IfErr result IsSound }
 {
     let name = FileName {

@@ -35,7 +35,8 @@ pub record Adds (path : List (List ℕ)) (limit : ℕ) (old new : Shown (List (L
 
 -- the fault has the size of the list, which is full, and the path is not in it
 abbrev pub HasNoRoom : TaxoFault → ℕ → List (List (List ℕ)) → List (List ℕ) → Type 0
-HasNoRoom fault limit labels path = (fault ≡ LabelsFull (length labels)) × (limit ≤ length labels) × (stands labels path ≡ false)
+HasNoRoom fault limit labels path = (fault ≡ LabelsFull (length labels)) × (limit ≤ length labels)
+    × (stands labels path ≡ false)
 
 -- The fault has the size of the list, which is full, and a prefix of the path is not in it.
 pub record IsFull (fault : TaxoFault) (limit : ℕ) (labels : List (List (List ℕ))) (path : List (List ℕ)) : Type 0 where

@@ -14,7 +14,8 @@ EachNew {A} n P old new = (i : ℕ) (x : A) → length old ≤ i → slice_get n
 -- A label that was entered, given its place after the root. It is one of the paths, and below the limit.
 -- Each of the paths before it is an earlier label, so none was skipped.
 abbrev pub IsInTurn : ℕ → List (List (List ℕ)) → List (List (List ℕ)) → ℕ → List (List ℕ) → Type 0
-IsInTurn limit labels paths i path = IsTrue (stands paths path) × (i + 1 < limit) × IsTrue (skips_none (take (i + 1) labels) paths path)
+IsInTurn limit labels paths i path = IsTrue (stands paths path) × (i + 1 < limit)
+    × IsTrue (skips_none (take (i + 1) labels) paths path)
 
 -- The token entered some of the paths, each after those before it.
 abbrev pub AddsInTurn : List (List (List ℕ)) → ℕ → Shown (List (List ℕ)) → Shown (List (List ℕ)) → Type 0
@@ -30,4 +31,5 @@ EachHaveOrdinals labels paths resolved = AllZip (λ path ords. HaveOrdinals labe
 
 -- each path has the ordinals of its first prefixes: of none, some or all
 abbrev pub EachHaveFirst : List (List (List ℕ)) → List (List (List ℕ)) → List (List ℕ) → Type 0
-EachHaveFirst labels paths found = AllZip (λ path ords. HaveOrdinals labels (take (length ords) (prefixes path)) ords) paths found
+EachHaveFirst labels paths found = AllZip (λ path ords. HaveOrdinals labels
+    (take (length ords) (prefixes path)) ords) paths found

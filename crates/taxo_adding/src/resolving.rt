@@ -1,4 +1,5 @@
-ghost use Rattle.std.specs.Prelude.{◌≡◌, ◌≢◌, ◌≤◌, ◌+◌, ◌++◌, ℕ, [], ◌∷◌, true, false, length, take, slice_index_or, flat_map, Some, IfOk, IfErr, OnOk, OnErr};
+ghost use Rattle.std.specs.Prelude.{◌≡◌, ◌≢◌, ◌≤◌, ◌+◌, ◌++◌, ℕ, [], ◌∷◌, true, false, length, take, slice_index_or};
+ghost use Rattle.std.specs.Prelude.{flat_map, Some, IfOk, IfErr, OnOk, OnErr};
 ghost use mathlib.Core.List.{IsPrefix};
 ghost use Rattle.chronicle.specs.History.{numbered};
 ghost use Rattle.chronicle.specs.Shown.{mine, MayEnter, SameToken};
@@ -45,9 +46,12 @@ fn add_label(
     ensures list { list.new ≡ labels_of token.new.seen }
     ensures labels { SeesLabels token.new }
     ensures ordinal { IfOk result (λ ord. place (labels_of token.new.seen) path ≡ Some ord) }
-    ensures entered { OnOk result (token.new.seen ≡ token.old.seen ++ numbered token.old.number (lacking (labels_of token.old.seen) (path ∷ []))) }
-    ensures mine { OnOk result (mine token.new ≡ mine token.old ++ numbered token.old.number (lacking (labels_of token.old.seen) (path ∷ []))) }
-    ensures room { OnOk result (stands (labels_of token.old.seen) path ≡ false → length (labels_of token.new.seen) ≤ limit) }
+    ensures entered { OnOk result (token.new.seen ≡ token.old.seen
+        ++ numbered token.old.number (lacking (labels_of token.old.seen) (path ∷ []))) }
+    ensures mine { OnOk result (mine token.new ≡ mine token.old
+        ++ numbered token.old.number (lacking (labels_of token.old.seen) (path ∷ []))) }
+    ensures room { OnOk result (stands (labels_of token.old.seen) path ≡ false
+        → length (labels_of token.new.seen) ≤ limit) }
     ensures refused { OnErr result (token.new ≡ token.old) }
     ensures full { IfErr result (λ e. e ≢ Memory → HasNoRoom e limit (labels_of token.old.seen) path) }
 {
@@ -82,7 +86,8 @@ pub fn add_each(
     requires turn { MayEnter token.old }
     requires list { list.old ≡ labels_of token.old.seen }
     requires labels { SeesLabels token.old }
-    requires known { HaveOrdinals (labels_of token.old.seen) (take (length ords.old.items) (prefixes path.now)) ords.old.items }
+    requires known { HaveOrdinals (labels_of token.old.seen) (take (length ords.old.items)
+        (prefixes path.now)) ords.old.items }
     ensures turn { SameToken token.old token.new × (token.new.holds_turn ≡ true) }
     ensures list { list.new ≡ labels_of token.new.seen }
     ensures labels { SeesLabels token.new }

@@ -21,7 +21,8 @@ HaveEach labels entries = (e : List (List ℕ) × List ℕ) → Contains entries
 
 -- The note is of this chronicle of labels. What it has seen is a label list, in which the prefixes of the entries'
 -- paths have these ordinals.
-pub record IsMemo (labels : TableId) (note : Shown (List (List ℕ))) (entries : List (List (List ℕ) × List ℕ)) : Type 0 where
+pub record IsMemo (labels : TableId) (note : Shown (List (List ℕ))) (entries : List (List (List ℕ)
+    × List ℕ)) : Type 0 where
   pub named : note.identity ≡ labels
   pub is_note : note.is_note ≡ true
   pub idle : note.holds_turn ≡ false

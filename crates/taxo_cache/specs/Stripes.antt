@@ -20,7 +20,8 @@ AreAt labels entries = (e : List (List ℕ) × ℕ) → Contains entries e → p
 -- The note is of this chronicle of labels. What it has seen is a label list, which has the entries' paths, each at its
 -- ordinal.
 -- There are no more entries than the capacity.
-pub record IsStripe (labels : TableId) (note : Shown (List (List ℕ))) (entries : List (List (List ℕ) × ℕ)) (room : ℕ) : Type 0 where
+pub record IsStripe (labels : TableId) (note : Shown (List (List ℕ))) (entries : List (List (List ℕ)
+    × ℕ)) (room : ℕ) : Type 0 where
   pub named : note.identity ≡ labels
   pub is_note : note.is_note ≡ true
   pub idle : note.holds_turn ≡ false

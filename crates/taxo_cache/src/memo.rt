@@ -101,7 +101,8 @@ impl<N: Name> Memo<N> {
         requires labels { SeesLabels token.old }
         requires ordinals { HasOrdinals (labels_of token.old.seen) path.now ords.now }
         ensures token { token.new ≡ token.old }
-        ensures kept { OnOk result (self.new.entries ≡ put_entries path_eq (lru_cache self.old.entries self.old.room) path.now ords.now) }
+        ensures kept { OnOk result (self.new.entries
+            ≡ put_entries path_eq (lru_cache self.old.entries self.old.room) path.now ords.now) }
         ensures seen { OnOk result (self.new.seen ≡ longer self.old.seen token.old.seen) }
         ensures room { self.new.room ≡ self.old.room }
         ensures unchanged { OnErr result (self.new ≡ self.old) }

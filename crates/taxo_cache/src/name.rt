@@ -13,5 +13,13 @@ pub trait Name {
 impl Name for Brand {
     ghost use Rattle.std.specs.Prelude.{[]};
 
-    ghost labels = { record { words = 0; slots = 0; views_name = 0; atom = 0; block = 0; offset = 0; slot_names = [] } };
+    ghost labels = { record {
+      words = 0;
+      slots = 0;
+      views_name = 0;
+      atom = 0;
+      block = 0;
+      offset = 0;
+      slot_names = [];
+    } };
 }

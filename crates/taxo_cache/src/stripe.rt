@@ -92,7 +92,8 @@ impl<N: Name> Stripe<N> {
         requires labels { SeesLabels token.old }
         requires there { place (labels_of token.old.seen) path.now ≡ Some ord }
         ensures token { token.new ≡ token.old }
-        ensures kept { OnOk result (self.new.entries ≡ take self.old.room ((path.now, ord) ∷ remove_entry (path_eq path.now) self.old.entries)) }
+        ensures kept { OnOk result (self.new.entries
+            ≡ take self.old.room ((path.now, ord) ∷ remove_entry (path_eq path.now) self.old.entries)) }
         ensures seen { OnOk result (self.new.seen ≡ longer self.old.seen token.old.seen) }
         ensures room { self.new.room ≡ self.old.room }
         ensures unchanged { OnErr result (self.new ≡ self.old) }

@@ -14,7 +14,11 @@ by_ordinal size entry = map (λ i. or_none (entry i)) (range_with_len 0 size)
 
 -- the parent, child and sibling of each label
 abbrev pub arrays_of : List (List (List ℕ)) → ArrayLists
-arrays_of labels = record { parents = by_ordinal (length labels) (parent_at labels); children = by_ordinal (length labels) (child_at labels); siblings = by_ordinal (length labels) (sibling_at labels) }
+arrays_of labels = record {
+  parents = by_ordinal (length labels) (parent_at labels);
+  children = by_ordinal (length labels) (child_at labels);
+  siblings = by_ordinal (length labels) (sibling_at labels);
+}
 
 -- the arrays of the first labels of a list
 abbrev pub AreOfPrefix : ArrayLists → List (List (List ℕ)) → Type 0

@@ -16,7 +16,8 @@ dims_of labels = dims_below labels (length labels)
 
 -- A place among these dimensions, where the label is the dimension, alone, of the label at the ordinal.
 abbrev pub IsDimNumber : List (List (List ℕ)) → List ℕ → ℕ → ℕ → Type 0
-IsDimNumber labels dims ord n = (n < length dims) × (slice_index_or labels (slice_index_or dims n 0) [] ≡ take 1 (slice_index_or labels ord []))
+IsDimNumber labels dims ord n = (n < length dims) × (slice_index_or labels (slice_index_or dims n 0) []
+    ≡ take 1 (slice_index_or labels ord []))
 
 -- the dimensions, and at each ordinal a place among them
 pub record DimLists : Type 0 where

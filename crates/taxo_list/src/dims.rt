@@ -1,4 +1,5 @@
-ghost use Rattle.std.specs.Prelude.{◌≡◌, ◌<◌, ◌≤◌, ◌++◌, ℕ, List, [], ◌∷◌, length, take, slice_index_or, unwrap_or, IfOk, OnOk, OnErr};
+ghost use Rattle.std.specs.Prelude.{◌≡◌, ◌<◌, ◌≤◌, ◌++◌, ℕ, List, [], ◌∷◌, length, take, slice_index_or, unwrap_or};
+ghost use Rattle.std.specs.Prelude.{IfOk, OnOk, OnErr};
 ghost use Rattle.std.specs.Arc.{arc_value};
 ghost use Rattle.facet_names.specs.Labels.{IsLabelList};
 ghost use Rattle.taxo_list.specs.ArrayLists.{arrays_of};
@@ -108,7 +109,8 @@ impl Dims {
         requires few { length parents.now ≤ 1000000 }
         requires within { length self.now.numbers ≤ length parents.now }
         requires parents { AreParents parents.now }
-        ensures { IfOk result (λ d. (labels : List (List (List ℕ))) (n : ℕ) → IsLabelList labels → parents.now ≡ (arrays_of labels).parents
+        ensures { IfOk result (λ d. (labels : List (List (List ℕ))) (n : ℕ) → IsLabelList labels
+            → parents.now ≡ (arrays_of labels).parents
             → n ≤ length labels → AreDimLists (take n labels) n self.now → AreDimLists labels (length labels) d) }
     {
         let mut grown = self.share()?;

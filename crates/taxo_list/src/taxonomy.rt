@@ -1,4 +1,5 @@
-ghost use Rattle.std.specs.Prelude.{◌≡◌, ◌≢◌, ◌≤◌, ◌<◌, ◌+◌, ◌-◌, [], ◌∷◌, Some, Err, false, length, is_some, slice_get, IsTrue, IsOk, IfOk, IfErr, OnOk, OnErr};
+ghost use Rattle.std.specs.Prelude.{◌≡◌, ◌≢◌, ◌≤◌, ◌<◌, ◌+◌, ◌-◌, [], ◌∷◌, Some, Err, false, length, is_some};
+ghost use Rattle.std.specs.Prelude.{slice_get, IsTrue, IsOk, IfOk, IfErr, OnOk, OnErr};
 ghost use mathlib.Core.List.{IsPrefix};
 ghost use Rattle.facet_names.specs.Labels.{GoesOn, IsLabelList, above, place, stands, with_label};
 
@@ -133,8 +134,10 @@ impl Taxonomy {
         ensures list { IsLabelList self.new }
         ensures goes_on { GoesOn self.old self.new }
         ensures there { IsTrue (stands self.old path.now) → IsOk result }
-        ensures full { stands self.old path.now ≡ false → limit ≤ length self.old → result ≡ Err (LabelsFull (length self.old)) }
-        ensures refused { IfErr result (λ e. e ≢ Memory → (stands self.old path.now ≡ false) × (limit ≤ length self.old)) }
+        ensures full { stands self.old path.now ≡ false → limit ≤ length self.old
+            → result ≡ Err (LabelsFull (length self.old)) }
+        ensures refused { IfErr result (λ e. e ≢ Memory → (stands self.old path.now ≡ false)
+            × (limit ≤ length self.old)) }
         ensures unchanged { OnErr result (self.new ≡ self.old) }
     {
         if let Some(ord) = self.find(path) {
@@ -160,7 +163,8 @@ impl Taxonomy {
         ensures list { IsLabelList self.new }
         ensures goes_on { GoesOn self.old self.new }
         ensures there { IsTrue (stands self.old path) → IsOk result }
-        ensures full { stands self.old path ≡ false → limit ≤ length self.old → result ≡ Err (LabelsFull (length self.old)) }
+        ensures full { stands self.old path ≡ false → limit ≤ length self.old
+            → result ≡ Err (LabelsFull (length self.old)) }
         ensures refused { IfErr result (λ e. e ≢ Memory → (stands self.old path ≡ false) × (limit ≤ length self.old)) }
         ensures unchanged { OnErr result (self.new ≡ self.old) }
     {

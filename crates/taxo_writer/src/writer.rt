@@ -1,8 +1,10 @@
-ghost use Rattle.std.specs.Prelude.{◌≡◌, ◌≢◌, ◌≤◌, ◌<◌, ◌+◌, ◌-◌, ◌^◌, ◌⊎◌, ℕ, [], true, false, length, take, map, slice_get, flat_map, Some, IfOk, IfErr, OnOk};
+ghost use Rattle.std.specs.Prelude.{◌≡◌, ◌≢◌, ◌≤◌, ◌<◌, ◌+◌, ◌-◌, ◌^◌, ◌⊎◌, ℕ, [], true, false, length, take, map};
+ghost use Rattle.std.specs.Prelude.{slice_get, flat_map, Some, IfOk, IfErr, OnOk};
 ghost use Rattle.std.specs.Arc.{arc_value};
 ghost use mathlib.Core.List.{IsPrefix};
 ghost use Rattle.chronicle.specs.History.{longer};
-ghost use Rattle.chronicle.specs.Shown.{mine, MayTake, SameToken, SeesOn, EndsWith, MakesOne, IsMadeFrom, IsNoteOf, IsCounted};
+ghost use Rattle.chronicle.specs.Shown.{mine, MayTake, SameToken, SeesOn, EndsWith, MakesOne, IsMadeFrom, IsNoteOf};
+ghost use Rattle.chronicle.specs.Shown.{IsCounted};
 ghost use Rattle.facet_names.specs.Labels.{place, prefixes};
 ghost use Rattle.facet_model.specs.CountedPaths.{AreResolved};
 ghost use Rattle.taxo_cache.specs.Seen.{labels_of, SeesLabels};
@@ -118,7 +120,8 @@ impl<N: Name> TaxoWriter<N> {
         ensures token { SameToken token.old token.new × SeesOn token.old token.new × (token.new.holds_turn ≡ false) }
         ensures labels { SeesLabels token.old → SeesLabels token.new }
         ensures counted { IsCounted token.old → IsCounted token.new }
-        ensures hit { IfOk result (λ l. (ord : ℕ) → l ≡ Hit ord → place (labels_of token.new.seen) (take len path.now) ≡ Some ord) }
+        ensures hit { IfOk result (λ l. (ord : ℕ) → l ≡ Hit ord
+            → place (labels_of token.new.seen) (take len path.now) ≡ Some ord) }
     {
         if len == path.len() {
             return Ok(self.cache.look(rt, &self.labels, token, path));
@@ -139,7 +142,8 @@ impl<N: Name> TaxoWriter<N> {
         ensures token { SameToken token.old token.new × SeesOn token.old token.new × (token.new.holds_turn ≡ false) }
         ensures labels { SeesLabels token.old → SeesLabels token.new }
         ensures counted { IsCounted token.old → IsCounted token.new }
-        ensures known { IfOk result (λ v. HaveOrdinals (labels_of token.new.seen) (take (length v.items) (prefixes path.now)) v.items) }
+        ensures known { IfOk result (λ v. HaveOrdinals (labels_of token.new.seen)
+            (take (length v.items) (prefixes path.now)) v.items) }
     {
         let mut ords = Vec::with_capacity(self.alloc, path.len())?;
         for n in 0..path.len() {
@@ -165,7 +169,8 @@ impl<N: Name> TaxoWriter<N> {
         ensures token { SameToken token.old token.new × SeesOn token.old token.new × (token.new.holds_turn ≡ false) }
         ensures labels { SeesLabels token.new }
         ensures counted { IsCounted token.old → IsCounted token.new }
-        ensures known { IfOk result (λ v. HaveOrdinals (labels_of token.new.seen) (take (length v.items) (prefixes path.now)) v.items) }
+        ensures known { IfOk result (λ v. HaveOrdinals (labels_of token.new.seen)
+            (take (length v.items) (prefixes path.now)) v.items) }
     {
         if let Some(ords) = self.memos.look(rt, &self.labels, token, path)? {
             return Ok(ords);
@@ -188,7 +193,8 @@ impl<N: Name> TaxoWriter<N> {
     ) -> Result<(), TaxoFault>
         requires own { token.old.identity ≡ self.now.labels }
         requires idle { MayTake token.old }
-        requires known { HaveOrdinals (labels_of token.old.seen) (take (length ords.old.items) (prefixes path.now)) ords.old.items }
+        requires known { HaveOrdinals (labels_of token.old.seen)
+            (take (length ords.old.items) (prefixes path.now)) ords.old.items }
         ensures token { SameToken token.old token.new × (token.new.holds_turn ≡ false) }
         ensures labels { SeesLabels token.new }
         ensures counted { IsCounted token.new }
@@ -274,7 +280,8 @@ impl<N: Name> TaxoWriter<N> {
         ensures labels { SeesLabels token.new }
         ensures adds { Adds path.now self.now.limit token.old token.new }
         ensures places { IfOk result (HaveOrdinals (labels_of token.new.seen) (prefixes path.now)) }
-        ensures ordinals { IfOk result (λ r. map (slice_get (labels_of token.new.seen)) r ≡ map Some (prefixes path.now)) }
+        ensures ordinals { IfOk result (λ r. map (slice_get (labels_of token.new.seen)) r
+            ≡ map Some (prefixes path.now)) }
         ensures full { IfErr result (λ e. e ≢ Memory → IsFull e self.now.limit (labels_of token.new.seen) path.now) }
         ensures counted { IsCounted token.old → IsCounted token.new }
     {
@@ -302,7 +309,8 @@ impl<N: Name> TaxoWriter<N> {
         ensures labels { SeesLabels token.new }
         ensures counted { IsCounted token.old → IsCounted token.new }
         ensures first { IfOk result (λ f. EachHaveFirst (labels_of token.new.seen) paths.now f.each.items) }
-        ensures whole { IfOk result (λ f. f.whole ≡ true → EachHaveOrdinals (labels_of token.new.seen) paths.now f.each.items) }
+        ensures whole { IfOk result (λ f. f.whole ≡ true
+            → EachHaveOrdinals (labels_of token.new.seen) paths.now f.each.items) }
     {
         let mut each = Vec::with_capacity(self.alloc, paths.len())?;
         let mut whole = true;
@@ -332,7 +340,8 @@ impl<N: Name> TaxoWriter<N> {
         ensures counted { IsCounted token.old → IsCounted token.new }
         ensures adds { AddsInTurn (flat_map prefixes paths.now) self.now.limit token.old token.new }
         ensures ordinals { IfOk result (λ v. EachHaveOrdinals (labels_of token.new.seen) paths.now v.items) }
-        ensures full { IfErr result (λ e. e ≢ Memory → IsFullForOne e self.now.limit (labels_of token.new.seen) paths.now) }
+        ensures full { IfErr result (λ e. e ≢ Memory
+            → IsFullForOne e self.now.limit (labels_of token.new.seen) paths.now) }
     {
         let resolved = Vec::with_capacity(self.alloc, paths.len())?;
         let mut list = self.labels.take(rt, token).into_list();
@@ -392,7 +401,8 @@ impl<N: Name> TaxoWriter<N> {
         ensures labels { SeesLabels token.new }
         ensures adds { AddsInTurn (flat_map prefixes paths.now) self.now.limit token.old token.new }
         ensures resolved { IfOk result (λ v. AreResolved (labels_of token.new.seen) paths.now v.items) }
-        ensures full { IfErr result (λ e. e ≢ Memory → IsFullForOne e self.now.limit (labels_of token.new.seen) paths.now) }
+        ensures full { IfErr result (λ e. e ≢ Memory
+            → IsFullForOne e self.now.limit (labels_of token.new.seen) paths.now) }
         ensures counted { IsCounted token.old → IsCounted token.new }
     {
         let found = self.find_each(rt, token, paths)?;

@@ -133,7 +133,8 @@ fn known_beside<N: Name + Send + Sync, R: Threads + Wait + Clock + Sync>(
     let (in_turn, ordinal) = join(
         rt,
         || -> bool
-            requires { (first.identity ≡ writer.labels) × MayGive first × (list ≡ labels_of first.seen) × (first.frame ≡ empty_frame) }
+            requires { (first.identity ≡ writer.labels) × MayGive first × (list ≡ labels_of first.seen)
+                × (first.frame ≡ empty_frame) }
         { hold(rt, &writer, first, list, &answered) },
         || -> Option<u32>
             requires { (second.identity ≡ writer.labels) × MayTake second × SeesLabels second }

@@ -100,7 +100,8 @@ fn enter_both<R: Threads + Wait + Sync>(
         { enter_all(rt, log, one, low) },
         || -> Result<Token<u64>, AllocError>
             requires { (two.identity ≡ log.now) × MayTake two × (mine two ≡ []) }
-            ensures { IfOk result (λ t. (t.identity ≡ log.entry.now) × MayTake t × (entries (mine t) ≡ high.entry.now)) }
+            ensures { IfOk result (λ t. (t.identity ≡ log.entry.now) × MayTake t
+                × (entries (mine t) ≡ high.entry.now)) }
         { enter_all(rt, log, two, high) },
     );
     log.meet(first, one?);

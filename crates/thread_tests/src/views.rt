@@ -13,7 +13,8 @@ use taxo_cache::Name;
 use taxo_list::Labelled;
 use taxo_writer::TaxoWriter;
 
-// How many labels two views have: one after the first paths were added, and one that is made from it after the second paths were added.
+// How many labels two views have: one after the first paths were added, and one that is made from it after the second
+// paths were added.
 fn sizes_of<N: Name, L: Ledger, R: Wait>(
     rt: &R,
     alloc: Global,
