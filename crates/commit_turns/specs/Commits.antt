@@ -1,4 +1,4 @@
--- For which points the value of the commits chronicle stands.
+-- Which points the value of the commits chronicle represents.
 use Rattle.std.specs.Prelude.{◌≡◌, ◌≤◌, ◌+◌, ◌*◌, ℕ, List, [], ◌∷◌, ◌++◌, All, Some, None, length}
 use Rattle.facet_disk.specs.Calls.{Rose}
 use Rattle.facet_disk.specs.Images.{Image, Told}
@@ -70,7 +70,7 @@ module _ {D : Type 0} (disk : Ghosts D) where
     pub now : All (λ p. (c : Image) → disk.may_leave committer.disk c → Holds committer.config labels docs p c) es
     pub survive : Survive disk committer.config labels docs es marks committer.disk
 
-  -- While no commit has failed on the disk, what is known of the files is true of those that it tells, and the device
+  -- While no commit has failed on the disk, what is known of the files is true of those that it reports, and the device
   -- has not failed. Where one has, the device failed.
   pub record IsFollowed (start : D) (committer : CommitterView D) : Type 0 where
     pub told : committer.closed ≡ None → (s : Told) → disk.told committer.disk ≡ Some s
@@ -78,7 +78,7 @@ module _ {D : Type 0} (disk : Ghosts D) where
     pub unfailed : committer.closed ≡ None → disk.failures committer.disk ≡ disk.failures start
     pub failed : (count : ℕ) → committer.closed ≡ Some count → Rose (disk.failures start) (disk.failures committer.disk)
 
-  -- The value stands for these points, of which the first is the opened one, with the disk as it was when each was
+  -- The value represents these points, the first of them the opened one, with the disk as it was when each was
   -- entered. A commit takes at most 1,000,003 file numbers. Where there is no other point, the disk is as it was when
   -- opening began.
   pub record Stands (told settled : Type 0) (quiet : DiskState → Type 0) (v : CommitState D)

@@ -3,8 +3,8 @@ use Rattle.std.specs.Prelude.{ℕ, Option}
 use Rattle.facet_disk.specs.Images.{Image, Told}
 use Rattle.facet_disk.specs.declared.disk.Disk.{Ghosts}
 
--- what it tells, its moment, the images that a crash may leave, those that one might have left since a moment, and its
--- count of faults
+-- what it reports, its moment, the images that a crash may leave, those that one might have left since a moment, and
+-- its count of faults
 pub record DiskState : Type 1 where
   pub told : Option Told
   pub moment : ℕ

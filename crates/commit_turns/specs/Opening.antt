@@ -40,7 +40,7 @@ module _ {D : Type 0} (disk : Ghosts D) where
     pub opened : IsOpened start committer labels segments
     pub documents : docs_in labels segments ≡ docs
 
-  -- the disk told its files and was settled when opening began
+  -- the disk reported its files and was settled when opening began
   pub record WasSettled (config : Config) (start : D) : Type 0 where
     pub told : Told
     pub tells : disk.told start ≡ Some told

@@ -23,11 +23,11 @@ module _ {D N : Type 0} {d : Disks D} {n : Names N} where
     docs = docs_of v.operations.seen;
   }
 
-  -- the value stands for these points, each of which was entered on such a disk
+  -- the value represents these points, each of which was entered on such a disk
   abbrev pub StandsWith : CommitTurn D N d n → List CommitPoint → List (D × CommitPoint) → Type 0
   StandsWith v es marks = Stands d n.told n.settled n.quiet (state_in v) es marks
 
-  -- it stands for these points more, which are entered on the disk as it is now; those before stay marked as they were
+  -- it represents these points more, which are entered on the disk as it is now; those before stay marked as they were
   abbrev pub StandsOn : CommitTurn D N d n → CommitTurn D N d n → List CommitPoint → Type 0
   StandsOn old new ps = (es : List CommitPoint) (marks : List (D × CommitPoint)) → StandsWith old es marks
       → StandsWith new (es ++ ps) (marks ++ marks_of new.committer.disk ps)
@@ -42,7 +42,7 @@ module _ {D N : Type 0} {d : Disks D} {n : Names N} where
   abbrev pub KeepsFrame : CommitTurn D N d n → CommitTurn D N d n → Type 0
   KeepsFrame old new = (new.start ≡ old.start) × (new.begun ≡ old.begun) × (new.committer.config ≡ old.committer.config)
 
--- the value stands for these points
+-- the value represents these points
 pub record StandsFor {D N : Type 0} {d : Disks D} {n : Names N} (v : CommitTurn D N d n)
     (es : List CommitPoint) : Type 0 where
   pub marks : List (D × CommitPoint)

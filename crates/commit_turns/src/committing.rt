@@ -154,8 +154,8 @@ pub fn commit<D: Disk, N: Name + Start, R: Wait>(
     // The operations that it covers are all that the pass has then seen.
     ensures operations { IfOk result (λ n. n ≡ length pass.new.operations.seen) }
 
-    // The disk's count rose since opening began. No number is told below the limit, nor above what so many commits may
-    // have taken.
+    // The disk's count rose since opening began. No number is reported below the limit, nor above what so many commits
+    // may have taken.
     ensures disk { IfErr result (λ e. (count : ℕ) → e ≡ OfDisk count
         → (first moment faults failures : ℕ) → HasNumbers first moment faults failures pass.old.commits.frame
         → Rose faults count) }

@@ -44,7 +44,8 @@ pub fn end_commits<
     requires tied { token.old.frame.identities ≡ seen_operations.old.identity ∷ seen_labels.old.identity ∷ [] }
 
     // The disk counts at least the faults of each commit that failed on it, whose count rose since opening began, and
-    // no fewer than then: just what the last commit was told, where that failed on it, and else what it counted then.
+    // no fewer than then: just what the last commit learned, where that failed on it, and otherwise what it counted
+    // then.
     ensures counts { All (λ p. (count : ℕ) → p.failed ≡ Some count → count ≤ D.faults result) (entries token.new.seen) }
     ensures rose { (first moment faults failures : ℕ) → HasNumbers first moment faults failures token.old.frame
         → All (λ p. (count : ℕ) → p.failed ≡ Some count → Rose faults count) (entries token.new.seen) }
@@ -53,7 +54,7 @@ pub fn end_commits<
     ensures exact { (first moment faults failures : ℕ) → HasNumbers first moment faults failures token.old.frame
         → D.faults result ≡ count_after faults (last_of (entries token.new.seen)).failed }
 
-    // Where the disk told its files when opening began, it still does, and its device failed exactly where a commit
+    // Where the disk reported its files when opening began, it still does, and its device failed exactly where a commit
     // failed on it.
     ensures tells { N.told → (s : Told) × (D.told result ≡ Some s) }
     ensures failed { (first moment faults failures : ℕ) → N.told
@@ -67,7 +68,7 @@ pub fn end_commits<
         → Lasts D.Disk config moment (labels_of seen_labels.new.seen) (docs_of seen_operations.new.seen)
         (entries token.new.seen) result }
 
-    // Where no commit has entered a point behind the opened one, the disk is as it was when opening began.
+    // Where no commit has entered a point after the opened one, the disk is as it was when opening began.
     ensures quiet { length (entries token.new.seen) ≤ 1 → N.quiet (state_of D.Disk result) }
 
     // The tokens are the same, and see on.

@@ -62,7 +62,7 @@ pub fn begin<D: Disk>(
     ensures next { IfOk result (λ b. (s : Told) → D.told disk ≡ Some s
         → b.committer.state.next ≡ next_after (greatest_number s.files)) }
 
-    // Or the first fault of the files that the disk reads is told.
+    // Or the first fault of the files that the disk reads is returned.
     ensures err { IfErr result (λ n. n.fault ≢ NoRoom → n.fault ≢ FaultOfDisk
         → (s : Told) → D.told disk ≡ Some s → files config s.files ≡ Err n.fault) }
     ensures fault { IfErr result (λ n. n.fault ≡ FaultOfDisk → Rose (D.faults disk) (D.faults n.disk)) }

@@ -8,7 +8,7 @@ use Rattle.facet_model.specs.Flags.{Config}
 use Rattle.facet_counts.specs.Lists.{is_rolled}
 use Rattle.facet_counts.specs.Tallies.{Tally, HasAdded}
 
--- the parent but for the root
+-- the parent, unless it is the root
 abbrev pub below_root : ℕ → Option ℕ
 below_root zero = None
 below_root (suc n) = Some (suc n)

@@ -27,7 +27,7 @@ abbrev pub HoldsAfter : Session → Session → (ℕ → ℕ → Step) → Type 
 HoldsAfter old new step = (phase line : ℕ)
     → numbers_held new.held ≡ held_after (numbers_held old.held) (step phase line).answered
 
--- Where a reply tells that the file numbers are spent, so many commits may have taken them, from the first on that a
+-- Where a reply says that the file numbers are spent, so many commits may have taken them, from the first on that a
 -- commit may take.
 abbrev pub IsSpentWithin : ℕ → Reply → Seen → Type 0
 IsSpentWithin next reply after =

@@ -12,7 +12,7 @@ pub record AreUpTo (made : ℕ) (seen : Seen) : Type 0 where
   pub pairs : All (λ e. e.0 ≤ made) seen.pairs
   pub commits : All (λ e. e.0 ≤ made) seen.commits
 
--- each operation that was entered under a number tells the session of that number
+-- each operation that was entered under a number names the session of that number
 abbrev pub NamesOwn : ℕ → Notes → Type 0
 NamesOwn number notes = All (λ e. e.1.session ≡ number) (entered_by number notes.operations.seen)
 

@@ -1,4 +1,4 @@
--- How sessions are made, and are told what others have seen.
+-- How sessions are made, and learn what others have seen.
 use Rattle.std.specs.Prelude.{◌≡◌, ℕ}
 use Rattle.chronicle.specs.History.{longer}
 use Rattle.chronicle.specs.Shown.{SeesOn, MakesOne, IsCounted}
@@ -35,7 +35,7 @@ longer_of a b = record {
   commits = longer a.commits b.commits;
 }
 
--- A pass under this number is told what was shown: it is the same, and of each history it has then seen the longer part
+-- A pass under this number learns what was shown: it is the same, and of each history it has then seen the longer part
 -- of the two.
 pub record Meets (number : ℕ) (old new : Pass) (shown : Seen) : Type 0 where
   pub same : SamePass old new

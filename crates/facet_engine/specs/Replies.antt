@@ -18,7 +18,7 @@ add_reply (Err (adds.LabelsFull size)) = refused (labels_full size)
 add_reply (Err (adds.DocsFull count)) = refused (docs_full count)
 add_reply (Err adds.NoMemory) = refused no_memory
 
--- the only fault is want of memory
+-- the only fault is out of memory
 abbrev pub refresh_reply : {E : Type 0} → Result ℕ E → Reply
 refresh_reply (Ok n) = numbered n
 refresh_reply (Err fault) = refused no_memory
@@ -44,7 +44,7 @@ commit_reply (Err (commits.Closed count)) = refused (closed count)
 commit_reply (Err commits.NoMemory) = refused no_memory
 commit_reply (Err (commits.NumbersSpent number)) = refused (numbers_spent number)
 
--- the only fault is want of memory
+-- the only fault is out of memory
 abbrev pub merge_reply : {E : Type 0} → Result (Unit {0}) E → Reply
 merge_reply (Ok done) = merged
 merge_reply (Err fault) = refused no_memory

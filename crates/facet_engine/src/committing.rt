@@ -34,7 +34,7 @@ impl<D: Disk, N: Name + Start> System<D, N> {
         ensures step { IsCall self.now session.old (committed session.old.pass session.new.pass result) }
         ensures spent { SpendsWithin session.old.pass session.new.pass (commit_reply result) }
 
-        // A count of faults that is told is above the one at which the store's opening began.
+        // A count of faults that is reported is above the one at which the store's opening began.
         ensures disk { IfErr result (λ e. (count : ℕ) → e ≡ OfDisk count
             → (next moment faults failures : ℕ) → HasNumbers next moment faults failures session.old.pass.commits.frame
             → Rose faults count) }

@@ -57,7 +57,7 @@ impl<D: Disk, N: Name + Start> System<D, N> {
         requires own { BelongsTo self.now first }
         requires numbers { HaveOneNumber 0 first }
 
-        // The trace tells all labels and operations that the notes show.
+        // The trace has all labels and operations that the notes show.
         ensures labels { result.trace.labels ≡ labels_of (noted result.notes) }
         ensures sessions { result.trace.sessions.items ≡ map (λ e. e.1.session) result.notes.operations.seen }
         ensures list { IsLabelList (labels_of (noted result.notes)) }
@@ -71,8 +71,8 @@ impl<D: Disk, N: Name + Start> System<D, N> {
         ensures named { NamesSession 0 first → NamesOwn 0 result.notes }
 
         // The disk counts at least the faults of each commit that failed on it, whose count rose since opening began,
-        // and no fewer than then: just what the last commit was told, where that failed on it, and else what it counted
-        // then.
+        // and no fewer than then: just what the last commit learned, where that failed on it, and otherwise what it
+        // counted then.
         ensures counts { All (λ p. (count : ℕ) → p.failed ≡ Some count → count ≤ D.faults result.disk)
             (entries result.notes.commits.seen) }
         ensures rose { (next moment faults failures : ℕ) → HasNumbers next moment faults failures first.commits.frame
@@ -82,8 +82,8 @@ impl<D: Disk, N: Name + Start> System<D, N> {
         ensures exact { (next moment faults failures : ℕ) → HasNumbers next moment faults failures first.commits.frame
             → D.faults result.disk ≡ count_after faults (last_of (entries result.notes.commits.seen)).failed }
 
-        // Where the disk told its files when opening began, it still does, and its device failed exactly where a commit
-        // failed on it.
+        // Where the disk reported its files when opening began, it still does, and its device failed exactly where a
+        // commit failed on it.
         ensures tells { N.told → (s : Told) × (D.told result.disk ≡ Some s) }
         ensures failed { (next moment faults failures : ℕ) → N.told
             → HasNumbers next moment faults failures first.commits.frame

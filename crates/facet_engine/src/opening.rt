@@ -79,7 +79,7 @@ impl<D: Disk> Store<D> {
         ensures next { IfOk result (λ s. (t : Told) → D.told disk ≡ Some t
             → s.committer.state.next ≡ next_after (greatest_number t.files)) }
 
-        // Or the first fault of the files that the disk reads is told.
+        // Or the first fault of the files that the disk reads is returned.
         ensures err { IfErr result (λ n. n.fault ≢ NoRoom → n.fault ≢ FaultOfDisk
             → (t : Told) → D.told disk ≡ Some t → files config t.files ≡ Err n.fault) }
         ensures fault { IfErr result (λ n. n.fault ≡ FaultOfDisk → Rose (D.faults disk) (D.faults n.disk)) }

@@ -73,12 +73,12 @@ module _ {C : Type 0} (Flushes Breaks : List Answered → Type 0) where
 
 -- ---- several phases
 
--- in terms of what it is that all of some replies were handed to the output, and that this failed behind some for
+-- what it means that all of some replies were handed to the output, and that this failed after some for
 -- others
 module _ {C : Type 0} (Flushes : List Answered → Type 0) (Breaks : List Answered → List Answered → Type 0) where
   -- Behind what was done these phases ended so. All were carried out, and the replies of all were handed over. Or one
   -- was the last: the replies of those before it were handed over, and then handing over its own failed. Or there was
-  -- no memory for the one behind some: the replies of these were handed over.
+  -- no memory for the one after some: the replies of these were handed over.
   abbrev pub PhasesEnded : Engine → Course → List (List Order) → Pass → List (Lane C)
       → Result (Unit {0}) PhaseFault → Type 0
   PhasesEnded engine course all new lanes (Ok u) = (more : List (List Step))

@@ -44,7 +44,7 @@ module _ {C : Type 0} where
     pub replies : new.replies ≡ old.replies
     pub orders : new.orders.items ≡ old.orders.items ++ orders_of old.session.number dealt
 
-  -- It was told so much, of which it had entered nothing that it had not seen. What it holds, its orders and what it
+  -- It learned so much, and had entered nothing of it that it had not seen. What it holds, its orders and what it
   -- keeps are as before.
   pub record LaneTold (next : Seen) (old new : Lane C) : Type 0 where
     pub same : SameSession old.session new.session
@@ -76,9 +76,9 @@ module _ {C : Type 0} where
     KeepAll (lane ∷ lanes) answered = (own : List Answered) × (rest : List Answered) × (answered ≡ own ++ rest)
         × KeepsOf own lane.replies × KeepAll lanes rest
 
--- ---- what the first pass is told
+-- ---- what the first pass learns
 
--- The first pass was told what others have seen. It has entered nothing of that, and has seen no entry under a number
+-- The first pass learned what others have seen. It has entered nothing of that, and has seen no entry under a number
 -- that was not given.
 pub record Gathers (old new : Pass) : Type 0 where
   pub same : SamePass old new

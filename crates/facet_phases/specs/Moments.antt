@@ -3,7 +3,7 @@ use Rattle.std.specs.Prelude.{◌≡◌, ℕ, List, take, Option}
 use Rattle.std.specs.Io.KnownBytes.{Appends}
 use Rattle.facet_io.specs.Faults.{Rose}
 
--- a sink's count of faults, and what was written to it, where it tells that
+-- a sink's count of faults, and what was written to it, where it reports that
 pub record Moment : Type 0 where
   pub faults : ℕ
   pub written : Option (List ℕ)

@@ -25,7 +25,7 @@ answers_in steps = map (λ (x : Step). x.answered) steps
 abbrev pub orders_by : ℕ → List Order → List Order
 orders_by session orders = filter (λ o. o.session == session) orders
 
--- Where they tell that file numbers are spent, the commits that were then seen may have taken them, from the first on
+-- Where they say that file numbers are spent, the commits that were then seen may have taken them, from the first on
 -- that a commit may take.
 abbrev pub AreSpentWithin : Frame → List Step → Type 0
 AreSpentWithin frame steps = (next moment faults failures : ℕ) → HasNumbers next moment faults failures frame

@@ -16,7 +16,7 @@ use Rattle.facet_phases.specs.declared.lane.Lane.{Lane}
 use Rattle.facet_phases.specs.Lanes.{AllOf, AreNumbered, KeepAll}
 use Rattle.facet_phases.specs.Phases.{AreSpentWithin, PhaseRan, answers_in}
 
--- The first pass, of which so many sessions were made. Each operation that it has entered tells that it is of session
+-- The first pass, of which so many sessions were made. Each operation that it has entered says that it is of session
 -- 0.
 pub record IsFirst (count : ℕ) (first : Pass) : Type 0 where
   pub numbers : HaveOneNumber 0 first
@@ -49,7 +49,7 @@ pub record Course : Type 0 where
 abbrev pub at_start : Settings → Opened → Course
 at_start settings opened = record { settings = settings; opened = opened; phases = []; ran = [] }
 
--- these phases were carried out behind those, by these steps
+-- these phases were carried out after those, by these steps
 abbrev pub further : Course → List (List Order) → List (List Step) → Course
 further course phases ran = record course { phases = course.phases ++ phases; ran = course.ran ++ ran }
 
@@ -70,7 +70,7 @@ BeginsUnderway engine old new lanes =
     → AreUnderway engine (at_start settings opened) new lanes
 
 module _ {C : Type 0} (Holds : List Answered → C → Type 0) where
-  -- A phase of these orders was carried out behind those: its steps. Ok is that none is left, and that the sessions
+  -- A phase of these orders was carried out after those: its steps. Ok is that none is left, and that the sessions
   -- keep the replies to all.
   pub record CarriedOut {E : Type 0} (engine : Engine) (course : Course) (orders : List Order) (old new : Pass)
       (lanes : List (Lane C))
@@ -81,7 +81,7 @@ module _ {C : Type 0} (Holds : List Answered → C → Type 0) where
     pub whole : OnOk result (AreUnderway engine (further course (orders ∷ []) (steps ∷ [])) new lanes
         × KeepAll Holds lanes (answers_in steps))
 
-  -- So it is behind whatever phases, in a system of whatever settings.
+  -- So it is after whatever phases, in a system of whatever settings.
   abbrev pub CarriesOut : {E : Type 0} → Engine → List Order → Pass → Pass → List (Lane C) → List (Lane C)
       → Result (Unit {0}) E → Type 0
   CarriesOut engine orders old new before lanes result = (course : Course) → AreUnderway engine course old before

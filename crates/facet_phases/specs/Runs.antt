@@ -49,7 +49,7 @@ module _ (Ran : List (List Order) → List (List Step) → Type 0) where
     pub before : asked (steps_of ran) ≡ in_writing_order (take many all)
 
   -- All phases were carried out, and the replies of all were handed over. Or one was the last: the replies of those
-  -- before it were handed over, and then handing over its own failed. Or there was no memory for the phase behind
+  -- before it were handed over, and then handing over its own failed. Or there was no memory for the phase after
   -- these, or for the sessions: the replies of these were handed over.
   abbrev pub EndedSo : (List Answered → Type 0) → (List Answered → List Answered → Type 0) → List (List Order)
       → Result (Unit {0}) PhaseFault → Type 0

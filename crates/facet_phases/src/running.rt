@@ -112,13 +112,14 @@ pub fn run_to_end<
     ensures ran { RunsToEnd (O.flushes out.old out.new) (BreaksBehind O.flushes O.breaks out.old out.new) system.now
         (map (λ phase. map order_view phase.items) phases.items) first (noted result.ended.notes) result.result }
 
-    // The trace tells all labels and operations that the notes show.
+    // The trace has all labels and operations that the notes show.
     ensures labels { result.ended.trace.labels ≡ labels_of (noted result.ended.notes) }
     ensures sessions { result.ended.trace.sessions.items ≡ sessions_in (history_of (noted result.ended.notes)) }
     ensures list { IsLabelList (labels_of (noted result.ended.notes)) }
 
     // The disk counts at least the faults of each commit that failed on it, whose count rose since opening began, and
-    // no fewer than then: just what the last commit was told, where that failed on it, and else what it counted then.
+    // no fewer than then: just what the last commit learned, where that failed on it, and otherwise what it counted
+    // then.
     ensures counts { All (λ p. (count : ℕ) → p.failed ≡ Some count → count ≤ D.faults result.ended.disk)
         (entries result.ended.notes.commits.seen) }
     ensures rose { (next moment faults failures : ℕ) → HasNumbers next moment faults failures first.commits.frame
@@ -128,7 +129,7 @@ pub fn run_to_end<
     ensures exact { (next moment faults failures : ℕ) → HasNumbers next moment faults failures first.commits.frame
         → D.faults result.ended.disk ≡ count_after faults (last_of (entries result.ended.notes.commits.seen)).failed }
 
-    // Where the disk told its files when opening began, it still does, and its device failed exactly where a commit
+    // Where the disk reported its files when opening began, it still does, and its device failed exactly where a commit
     // failed on it.
     ensures tells { N.told → (s : Told) × (D.told result.ended.disk ≡ Some s) }
     ensures failed { (next moment faults failures : ℕ) → N.told

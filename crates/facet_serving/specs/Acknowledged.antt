@@ -24,7 +24,7 @@ use Rattle.facet_serving.specs.Sessions.{Ran}
 -- ---- what was acknowledged stays
 
 -- of an add that came before a commit, of its session or of an earlier phase, and was answered with a place: of these
--- documents its own stands there
+-- documents its own is there
 abbrev pub HasAdd : Answered → List Doc → Answered → Type 0
 HasAdd a documents b = (doc : Doc) (place : ℕ) → IsTrue (comes_after a b) → b.order.command ≡ add doc
     → b.reply ≡ placed place
@@ -47,8 +47,8 @@ abbrev pub IsHeld : Settings → Seen → List Answered → Image → Answered �
 IsHeld settings last answered c a =
     (n : ℕ) → a.order.command ≡ commit → a.reply ≡ numbered n → Holds settings last answered a n c
 
--- Over a disk that tells its files and was settled, whatever a crash leaves at the end holds all that each acknowledged
--- commit has acknowledged.
+-- Over a disk that reports its files and was settled, whatever a crash leaves at the end holds all that each
+-- acknowledged commit has acknowledged.
 abbrev pub AcknowledgedStays : {D : Type 0} → Ghosts D → Type 0
 AcknowledgedStays {D} ghosts = (settings : Settings) (phases : List (List Order)) (trace : Trace) (old new : D)
     (t : Told) → ghosts.told old ≡ Some t
@@ -82,7 +82,7 @@ AcknowledgedSurvives {D} ghosts = (settings : Settings) (phases : List (List Ord
 
 -- ---- commits are acknowledged
 
--- of a commit: it tells a number, or of want of memory
+-- of a commit: it has a number, or reports that memory ran out
 abbrev pub IsAcknowledged : Answered → Type 0
 IsAcknowledged a = a.order.command ≡ commit → ((n : ℕ) × (a.reply ≡ numbered n)) ⊎ (a.reply ≡ refused no_memory)
 
@@ -95,7 +95,7 @@ abbrev pub HaveFewOrders : Type 0
 HaveFewOrders = ((input : List ℕ) (s : Script) → script input ≡ Ok s → length input ≤ script_limit → HasFewOrders s)
     × ((documents sessions : ℕ) → documents ≤ 1000000 → HasFewOrders (generated documents sessions))
 
--- Each commit of such a script is acknowledged, where the disk tells files whose numbers are below 2^62 and its count
+-- Each commit of such a script is acknowledged, where the disk reports files whose numbers are below 2^62 and its count
 -- of faults does not rise. So it is of the script's phases, and of the first of them.
 abbrev pub CommitsAreAcknowledged : {D : Type 0} → Ghosts D → Type 0
 CommitsAreAcknowledged {D} ghosts =

@@ -14,11 +14,11 @@ use Rattle.facet_replies.specs.Replies.{Reply, docs_full, no_memory, placed, ref
 use Rattle.facet_words.specs.Commands.{Settings, Order, add}
 use Rattle.facet_serving.specs.Sessions.{Ran}
 
--- the operations of the adds that were answered with this place, beside it
+-- the operations of the adds that were answered with this place, with it
 abbrev pub placed_at : ℕ → List Answered → List (ℕ × Operation)
 placed_at place answered = filter (λ e. e.0 == place) (filter_map placed_operation answered)
 
--- Each operation behind the opened ones is that of one add and of no other, which was answered with its place. The
+-- Each operation after the opened ones is that of one add and of no other, which was answered with its place. The
 -- trace has its session there.
 abbrev pub EachIsAddedOnce : {D : Type 0} → Ghosts D → Type 0
 EachIsAddedOnce {D} ghosts = (settings : Settings) (phases : List (List Order)) (trace : Trace) (old new : D)
@@ -27,7 +27,7 @@ EachIsAddedOnce {D} ghosts = (settings : Settings) (phases : List (List Order)) 
     → (slice_get trace.sessions.items place ≡ Some o.session)
     × (placed_at place ran.answered ≡ (place, o) ∷ [])
 
--- of an add that was answered with a place: its document stands there, under its session, also in the trace
+-- of an add that was answered with a place: its document is there, under its session, also in the trace
 abbrev pub Stands : Opened → Seen → Trace → Answered → Type 0
 Stands opened last trace a =
     (doc : Doc) (place : ℕ) → a.order.command ≡ add doc → a.reply ≡ placed place → (length opened.docs ≤ place)
@@ -39,7 +39,7 @@ EachAddStands {D} ghosts = (settings : Settings) (phases : List (List Order)) (t
     → (ran : Ran ghosts settings phases trace old new)
     → All (Stands ran.opened ran.last trace) ran.answered
 
--- it tells a place, or of want of memory, or of as many documents as there may be, which are there
+-- it has a place, or reports that memory ran out, or as many documents as there may be, which are there
 abbrev pub IsPlacedOr : Settings → List Operation → Reply → Type 0
 IsPlacedOr settings history reply =
     ((at : ℕ) × (reply ≡ placed at)) ⊎ (reply ≡ refused no_memory) ⊎ ((n : ℕ) × (settings.max_docs ≤ n)

@@ -14,12 +14,12 @@ use Rattle.facet_serving.specs.Sessions.{Ran, bytes_of}
 
 -- ---- replies that are alike
 
--- it tells that a commit failed on the disk, now or before, or that numbers are spent
+-- it reports that a commit failed on the disk, now or before, or that numbers are spent
 abbrev pub IsOfStore : Reply → Type 0
 IsOfStore reply = (n : ℕ) × ((reply ≡ refused (disk_failed n)) ⊎ (reply ≡ refused (closed n))
     ⊎ (reply ≡ refused (numbers_spent n)))
 
--- it tells none of these, nor of want of memory
+-- it reports none of these, nor that memory ran out
 abbrev pub is_plain : Reply → Bool
 is_plain (refused (disk_failed n)) = false
 is_plain (refused (closed n)) = false
@@ -27,8 +27,8 @@ is_plain (refused (numbers_spent n)) = false
 is_plain (refused no_memory) = false
 is_plain _ = true
 
--- Replies are equal one by one as far as both go, but where one of two tells of its store. Behind the first that tells
--- of want of memory nothing is said.
+-- Replies are equal one by one as far as both go, but where one of two reports on its store. After the first that
+-- reports that memory ran out nothing is promised.
 abbrev pub AreAlike : List Reply → List Reply → Type 0
 AreAlike [] qs = ⊤
 AreAlike (r ∷ rs) [] = ⊤
@@ -40,7 +40,7 @@ replies_of answered = map (λ a. a.reply) answered
 
 -- ---- the laws
 
--- Stores whose files stand for the same labels and documents are opened the same.
+-- Stores whose files represent the same labels and documents are opened the same.
 abbrev pub EqualFilesOpenTheSame : {D : Type 0} → Ghosts D → Type 0
 EqualFilesOpenTheSame {D} ghosts = (settings : Settings) (phases more : List (List Order)) (trace other : Trace)
     (one two one_after two_after : D) (t u : Told) (f g : Found)
@@ -61,7 +61,7 @@ EqualStoresReplyAlike {D} ghosts = (settings : Settings) (phases more : List (Li
     → IsPrefix (in_writing_order phases) (in_writing_order more) → IsTrue (list_all (is_of session) second.answered)
     → AreAlike (replies_of first.answered) (replies_of second.answered)
 
--- Where no reply of two runs of one script tells of its store or of want of memory, all that they write is the same,
+-- Where no reply of two runs of one script reports on its store or on memory, all that they write is the same,
 -- byte for byte, and so is their trace.
 abbrev pub EqualStoresWriteTheSame : {D : Type 0} → Ghosts D → Type 0
 EqualStoresWriteTheSame {D} ghosts = (settings : Settings) (phases : List (List Order)) (trace other : Trace)

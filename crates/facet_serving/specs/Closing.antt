@@ -1,4 +1,4 @@
--- What is written behind the phases.
+-- What is written after the phases.
 use Rattle.std.specs.Prelude.{◌≡◌, ◌⊎◌, ℕ, List, take, Result, Ok, Err}
 use Rattle.std.specs.Io.KnownBytes.{Appends}
 use Rattle.facet_io.specs.Faults.{Rose}
@@ -11,7 +11,7 @@ use Rattle.facet_serving.specs.declared.status.Status.{Status}
 use Rattle.facet_serving.specs.declared.status.Status.TheVariants.{Done, WriteFault, NoMemory}
 
 module _ {K : Type 0} where
-  -- the line was written, or a write failed behind a prefix of it
+  -- the line was written, or a write failed after a prefix of it
   abbrev pub IsWritten : List ℕ → SinkGhosts K → K → K → Status → Type 0
   IsWritten line sink before now status =
       ((status ≡ Done) × Appends (sink.written before) (sink.written now) line × (sink.faults now ≡ sink.faults before))

@@ -7,7 +7,7 @@ use Rattle.generator.specs.Tallies.{IsTallyOf}
 use Rattle.generator.specs.declared.tally.Tally.{Tally}
 use Rattle.facet_serving.specs.Alike.{replies_of}
 
--- These replies were added behind those that it had.
+-- These replies were added after those that it had.
 abbrev pub GoesOn : Tally → Tally → List Answered → Type 0
 GoesOn before now answered =
     (earlier : List Reply) → IsTallyOf earlier before → IsTallyOf (earlier ++ replies_of answered) now

@@ -57,7 +57,7 @@ EndsPartly ghosts s trace old new sink before now = Rose (sink.faults before) (s
     × (EndsInPhase ghosts s trace old new sink before now ⊎ EndsInLastLine ghosts s trace old new sink before now)
 
 -- The first phases were carried out, and of the next one, if any, the first orders of each session. The lines of the
--- whole phases were written, and behind these the line of want of memory, or where a count of faults rose a beginning
+-- whole phases were written, and after these the line of status 8, or where a count of faults rose a beginning
 -- of it.
 pub record EndsShort {D K : Type 0} (ghosts : Ghosts D) (s : Script) (trace : Trace) (old new : D) (sink : SinkGhosts K)
     (before now : K) : Type 0 where
@@ -92,7 +92,7 @@ TellsOfScript source from to sink before now =
     × WritesLine sink before now (fault_line fault)
 
 -- What was read is a script, and its store was not opened for a fault, of whose line, or where a count of faults rose
--- of a prefix of it, this tells; where the disk tells its files, they have this fault.
+-- of a prefix of it, this says; where the disk reports its files, they have this fault.
 pub record TellsOfStore {D S K : Type 0} (ghosts : Ghosts D) (source : SourceGhosts S) (from to : S)
     (sink : SinkGhosts K) (before now : K) (disk : D) (status : Status) : Type 0 where
   pub input : List ℕ

@@ -45,7 +45,7 @@ module _ {D K : Type 0} (ghosts : Ghosts D) (s : Script) (old new : D) (sink : S
     pub ran : Ran ghosts s.settings (take many s.phases ++ cut) trace old new
     pub written : WritesLine sink before now (status_line NoMemory)
 
-  -- by the status: the line of the summary was written; or a write failed behind a beginning of it; or memory was
+  -- by the status: the line of the summary was written; or a write failed after a beginning of it; or memory was
   -- wanting
   abbrev pub SummedAs : Trace → Status → Type 0
   SummedAs trace Done = SumsUp trace
@@ -61,7 +61,7 @@ module _ {D K : Type 0} (ghosts : Ghosts D) (s : Script) (old new : D) (sink : S
     pub trace_is : left ≡ Some trace
     pub ended : SummedAs trace status
 
--- ---- what is written behind the phases
+-- ---- what is written after the phases
 
 -- the line of the summary of the replies that are tallied
 abbrev pub IsLineOf : Tally → List ℕ → Type 0
@@ -74,7 +74,7 @@ module _ {K : Type 0} (total : Tally) (sink : SinkGhosts K) (before now : K) (st
   WritesSummary = ((line : List ℕ) × IsLineOf total line × IsWritten line sink before now status)
       ⊎ IsWithoutMemory sink before now status
 
-  -- the same behind phases that ended so
+  -- the same after phases that ended so
   abbrev pub ClosesSummed : Result (Unit {0}) PhaseFault → Type 0
   ClosesSummed (Ok u) = WritesSummary
   ClosesSummed (Err fault) = IsWithoutMemory sink before now status

@@ -35,7 +35,7 @@ AcknowledgedIsReopened {D} ghosts = (settings again : Settings) (phases later : 
     → (first : Ran ghosts settings phases trace start between) → (second : Ran ghosts again later more between end)
     → IsReopened first.last second.opened
 
--- and the files that it left stand for a store under these flags, so that no later run finds a fault in them
+-- and the files that it left are a store under these flags, so that no later run finds a fault in them
 abbrev pub LeavesStore : {D : Type 0} → Ghosts D → Type 0
 LeavesStore {D} ghosts = (settings : Settings) (phases : List (List Order)) (trace : Trace) (start between : D)
     (t u : Told) → ghosts.told start ≡ Some t

@@ -29,7 +29,7 @@ use Rattle.facet_serving.specs.Statuses.{fault_status, open_line, status_line}
 use Rattle.facet_serving.specs.declared.status.Status.{Status}
 use Rattle.facet_serving.specs.declared.status.Status.TheVariants.{Done, WriteFault, NoMemory}
 
--- where the disk of a store told its files, the next file takes the number behind all of theirs
+-- where the disk of a store reported its files, the next file takes the number after all of theirs
 abbrev pub GoesOnBehind : {D : Type 0} → Ghosts D → Store D → Type 0
 GoesOnBehind ghosts store = (t : Told) → ghosts.told store.start.value ≡ Some t
     → store.committer.state.next ≡ next_after (greatest_number t.files)
@@ -69,7 +69,7 @@ module _ {D K : Type 0} (ghosts : Ghosts D) (s : Script) (old new : D) (sink : S
     pub trace_is : left ≡ Some trace
     pub ended : EndsAs trace status
 
--- Why a store was not opened: the disk failed, there was no memory, or where the disk tells its files, they have this
+-- Why a store was not opened: the disk failed, there was no memory, or where the disk reports its files, they have this
 -- fault. Unless the disk failed, its count of faults stays.
 abbrev pub IsCause : {D : Type 0} → Ghosts D → Config → D → D → OpenFault → Type 0
 IsCause ghosts config old new fault = (fault ≡ OfDisk → disk.Rose (ghosts.faults old) (ghosts.faults new))

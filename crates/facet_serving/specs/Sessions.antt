@@ -25,12 +25,12 @@ pub record IsAlone (settings : Settings) (opened : Opened) (last : Seen) (answer
   pub labels : AreExactLabels settings opened.labels (length opened.labels) answered (labels_of last)
   pub served : NamesNoPair answered → Served settings opened answered last
 
--- a commit that is refused for spent numbers tells one that so many commits may have taken, from this one on
+-- a commit that is refused for spent numbers names one that so many commits may have taken, from this one on
 abbrev pub SpendsFrom : ℕ → Seen → Answered → Type 0
 SpendsFrom next last a = (number : ℕ) → a.reply ≡ refused (numbers_spent number)
     → number < next + 1000003 * length last.commits
 
--- The trace tells the labels, and whose the operations are.
+-- The trace has the labels, and whose the operations are.
 pub record IsTraceOf (trace : Trace) (last : Seen) : Type 0 where
   pub labels : trace.labels ≡ labels_of last
   pub sessions : trace.sessions.items ≡ sessions_in (history_of last)
@@ -38,7 +38,7 @@ pub record IsTraceOf (trace : Trace) (last : Seen) : Type 0 where
 -- The orders of these phases were carried out on the store that was opened, and answered so. At the end there are these
 -- labels, operations, published pairs and commits, of which this is the trace. The replies are the right output, the
 -- commits are those that were acknowledged or failed on the disk, numbers are spent only where the commits may have
--- taken them behind those of all files, and the disk keeps what was committed.
+-- taken them after those of all files, and the disk keeps what was committed.
 pub record Ran {D : Type 0} (ghosts : Ghosts D) (settings : Settings) (phases : List (List Order)) (trace : Trace)
     (old new : D) : Type 0 where
   pub opened : Opened

@@ -1,4 +1,4 @@
--- The statuses of a run: their numbers, and the lines that tell of faults.
+-- The statuses of a run: their numbers, and the lines that report faults.
 use Rattle.std.specs.Prelude.{ℕ, List, [], ◌∷◌, ◌++◌, codes}
 use Rattle.facet_disk.specs.FileNames.{name_text}
 use Rattle.facet_replies.specs.NamedFaults.{text_field, number_field, digest_field, named_fault_line}
@@ -21,7 +21,7 @@ exit_code NoMemory = 8
 exit_code TooLong = 9
 exit_code OtherConfig = 10
 
--- the line that tells of a fault; none at an end without one, nor where the line names more than the status
+-- the line that reports a fault; none at an end without one, nor where the line names more than the status
 abbrev pub status_line : Status → List ℕ
 status_line Done = []
 status_line WriteFault = []
@@ -45,7 +45,7 @@ fault_status (faults.NumbersSpent greatest) = BadStore
 fault_status (faults.OtherConfig dim) = OtherConfig
 fault_status faults.NoMemory = NoMemory
 
--- the line that tells why a store was not opened
+-- the line that says why a store was not opened
 abbrev pub open_line : OpenFault → List ℕ
 open_line faults.Disk = status_line DiskFault
 open_line (faults.Missing name) = named_fault_line (codes "missing") (text_field (codes "file") (name_text name) ∷ [])

@@ -17,15 +17,15 @@ use Rattle.store_opening.specs.Files.{Found, files}
 use Rattle.store_opening.specs.Quiet.{IsQuiet}
 use Rattle.store_opening.specs.Settled.{IsSettled}
 
--- A store was opened: a list of labels, and the documents that segments decode to. Where its disk tells the files, it
--- is what these stand for.
+-- A store was opened: a list of labels, and the documents that segments decode to. Where its disk reports the files, it
+-- is what these represent.
 pub record Opens {D : Type 0} (ghosts : Ghosts D) (config : Config) (disk : D) (opened : Opened) : Type 0 where
   pub list : IsLabelList opened.labels
   pub decodes : (segments : List Records) × Decodes opened.labels config segments opened.docs
   pub stored : (t : Told) → ghosts.told disk ≡ Some t
       → (f : Found) × (files config t.files ≡ Ok f) × (opened.labels ≡ f.labels) × (opened.docs ≡ docs_found f)
 
--- a disk tells its files where it told them before
+-- a disk reports its files where it reported them before
 abbrev pub StillTells : {D : Type 0} → Ghosts D → D → D → Type 0
 StillTells ghosts old new = (t : Told) → ghosts.told old ≡ Some t → (u : Told) × (ghosts.told new ≡ Some u)
 
@@ -39,9 +39,9 @@ abbrev pub points_of : Entries Point → List CommitPoint
 points_of commits = map (λ e. record { operations = e.1.operations; labels = e.1.labels; failed = e.1.failed }) commits
 
 -- What the disk keeps of the labels, the operations and the commits that there are at the end. Its count of faults is
--- what the last commit was told, where that failed on it, and else as it was. It tells its files where it told them;
--- there the device failed exactly where a commit did. Where it was settled too, what was committed lasts. Where no
--- commit was acknowledged or failed on it, so that there is just the opened point, nothing was written to it.
+-- what the last commit learned, where that failed on it, and else as it was. It reports its files where it reported
+-- them; there the device failed exactly where a commit did. Where it was settled too, what was committed lasts. Where
+-- no commit was acknowledged or failed on it, so that there is just the opened point, nothing was written to it.
 pub record Keeps {D : Type 0} (ghosts : Ghosts D) (config : Config) (last : Seen) (old new : D) : Type 0 where
   pub counted : All (CountsFault ghosts old new) (points_of last.commits)
   pub exact : ghosts.faults new ≡ count_after (ghosts.faults old) (last_of (points_of last.commits)).failed

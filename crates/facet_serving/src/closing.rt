@@ -12,7 +12,7 @@ use facet_phases::{PhaseFault, RanToEnd};
 use facet_replies::write_last_line;
 use std::alloc::Global;
 
-// The last line: what is behind the opened labels and documents, of which there are so many.
+// The last line: what comes after the opened labels and documents, of which there are so many.
 fn end_line(alloc: Global, opened: (u64, u32), trace: &Trace) -> Result<Vec<u8>, NoMemory>
     requires documents { opened.0 ≤ length trace.now.sessions.items }
     requires labels { (0 < opened.1) × (opened.1 ≤ length trace.now.labels) }

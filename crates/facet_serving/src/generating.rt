@@ -49,7 +49,7 @@ fn write_summed<K: Sink>(alloc: Global, sink: &mut K, total: Tally) -> Status
     }
 }
 
-// Writes what is to stand behind phases that ended so.
+// Writes what comes after phases that ended so.
 fn close_summed<K: Sink>(
     alloc: Global,
     sink: &mut K,

@@ -99,7 +99,7 @@ fn damaged_line(
     )
 }
 
-// The line that tells why a store was not opened.
+// The line that says why a store was not opened.
 fn open_line(alloc: Global, fault: &OpenFault) -> Result<Vec<u8>, NoMemory>
     ensures { IfOk result (λ line. line.items ≡ open_line fault.now) }
 {

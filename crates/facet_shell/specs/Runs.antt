@@ -59,7 +59,7 @@ module _ {S K D : Type 0} (source : SourceGhosts S) (sink : SinkGhosts K) (disk 
         → ReadsScript source before.source after.source × Rose (disk.faults before.disk) (disk.faults after.disk)
     pub device_failed : status ≡ DiskFault → (t : Told) → disk.told before.disk ≡ Some t
         → Rose (disk.failures before.disk) (disk.failures after.disk)
-    -- Counts of faults stay where nothing failed. That of the disk may rise in a commit, whose reply tells it.
+    -- Counts of faults stay where nothing failed. That of the disk may rise in a commit, whose reply reports it.
     pub source_still : status ≢ ReadFault → source.faults after.source ≡ source.faults before.source
     pub sink_still : status ≡ Done → sink.faults after.sink ≡ sink.faults before.sink
     pub disk_still : (status ≡ Done) ⊎ (status ≡ WriteFault) ⊎ (status ≡ NoMemory) ⊎ (status ≡ DiskFault)

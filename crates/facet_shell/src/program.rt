@@ -59,7 +59,7 @@ fn asked_by(alloc: Global, words: &[String]) -> Result<Option<Asked>, NoMemory>
 }
 
 // Reads a script from the source to its end, carries it out on the store of the disk, and writes the replies to the
-// sink. What was read is let go before.
+// sink. The bytes that were read are dropped before.
 fn run_read<R: Threads + Wait + Sync, S: Source, K: Sink, D: Disk, G: Gate + Sync>(
     rt: &R,
     alloc: Global,

@@ -1,4 +1,4 @@
--- The index as contracts see it, and the history that it stands for.
+-- The index as contracts see it, and the history that it represents.
 use Rattle.std.specs.Prelude.{◌≡◌, ◌++◌, ◌+◌, ℕ, nat_lt, if◌then◌else◌, List, [], ◌∷◌, length, map}
 use Rattle.std.specs.List.{AllByRecursion}
 use mathlib.Core.List.{IsPrefix}
@@ -60,7 +60,7 @@ pub record StandsFor (index : Index) (history : List Operation) : Type 0 where
 abbrev pub opened : List Doc → List Operation
 opened ds = map (λ d. record { session = 0; doc = d }) ds
 
--- it stands for one operation more
+-- it represents one operation more
 abbrev pub StandsForMore : ℕ → Doc → Index → Index → Type 0
 StandsForMore session doc old new = (history : List Operation) → StandsFor old history
     → StandsFor new (history ++ record { session = session; doc = doc } ∷ [])

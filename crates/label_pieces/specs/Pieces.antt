@@ -3,7 +3,7 @@ use Rattle.std.specs.Prelude.{◌≡◌, ◌<◌, ◌≤◌, ◌*◌, ℕ, false
 use Rattle.std.specs.List.{flat_map, list_any}
 use Rattle.facet_names.specs.Paths.{path_eq}
 
--- the labels of the pieces, one piece behind the other
+-- the labels of the pieces, one piece after the other
 abbrev pub joined : {X : Type 0} → List (List X) → List X
 joined pieces = flat_map (λ piece. piece) pieces
 

@@ -13,7 +13,7 @@ use std::sync::ledger::Ledger;
 // how many labels a full piece has
 pub(crate) const PIECE: usize = 4_096;
 
-/// At most 4,096 labels in order, found by hash. A piece behind an `Arc` never changes.
+/// At most 4,096 labels in order, found by hash. A piece in an `Arc` never changes.
 #[derive(Drop)]
 pub struct Piece {
     labels: IndexSet<Path, RandomState>,

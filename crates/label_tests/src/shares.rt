@@ -37,7 +37,7 @@ fn walked(alloc: Global, list: &Shared<u32>) -> Result<Vec<u32>, Fail> {
     Ok(entries)
 }
 
-// Whether these are the numbers from 0 on, but for a 7 at a place.
+// Whether these are the numbers from 0 on, except a 7 at one place.
 fn are_numbers(entries: &[u32], seven: usize) -> bool {
     for (at, entry) in entries.iter().enumerate() {
         if *entry as usize != if at == seven { 7 } else { at } {
@@ -47,7 +47,7 @@ fn are_numbers(entries: &[u32], seven: usize) -> bool {
     true
 }
 
-// Whether the list has so many numbers from 0 on, but for a 7 at a place.
+// Whether the list has so many numbers from 0 on, except a 7 at one place.
 fn has_numbers(alloc: Global, list: &Shared<u32>, count: u32, seven: usize) -> Result<bool, Fail> {
     let entries = walked(alloc, list)?;
     let mut read = Vec::new(alloc);

@@ -3,7 +3,7 @@ use Rattle.std.specs.Prelude.{◌==◌, ◌&&◌, ◌*◌, ◌+◌, ◌-◌, ◌
 use Rattle.std.specs.Prelude.{true, false, if◌then◌else◌, List, [], ◌∷◌, length, Option, Some, None, option_and_then}
 use Rattle.std.specs.Str.{all_ascii_digits}
 
--- what decimal digits say behind a number, the first one first
+-- what decimal digits say after a number, the first one first
 abbrev pub read_on : ℕ → List ℕ → ℕ
 read_on n [] = n
 read_on n (c ∷ cs) = read_on (n * 10 + (c - 48)) cs
@@ -13,7 +13,7 @@ abbrev pub are_plain_digits : List ℕ → Bool
 are_plain_digits [] = false
 are_plain_digits (c ∷ cs) = all_ascii_digits (c ∷ cs) && (if c == 48 then length cs == 0 else true)
 
--- the number of digits behind a minus, which is not 0
+-- the number of digits after a minus, which is not 0
 abbrev pub minus_of : List ℕ → Option ℤ
 minus_of cs =
     if are_plain_digits cs && nat_lt 0 (read_on 0 cs) && nat_le (read_on 0 cs) (2 ^ 63)

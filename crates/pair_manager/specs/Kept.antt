@@ -33,7 +33,7 @@ pub record IsKept (p : Published) (view : List (List (List ℕ))) (operations : 
 abbrev pub SaysAs : {E : Type 0} → Shown E → Shown E → Type 0
 SaysAs note other = IsNote note × (note.seen ≡ other.seen) × (note.identity ≡ other.identity)
 
--- Beside the last pair stand its notes once more.
+-- The notes of the last pair are kept a second time, next to it.
 pub record IsBeside (p : Published) (history : Shown Operation) (labels : Shown (List (List ℕ))) : Type 0 where
   pub pair : IsPair p
   pub operations : SaysAs history p.history

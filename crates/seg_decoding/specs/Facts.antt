@@ -23,7 +23,7 @@ label_of known ord = slice_index_or known ord []
 abbrev pub labels_of : List (List (List ℕ)) → List ℕ → List (List (List ℕ))
 labels_of known ords = map (label_of known) ords
 
--- the terms that stand at these indexes
+-- the terms at these indexes
 abbrev pub texts_at : Table → List ℕ → List (List ℕ)
 texts_at terms indexes = map (λ at. (term_of terms at).0) indexes
 
@@ -43,7 +43,7 @@ pub record AreFacts (config : Config) (known : List (List (List ℕ))) (needs : 
 abbrev pub HasFacts : List LabelFacts → ℕ → ℕ → Type 0
 HasFacts facts at ord = (f : LabelFacts) × (slice_get facts at ≡ Some f) × (f.ord ≡ ord)
 
--- A label behind others breaks nothing: it has a component behind its dimension, exactly one where that is not
+-- A label after others breaks nothing: it has a component after its dimension, exactly one where that is not
 -- hierarchical, and no label before it has the dimension where that is not multi-valued.
 pub record IsUnbroken (config : Config) (front : List (List (List ℕ))) (label : List (List ℕ)) : Type 0 where
   pub long : nat_le (length label) 1 ≡ false
@@ -51,7 +51,7 @@ pub record IsUnbroken (config : Config) (front : List (List (List ℕ))) (label 
   pub once : (not (flags config (dim_of label)).multi_valued
       && list_any (λ l. bytes_eq (dim_of l) (dim_of label)) front) ≡ false
 
--- each of the labels does not, behind those before it
+-- each of the labels does not, after those before it
 abbrev pub AreUnbroken : Config → List (List (List ℕ)) → Type 0
 AreUnbroken config labels = (k : ℕ) → k < length labels → IsUnbroken config (take k labels) (slice_index_or labels k [])
 
@@ -64,7 +64,7 @@ pub record AreSeen (config : Config) (known : List (List (List ℕ))) (terms : T
       ≡ option_map_or (is_counted config (labels_of known leaves)) (slice_get known ord) false
   pub passes : Passes terms doc (path_terms (flat_map prefixes (labels_of known leaves))) old new
 
--- The label stands behind the leaves, what is counted for it behind the ordinals, and the document's place was passed
+-- The label comes after the leaves, what is counted for it after the ordinals, and the document's place was passed
 -- under its terms.
 pub record IsNoted (terms : Table) (doc : ℕ) (f : LabelFacts)
     (leaves ords old leaves' ords' new : List ℕ) : Type 0 where

@@ -36,7 +36,7 @@ OpensAlike config known longer = (needs documents : ℕ) (bytes : List ℕ) → 
     → GoesOn known longer → needs ≤ length known
     → stored_segment config longer needs documents bytes ≡ stored_segment config known needs documents bytes
 
--- Segments stand for the same documents where the list of labels goes on.
+-- Segments represent the same documents where the list of labels goes on.
 abbrev pub StandAlike : Config → List (List (List ℕ)) → List (List (List ℕ)) → Type 0
 StandAlike config known longer = (segments : List Records) (docs : List Doc) → IsLabelList known → IsLabelList longer
     → GoesOn known longer

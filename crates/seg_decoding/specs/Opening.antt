@@ -1,4 +1,4 @@
--- Opening a segment that was stored for so many documents: what its bytes stand for, or the place of the first fault.
+-- Opening a segment that was stored for so many documents: what its bytes represent, or the place of the first fault.
 use Rattle.std.specs.Prelude.{ℕ, ◌+◌, ◌&&◌, List, [], ◌∷◌, length, map, Option, Some, None, Result, Ok, Err, nat_lt}
 use Rattle.std.specs.Prelude.{◌==◌, if◌then◌else◌}
 use Rattle.std.specs.Option.{option_map}
@@ -31,7 +31,7 @@ fault_place (Codec at) = at
 fault_place (Disorder at) = at
 fault_place NoMemory = 0
 
--- what was read of a segment, whose fault is told by its place
+-- what was read of a segment, whose fault is given as its place
 abbrev pub by_place : {A : Type 0} → Result A SegFault → Result A ℕ
 by_place read = told_as fault_place read
 
@@ -42,7 +42,7 @@ head_fits documents bytes = do
   n ← by_place (number_at start)
   if n.0 == documents then Ok tt else Err 8
 
--- the records and terms of a segment that has so many documents: their number comes before all that stands behind it
+-- the records and terms of a segment that has so many documents: their number comes before all that follows it
 unfoldable pub opened : ℕ → List ℕ → Result Records ℕ
 opened documents bytes = do
   head ← head_fits documents bytes
@@ -50,13 +50,13 @@ opened documents bytes = do
 
 -- ---- documents
 
--- each leaf is the ordinal of a label after the root, below `needs`; the first stands at `at`, each takes four bytes
+-- each leaf is the ordinal of a label after the root, below `needs`; the first is at `at`, each takes four bytes
 unfoldable pub leaves_fit : ℕ → ℕ → List ℕ → Result (Unit {0}) ℕ
 leaves_fit needs at [] = Ok tt
 leaves_fit needs at (leaf ∷ leaves) =
     if nat_lt 0 leaf && nat_lt leaf needs then leaves_fit needs (at + 4) leaves else Err at
 
--- where the first leaf of a record stands that begins at `at`
+-- where the first leaf of a record is that begins at `at`
 abbrev pub leaves_place : ℕ → Stored → ℕ
 leaves_place at r = at + length (text r.id) + length (text r.text) + length (vint (length r.leaves))
 
@@ -73,7 +73,7 @@ documents_fit config known needs at (r ∷ rs) = do
   first ← document_fits config known needs at r
   documents_fit config known needs (at + length (record_bytes r)) rs
 
--- ---- the segment made anew
+-- ---- the segment made again
 
 -- the record with the ordinals that are counted for its document
 abbrev pub counted_anew : Config → List (List (List ℕ)) → Stored → Stored
@@ -84,7 +84,7 @@ counted_anew config known r = record {
   counted = counted_ordinals known config (doc_in known r).labels;
 }
 
--- the segment of the documents that records stand for
+-- the segment of the documents that records represent
 abbrev pub rebuilt : Config → List (List (List ℕ)) → List Stored → Records
 rebuilt config known rs = record {
   records = map (counted_anew config known) rs;

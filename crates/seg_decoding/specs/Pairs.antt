@@ -1,4 +1,4 @@
--- Stored terms against the documents, pair by pair: a term, and a place where it stands.
+-- Stored terms against the documents, pair by pair: a term, and a place where it is.
 use Rattle.std.specs.Prelude.{◌≡◌, ℕ, ◌<◌, Bool, true, false, List, length, All, slice_get, slice_index_or}
 use Rattle.std.specs.Option.{option_map_or}
 use Rattle.facet_model.specs.Documents.{Doc}
@@ -43,7 +43,7 @@ pub record IsPassed (terms : Table) (next : List ℕ) (term : List ℕ) (place :
   pub within : index < slice_index_or next at 0
   pub points : slice_index_or (term_of terms at).1 index 0 ≡ place
 
--- at each place that was passed stands a document that has the term
+-- at each place that was passed is a document that has the term
 abbrev pub OnlyTheirs : List Doc → Table → List ℕ → Type 0
 OnlyTheirs docs terms next = (at index : ℕ) → at < length terms → index < slice_index_or next at 0
     → has_at docs (term_of terms at).0 (slice_index_or (term_of terms at).1 index 0) ≡ true

@@ -1,4 +1,4 @@
--- What the bytes of a segment stand for.
+-- What the bytes of a segment represent.
 use Rattle.std.specs.Prelude.{List, ℕ, [], Result, Ok, Err}
 use Rattle.facet_model.specs.Stored.{Records}
 use Rattle.seg_grammar.specs.declared.fault.SegFault.{SegFault}

@@ -46,7 +46,7 @@ IsBuiltOfLive segments merged = (pieces : List (List Entry)) → AllZip IsOfEntr
 abbrev pub IsOwn : Records → Type 0
 IsOwn segment = IsSegment (seg_bytes segment) (all_live segment)
 
--- The records are behind the old bytes, and within the limits.
+-- The records come after the old bytes, and within the limits.
 pub record ArePut (old new : List ℕ) (rs : List Stored) : Type 0 where
   pub bytes : new ≡ old ++ flat_map record_bytes rs
   pub fit : AllByRecursion IsRecord rs

@@ -38,7 +38,7 @@ abbrev pub with_term : Table → List ℕ → List ℕ → Table
 with_term terms text [] = terms
 with_term terms text (p ∷ ps) = terms ++ (text, p ∷ ps) ∷ []
 
--- So many terms are behind the old bytes. Their texts rise, and each has a place.
+-- So many terms come after the old bytes. Their texts rise, and each has a place.
 pub record AreWritten (old new : List ℕ) (count : ℕ) (terms : Table) : Type 0 where
   pub bytes : new ≡ old ++ flat_map term_bytes terms
   pub number : count ≡ length terms
@@ -72,7 +72,7 @@ pub record IsNextTerm (ss : List Records) (passed : List ℕ) (number at : ℕ) 
 abbrev pub AreAllPassed : List Records → List ℕ → Type 0
 AreAllPassed ss passed = (k : ℕ) → k < length ss → length (segment_at ss k).terms ≤ slice_index_or passed k 0
 
--- The terms of the live records of segments are behind the old bytes, each with its places in the merged segment.
+-- The terms of the live records of segments come after the old bytes, each with its places in the merged segment.
 pub record AreMerged (ss : List Records) (old new : List ℕ) (count : ℕ) : Type 0 where
   pub terms : Table
   pub written : AreWritten old new count terms

@@ -7,7 +7,7 @@ pub fn have_terms()
     ensures decoded { DecodedHaveTerms }
 {}
 
-/// A merged segment decodes to the documents of the segments that it was merged of, and may stand in their place among
+/// A merged segment decodes to the documents of the segments that it was merged of, and may take their place among
 /// others.
 pub fn same_documents()
     ensures documents { HasTheDocuments }

@@ -18,7 +18,7 @@ fn put_range(out: &mut Vec<u8>, segment: &Segment, from: u32, to: u32) -> Result
     Ok(())
 }
 
-// Appends the live records of a segment: all bytes between two records that are not live at once.
+// Appends the live records of a segment: in one step all bytes between two records that are not live.
 fn put_segment(out: &mut Vec<u8>, segment: &Segment) -> Result<(), NoMemory>
     ensures { OnOk result (ArePut out.old.items out.new.items (alive segment.now.dead segment.now.records)) }
 {

@@ -41,7 +41,7 @@ fn put_moved(
     Ok(())
 }
 
-// Appends places behind their number.
+// Appends places after their number.
 fn put_places(out: &mut Vec<u8>, places: &[u32]) -> Result<(), NoMemory>
     requires { length places.now < 2 ^ 32 }
     ensures { OnOk result (out.new.items ≡ out.old.items ++ places_bytes places.now) }
@@ -115,7 +115,7 @@ fn bases_of(alloc: Global, segments: &[Arc<Segment>]) -> Result<Vec<u32>, NoMemo
     Ok(bases)
 }
 
-// The text of a term, or none behind the last one.
+// The text of a term, or none after the last one.
 fn text_at(segment: &Segment, at: usize) -> Option<&str> {
     if at < segment.terms() {
         Some(segment.term_text(at))
@@ -185,7 +185,7 @@ fn step<'s>(heads: &mut [Head<'s>], text: Option<&'s str>) {
 }
 
 /// Appends the terms of the live records, rising by their bytes, each once, with the places of the records one segment
-/// after the other, and returns how many there are. It goes over the terms of all segments at once, and compares each
+/// after the other, and returns how many there are. It goes over the terms of all segments together, and compares each
 /// with about twice the logarithm of the number of segments. It takes memory for the places of one term, and 36 bytes a
 /// segment.
 pub(crate) fn put_merged_terms(
@@ -218,7 +218,7 @@ pub(crate) fn put_merged_terms(
         step(&mut heads, text_at(segment, at + 1));
     }
     put_term(out, &mut count, text, &places)?;
-    // The heads are in order, so that the walk ends behind all terms.
+    // The heads are in order, so that the walk ends after all terms.
     if !is_end(&passed, segments) {
         return Err(NoMemory);
     }

@@ -7,11 +7,11 @@ use Rattle.std.specs.List.{flat_map, AllByRecursion}
 abbrev pub items_in : {T : Type 0} → Vec T → List T
 items_in v = v.items
 
--- the entries of the full pieces, one after the other, and then those behind
+-- the entries of the full pieces, one after the other, and then those after them
 abbrev pub joined : {X T : Type 0} → (X → List T) → List X → List T → List T
 joined entries full last = flat_map entries full ++ last
 
--- Each piece has 1,024 entries, and behind them there are fewer.
+-- Each piece has 1,024 entries, and after them there are fewer.
 pub record ArePieces {X T : Type 0} (entries : X → List T) (full : List X) (last : List T) : Type 0 where
   pub each : AllByRecursion (λ p. length (entries p) ≡ 1024) full
   pub fewer : length last < 1024

@@ -86,7 +86,7 @@ impl<'a> SidewaysAnswer<'a> {
         self.found.number
     }
 
-    /// Returns the places of the first hits, in order, at most as many as the ask wants. Places number the live
+    /// Returns the places of the first hits, in order, at most as many as the ask lists. Places number the live
     /// documents of all segments from 0. It takes constant time.
     pub fn hits(&self) -> &[u32]
         ensures { (docs : List Doc) → HasDocs (question self.now) docs

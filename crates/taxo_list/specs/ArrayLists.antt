@@ -1,4 +1,4 @@
--- The arrays of a list of labels, as lists. An entry stands at its ordinal, and -1 is none.
+-- The arrays of a list of labels, as lists. An entry is at its ordinal, and -1 means none.
 use Rattle.std.specs.Prelude.{◌≡◌, ◌≤◌, ℕ, ℤ, List, length, take, map, Option}
 use Rattle.std.specs.List.{range_with_len}
 use Rattle.facet_names.specs.Arrays.{or_none, parent_at, child_at, sibling_at}

@@ -11,7 +11,7 @@ abbrev pub ordinal : ℤ → Option ℕ
 ordinal (pos n) = Some n
 ordinal (negsuc n) = None
 
--- the parent that stands at an ordinal
+-- the parent at an ordinal
 abbrev pub parent_in : List ℤ → ℕ → Option ℕ
 parent_in parents i = ordinal (slice_index_or parents i (negsuc 0))
 
