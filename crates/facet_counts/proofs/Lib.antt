@@ -14,3 +14,4 @@ pub mod Results
 pub mod EachDim
 pub mod Ordered
 pub mod Together
+pub mod Pieces

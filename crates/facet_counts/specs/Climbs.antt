@@ -13,9 +13,13 @@ abbrev pub below_root : ℕ → Option ℕ
 below_root zero = None
 below_root (suc n) = Some (suc n)
 
--- what an ordinal's count goes to, where it is marked to be rolled up
+-- what a count goes to, where it is marked to be rolled up, from the parent
+abbrev pub up_from : Bool → Option ℕ → Option ℕ
+up_from mark parent = if mark then option_and_then below_root parent else None
+
+-- what an ordinal's count goes to
 abbrev pub next_of : Bool → List (List (List ℕ)) → ℕ → Option ℕ
-next_of mark labels ord = if mark then option_and_then below_root (parent_at labels ord) else None
+next_of mark labels ord = up_from mark (parent_at labels ord)
 
 abbrev pub goes_to : Config → List (List (List ℕ)) → ℕ → Option ℕ
 goes_to config labels ord = next_of (is_rolled config labels ord) labels ord

@@ -6,3 +6,5 @@ pub mod More
 mod Front
 mod Grown
 pub mod Crossing
+pub mod Pieces
+pub mod Numbered

@@ -1,5 +1,6 @@
-ghost use Rattle.std.specs.Prelude.{◌≡◌, ◌<◌, ◌≤◌, ◌++◌, ◌∷◌, ℕ, [], negsuc, length, take, slice_index_or, IfOk, OnOk};
-ghost use Rattle.std.specs.Prelude.{OnErr};
+ghost use Rattle.std.specs.Prelude.{◌≡◌, ◌<◌, ◌≤◌, ◌*◌, ◌++◌, ◌∷◌, ℕ, [], negsuc, length, take, drop as skip};
+ghost use Rattle.std.specs.Prelude.{slice_index_or};
+ghost use Rattle.std.specs.Prelude.{IfOk, OnOk, OnErr};
 ghost use Rattle.taxo_list.specs.ArrayLists.{arrays_of, AreOfPrefix};
 ghost use Rattle.taxo_list.specs.Links.{arrays_by, AreParents};
 
@@ -137,6 +138,16 @@ impl Arrays {
         ensures { result ≡ slice_index_or self.now.parents ord (negsuc 0) }
     {
         self.parents.get(ord as usize)
+    }
+
+    /// Returns the parents of the labels from ordinal `piece * 1024` on, at most 1,024, as a slice. It is empty after
+    /// the last label.
+    ///
+    /// A walk over all labels reads these slices faster than one parent after the other.
+    pub fn parents_in(&self, piece: usize) -> &[i32]
+        ensures { result.now ≡ take 1024 (skip (piece * 1024) self.now.parents) }
+    {
+        self.parents.piece(piece)
     }
 
     /// Returns the ordinal of the child that was added last, or -1, in constant time.

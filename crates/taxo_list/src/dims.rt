@@ -1,5 +1,5 @@
-ghost use Rattle.std.specs.Prelude.{◌≡◌, ◌<◌, ◌≤◌, ◌++◌, ℕ, List, [], ◌∷◌, length, take, slice_index_or, unwrap_or};
-ghost use Rattle.std.specs.Prelude.{IfOk, OnOk, OnErr};
+ghost use Rattle.std.specs.Prelude.{◌≡◌, ◌<◌, ◌≤◌, ◌*◌, ◌++◌, ℕ, List, [], ◌∷◌, length, take, drop as skip};
+ghost use Rattle.std.specs.Prelude.{slice_index_or, unwrap_or, IfOk, OnOk, OnErr};
 ghost use Rattle.std.specs.Arc.{arc_value};
 ghost use Rattle.facet_names.specs.Labels.{IsLabelList};
 ghost use Rattle.taxo_list.specs.ArrayLists.{arrays_of};
@@ -133,5 +133,12 @@ impl Dims {
         ensures { result ≡ slice_index_or self.now.numbers ord 0 }
     {
         self.numbers.get(ord as usize)
+    }
+
+    /// Returns the places of the dimensions of the labels from ordinal `piece * 1024` on, at most 1,024, as a slice.
+    pub fn numbers_in(&self, piece: usize) -> &[u32]
+        ensures { result.now ≡ take 1024 (skip (piece * 1024) self.now.numbers) }
+    {
+        self.numbers.piece(piece)
     }
 }

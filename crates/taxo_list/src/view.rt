@@ -1,4 +1,5 @@
-ghost use Rattle.std.specs.Prelude.{◌≡◌, ◌<◌, ◌≤◌, ◌+◌, ◌-◌, [], ◌∷◌, All, Some, length, is_some, slice_get, IfOk};
+ghost use Rattle.std.specs.Prelude.{◌≡◌, ◌<◌, ◌≤◌, ◌+◌, ◌-◌, ◌*◌, ℕ, [], ◌∷◌, All, Some, length, take, drop as skip};
+ghost use Rattle.std.specs.Prelude.{is_some, slice_get, slice_index_or, IfOk};
 ghost use mathlib.Core.List.{IsPrefix};
 ghost use Rattle.facet_names.specs.Labels.{IsLabelList, place, stands};
 ghost use Rattle.taxo_list.specs.ArrayLists.{arrays_of};
@@ -131,5 +132,17 @@ impl TaxoView {
         ensures { IsDimNumber self.now (dims_of self.now) ord result }
     {
         self.dims.number(ord)
+    }
+
+    /// Returns what [`dim_number`](TaxoView::dim_number) is for the labels from ordinal `piece * 1024` on, at most
+    /// 1,024, as a slice. It is empty after the last label. The number of the root means nothing.
+    ///
+    /// A walk over all labels reads these slices faster than one number after the other.
+    pub fn dim_numbers_in(&self, piece: usize) -> &[u32]
+        ensures len { length result.now ≡ length (take 1024 (skip (piece * 1024) self.now)) }
+        ensures each { (n : ℕ) → n < length result.now → 0 < piece * 1024 + n
+            → IsDimNumber self.now (dims_of self.now) (piece * 1024 + n) (slice_index_or result.now n 0) }
+    {
+        self.dims.numbers_in(piece)
     }
 }
