@@ -3,3 +3,5 @@ pub mod Values
 pub mod Shapes
 pub mod Bounds
 pub mod Laws
+pub mod Results
+pub mod SumViews

@@ -6,7 +6,9 @@
 mod laws;
 mod number;
 mod range;
+mod results;
 
 pub use laws::sums_fit;
 pub use number::{read_number, read_small_number};
 pub use range::Range;
+pub use results::{RangeCounts, Sum};
