@@ -1,6 +1,8 @@
-ghost use Rattle.std.specs.Prelude.{◌≡◌};
+ghost use Rattle.std.specs.Prelude.{◌≡◌, IfOk};
+ghost use Rattle.std.specs.Arc.{arc_value};
 
 use crate::pair::Pair;
+use facet_names::NoMemory;
 use std::marker::Model;
 use std::sync::Arc;
 
@@ -26,6 +28,15 @@ impl Lease {
         ensures { result.now ≡ self.now }
     {
         &self.pair
+    }
+
+    /// Returns a shared reference to the pair, which keeps it in memory after the lease is released. It copies nothing.
+    ///
+    /// Errors: out of memory, if there are too many references.
+    pub fn share(&self) -> Result<Arc<Pair>, NoMemory>
+        ensures { IfOk result (λ p. arc_value p ≡ self.now) }
+    {
+        Ok(Arc::try_clone(&self.pair)?)
     }
 }
 
