@@ -11,20 +11,22 @@ use Rattle.facet_names.proofs.LabelLists.{fresh}
 use Rattle.facet_model.specs.Accepts.{Broken, first_broken}
 use Rattle.facet_model.specs.Documents.{Doc}
 use Rattle.facet_model.specs.Histories.{knows}
-use Rattle.facet_words.specs.Commands.{Settings, Command, Order, add, refresh, hold, release, search, document, stats, commit, merge}
+use Rattle.facet_words.specs.Commands.{Settings, Order}
+use Rattle.facet_output.specs.Effects.{Effect, adds, publishes, holds, releases, persists, merges, looks, effect, Report, report}
 use Rattle.facet_output.specs.Held.{Held, held_after}
-use Rattle.facet_output.specs.OneSession.{LeavesFirst, AddLeaves, Leaves, AreExactLabels, OneSessionHasItsLabels, room, is_resolved}
+use Rattle.facet_output.specs.OneSession.{LeavesFirst, AddLeaves, EffectLeaves, Leaves, AreExactLabels, OneSessionHasItsLabels, room, is_resolved}
 use Rattle.facet_output.specs.Output.{Opened}
 use Rattle.facet_replies.specs.Replies.{Reply, refused, no_memory}
-use Rattle.facet_output.specs.Replying.{IsAdded, IsResolved, IsRight}
+use Rattle.facet_output.specs.Replying.{IsAdded, IsResolved, IsRight, IsRightBy}
 use Rattle.facet_output.specs.Seen.{Entries, Seen, Sees, IsTold, entered_by, opened_seen, labels_of, history_of}
 use Rattle.facet_output.specs.Sessions.{SessionRan, AllRan, steps_of, own_steps, is_by}
-use Rattle.facet_output.specs.Steps.{Step, IsStep, IsLastPair, IsEntered, EntersPair}
-use Rattle.facet_output.specs.Reported.{brings, says_full, refreshed, refreshed_by}
+use Rattle.facet_output.specs.Steps.{Step, IsStep, IsLastPair, IsEntered, IsEnteredBy, EntersPair}
+use Rattle.facet_output.specs.Reported.{brought, says_full, refreshed, refreshed_in}
 use Rattle.facet_output.proofs.Among.{In, of_all, of_append}
 use Rattle.facet_output.proofs.Answers.{of_get_map}
 use Rattle.facet_output.proofs.Bringing.{full_added, labels_begin, opened_first}
 use Rattle.facet_output.proofs.Chain.{sees_self, sees_trans, sees_last}
+use Rattle.facet_output.proofs.Effects.{refresh_only}
 use Rattle.facet_output.proofs.Exact.{filter_all}
 use Rattle.facet_output.proofs.Fresh.{if_some}
 use Rattle.facet_output.proofs.Fronts.{prefix_whole, take_prefix, get_there, get_below, get_last, own_front, labels_size}
@@ -98,24 +100,24 @@ module _ (settings : Settings) (phases : List (List Order)) (opened : Opened) (r
         let same : n ≡ x.answered.order.session = n_is ∙ sym (own x there) in
         step.labels k p behind (subst (λ (m : ℕ). slice_get x.after.labels k ≡ Some (m, p)) same at)
 
-    abbrev IsEnteredBy : Command → Type 0
-    IsEnteredBy command = (k n : ℕ) (p : List (List ℕ)) → slice_get x.after.labels k ≡ Some (n, p) → length x.before.labels ≤ k → IsEntered settings command after k p
+    abbrev EachBy : Effect → Type 0
+    EachBy e = (k n : ℕ) (p : List (List ℕ)) → slice_get x.after.labels k ≡ Some (n, p) → length x.before.labels ≤ k → IsEnteredBy settings e after k p
 
     -- a command that brings no label leaves them
-    left : (command : Command) → IsEnteredBy command → ((p : List (List ℕ)) → brings settings.config p command ≡ true → ⊥) → after ≡ before
-    left command enters none = sym (prefix_whole before after begins (⊎_elim
+    left : (e : Effect) → EachBy e → ((p : List (List ℕ)) → brought settings.config p e ≡ true → ⊥) → after ≡ before
+    left e enters none = sym (prefix_whole before after begins (⊎_elim
         (λ lt. let s = labels_size x.before in let t = labels_size x.after in
         let r = get_there x.after.labels (length x.before.labels) (omega arith) in
         absurd (none r.0.1 (enters (length x.before.labels) r.0.0 r.0.1 r.1 (omega arith)).0))
         (λ le. le) (cases_lt (length before) (length after))))
 
-    module _ (doc : Doc) (reply : Reply) (accepted : first_broken settings.config doc ≡ None) (enters : IsEnteredBy (add doc)) where
+    module _ (doc : Doc) (reply : Reply) (accepted : first_broken settings.config doc ≡ None) (enters : EachBy (adds doc)) where
       next_path : Enters after (once x until) before (flat_map prefixes doc.labels)
       next_path zero p le at = let s = labels_size x.before in absurd (omega arith)
       next_path (suc k) p le at =
           let s = labels_size x.before in
           let e = of_get_map (λ (e : ℕ × List (List ℕ)). e.1) x.after.labels k p at in
-          let is = subst (λ (q : List (List ℕ)). IsEntered settings (add doc) after k q) (sym e.2) (enters k e.0.0 e.0.1 e.1 (omega arith)) in (
+          let is = subst (λ (q : List (List ℕ)). IsEnteredBy settings (adds doc) after k q) (sym e.2) (enters k e.0.0 e.0.1 e.1 (omega arith)) in (
             (and_parts (is_none (first_broken settings.config doc)) (stands (flat_map prefixes doc.labels) p) is.0).1,
             subst (λ (n : ℕ). skips_none (take n after) (flat_map prefixes doc.labels) p ≡ true) (let n : k + 1 ≡ suc k = omega arith in n) is.2,
           )
@@ -148,38 +150,28 @@ module _ (settings : Settings) (phases : List (List Order)) (opened : Opened) (r
             (λ lacks. let no_match : false ≡ true = sym (ap is_resolved lacks) ∙ is in absurd cc) right;
       }
 
-    add_leaves : (doc : Doc) (reply : Reply) (o : Option Broken) → first_broken settings.config doc ≡ o → IsEnteredBy (add doc) → IsAdded settings after (history_of x.after) session doc o reply ⊎ (reply ≡ refused no_memory) → AddLeaves settings before doc o reply after
-    add_leaves doc reply (Some b) e enters right = left (add doc) enters (λ p brought.
+    add_leaves : (doc : Doc) (reply : Reply) (o : Option Broken) → first_broken settings.config doc ≡ o → EachBy (adds doc) → IsAdded settings after (history_of x.after) session doc o reply ⊎ (reply ≡ refused no_memory) → AddLeaves settings before doc o reply after
+    add_leaves doc reply (Some b) e enters right = left (adds doc) enters (λ p brought.
         let is = (and_parts (is_none (first_broken settings.config doc)) (stands (flat_map prefixes doc.labels) p) brought).0 in
         let no_match : false ≡ true = sym (ap is_none e) ∙ is in absurd cc)
     add_leaves doc reply None e enters right = leaves_first doc reply e enters right
 
-    leaves : (command : Command) (reply : Reply) → IsEnteredBy command → IsRight settings after (history_of x.after) held session command x.answered.took reply ⊎ (reply ≡ refused no_memory) → Leaves settings before command reply after
-    leaves (add doc) reply enters right = add_leaves doc reply (first_broken settings.config doc) refl enters right
-    leaves refresh reply enters right = left refresh enters (λ p e. absurd cc)
-    leaves (hold name) reply enters right = left (hold name) enters (λ p e. absurd cc)
-    leaves (release name) reply enters right = left (release name) enters (λ p e. absurd cc)
-    leaves (search on s) reply enters right = left (search on s) enters (λ p e. absurd cc)
-    leaves (document on at) reply enters right = left (document on at) enters (λ p e. absurd cc)
-    leaves (stats on) reply enters right = left (stats on) enters (λ p e. absurd cc)
-    leaves commit reply enters right = left commit enters (λ p e. absurd cc)
-    leaves merge reply enters right = left merge enters (λ p e. absurd cc)
+    leaves : (e : Effect) (reply : Reply) → EachBy e → IsRightBy settings after (history_of x.after) held session e x.answered.order.command x.answered.took reply ⊎ (reply ≡ refused no_memory) → EffectLeaves settings before e reply after
+    leaves (adds doc) reply enters right = add_leaves doc reply (first_broken settings.config doc) refl enters right
+    leaves publishes reply enters right = left publishes enters (λ p h. absurd cc)
+    leaves (holds name) reply enters right = left (holds name) enters (λ p h. absurd cc)
+    leaves (releases name) reply enters right = left (releases name) enters (λ p h. absurd cc)
+    leaves persists reply enters right = left persists enters (λ p h. absurd cc)
+    leaves merges reply enters right = left merges enters (λ p h. absurd cc)
+    leaves (looks on) reply enters right = left (looks on) enters (λ p h. absurd cc)
 
     pub step_leaves : Leaves settings before x.answered.order.command x.answered.reply after
-    step_leaves = leaves x.answered.order.command x.answered.reply entered_at (⊎_elim
+    step_leaves = leaves (effect x.answered.order.command) x.answered.reply entered_at (⊎_elim
         (λ right. inl (subst (λ (n : ℕ). IsRight settings after (history_of x.after) held n x.answered.order.command x.answered.took x.answered.reply) (own x there) right))
         (λ lacks. inr lacks.1) step.right)
 
-    refresh_left : (command : Command) (reply : Reply) (n : ℕ) → refreshed_by command reply ≡ Some n → IsEnteredBy command → after ≡ before
-    refresh_left refresh reply n e enters = left refresh enters (λ p e. absurd cc)
-    refresh_left (add doc) reply n e enters = absurd cc
-    refresh_left (hold name) reply n e enters = absurd cc
-    refresh_left (release name) reply n e enters = absurd cc
-    refresh_left (search on s) reply n e enters = absurd cc
-    refresh_left (document on at) reply n e enters = absurd cc
-    refresh_left (stats on) reply n e enters = absurd cc
-    refresh_left commit reply n e enters = absurd cc
-    refresh_left merge reply n e enters = absurd cc
+    refresh_left : (e : Effect) (said : Report) (n : ℕ) → refreshed_in e said ≡ Some n → EachBy e → after ≡ before
+    refresh_left e said n h enters = left e enters (λ p brings. let no_match : false ≡ true = sym (ap (brought settings.config p) (refresh_only e said n h).0) ∙ brings in absurd cc)
 
   -- ---- all steps
 
@@ -237,7 +229,7 @@ module _ (settings : Settings) (phases : List (List Order)) (opened : Opened) (r
           by : (o : Option ℕ) → refreshed x.answered ≡ o → EntersPair x.answered.order.session (length (labels_of x.before)) (length (labels_of x.after)) o x.before.pairs x.after.pairs → EndsWith x.after.pairs (if is_none o then taken else length (labels_of x.before))
           by None e enters = subst (λ (ps : Entries (ℕ × ℕ)). EndsWith ps taken) (none_published x there from step.sees until None refl enters) ends
           by (Some n) e enters =
-              let left = ap length (refresh_left held x there from until step x.answered.order.command x.answered.reply n e (entered_at held x there from until step)) in
+              let left = ap length (refresh_left held x there from until step (effect x.answered.order.command) (report x.answered.reply) n e (entered_at held x there from until step)) in
               let low = enters.3 in let high = enters.4 in
               let size : enters.1 ≡ length (labels_of x.before) = omega arith in
               (enters.0, x.answered.order.session, n, enters.2.1 ∙ ap (λ (m : ℕ). enters.0 ++ (x.answered.order.session, (n, m)) ∷ []) size)

@@ -7,17 +7,19 @@ use mathlib.Core.List.{IsPrefix}
 use Rattle.facet_model.specs.Accepts.{Broken, first_broken}
 use Rattle.facet_model.specs.Documents.{Doc}
 use Rattle.facet_model.specs.Histories.{Operation, knows}
-use Rattle.facet_words.specs.Commands.{Settings, Command, Order, add, refresh, hold, release, search, document, stats, commit, merge}
+use Rattle.facet_words.specs.Commands.{Settings, Command, Order}
+use Rattle.facet_output.specs.Effects.{Effect, effect, report}
 use Rattle.facet_replies.specs.Replies.{Reply, refused, no_memory}
 use Rattle.facet_output.specs.Answered.{Answered, comes_after}
 use Rattle.facet_output.specs.Held.{Held}
 use Rattle.facet_output.specs.Output.{Opened, is_brought, was_full}
-use Rattle.facet_output.specs.Replying.{IsAdded, IsResolved, IsRight}
+use Rattle.facet_output.specs.Replying.{IsAdded, IsResolved, IsRight, IsRightBy}
 use Rattle.facet_output.specs.Reported.{brings, says_full, is_refused_for_labels}
 use Rattle.facet_output.specs.Seen.{Seen, Sees, opened_seen, labels_of, history_of}
 use Rattle.facet_output.specs.Steps.{Step, IsEntered}
 use Rattle.facet_output.specs.Sessions.{AllRan, steps_of, own_steps}
 use Rattle.facet_output.proofs.Chain.{sees_last, sees_trans}
+use Rattle.facet_output.proofs.Effects.{add_rejected}
 use Rattle.facet_output.proofs.Among.{In, all_in}
 use Rattle.facet_output.proofs.Answers.{answers, all_steps, any_step, in_drop, of_get_map}
 use Rattle.facet_output.proofs.Fresh.{implied}
@@ -37,29 +39,12 @@ module _ (settings : Settings) (labels : List (List (List ℕ))) (history : List
 
 pub full_size : (settings : Settings) (labels : List (List (List ℕ))) (history : List Operation) (held : Held) (session : ℕ) (took : Option (ℕ × ℕ)) (reply : Reply) (command : Command) → is_refused_for_labels command reply ≡ true
     → IsRight settings labels history held session command took reply → settings.max_labels ≤ length labels
-full_size settings labels history held session took reply (add doc) says right = full_added settings labels history held session took reply says doc (first_broken settings.config doc) right
-full_size settings labels history held session took reply refresh says right = absurd cc
-full_size settings labels history held session took reply (hold name) says right = absurd cc
-full_size settings labels history held session took reply (release name) says right = absurd cc
-full_size settings labels history held session took reply (search on s) says right = absurd cc
-full_size settings labels history held session took reply (document on at) says right = absurd cc
-full_size settings labels history held session took reply (stats on) says right = absurd cc
-full_size settings labels history held session took reply commit says right = absurd cc
-full_size settings labels history held session took reply merge says right = absurd cc
+full_size settings labels history held session took reply command says right =
+    let add = add_rejected (effect command) (report reply) says in
+    full_added settings labels history held session took reply add.2 add.0 (first_broken settings.config add.0) (subst (λ (e : Effect). IsRightBy settings labels history held session e command took reply) add.1 right)
 
 lacks_memory : (command : Command) (reply : Reply) → is_refused_for_labels command reply ≡ true → reply ≡ refused no_memory → ⊥
-lacks_memory command reply says e = by command (subst (λ (r : Reply). is_refused_for_labels command r ≡ true) e says)
-  where
-    by : (command : Command) → is_refused_for_labels command (refused no_memory) ≡ true → ⊥
-    by (add doc) h = cc
-    by refresh h = cc
-    by (hold name) h = cc
-    by (release name) h = cc
-    by (search on s) h = cc
-    by (document on at) h = cc
-    by (stats on) h = cc
-    by commit h = cc
-    by merge h = cc
+lacks_memory command reply says e = let no_match : false ≡ true = sym (ap says_full e) ∙ (add_rejected (effect command) (report reply) says).2 in cc
 
 module _ (settings : Settings) (phases : List (List Order)) (opened : Opened) (ran : List (List Step)) (last : Seen) (all : AllRan settings phases opened ran last) where
   -- the first labels are the opened ones

@@ -8,16 +8,17 @@ use mathlib.Core.List.{IsPrefix}
 use Rattle.facet_model.specs.Accepts.{Broken, first_broken}
 use Rattle.facet_model.specs.Documents.{Doc}
 use Rattle.facet_model.specs.Histories.{Operation, knows}
-use Rattle.facet_words.specs.Commands.{Settings, Command, Order, add, refresh, hold, release, search, document, stats, commit, merge}
+use Rattle.facet_words.specs.Commands.{Settings, Command, Order}
+use Rattle.facet_output.specs.Effects.{Effect, adds, publishes, holds, releases, persists, merges, looks, effect, says_refused, for_memory, report}
 use Rattle.facet_output.specs.Answered.{comes_after}
 use Rattle.facet_output.specs.Held.{Held}
 use Rattle.facet_output.specs.Output.{Opened, has_shown, is_entered}
-use Rattle.facet_replies.specs.Replies.{Reply, refused, no_memory}
-use Rattle.facet_output.specs.Replying.{IsAdded, IsResolved, IsOf, IsRight, pair_seen, numbers_of}
+use Rattle.facet_replies.specs.Replies.{Reply}
+use Rattle.facet_output.specs.Replying.{IsAdded, IsResolved, IsOf, IsLooked, IsRightBy, pair_seen}
 use Rattle.facet_output.specs.Seen.{Seen, labels_of, history_of}
 use Rattle.facet_output.specs.Sessions.{AllRan, steps_of}
 use Rattle.facet_output.specs.Steps.{Step}
-use Rattle.facet_output.specs.Reported.{brings, paths_of, add_among, stats_among, reply_among, labels_among}
+use Rattle.facet_output.specs.Reported.{brings, paths_of, add_among, pair_among, report_among, labels_among}
 use Rattle.facet_output.proofs.Among.{In, all_in}
 use Rattle.facet_output.proofs.Answers.{answers, all_steps, any_step, of_get_map}
 use Rattle.facet_output.proofs.Bringing.{labels_begin, label_entered, opened_size}
@@ -26,6 +27,7 @@ use Rattle.facet_output.proofs.Fronts.{get_below, take_prefix, labels_size}
 use Rattle.facet_output.proofs.HeldPairs.{pair_in}
 use Rattle.facet_output.proofs.Known.{facts, after_sees}
 use Rattle.facet_output.proofs.Lifting.{still_knows}
+use Rattle.facet_output.proofs.Looking.{looked}
 use Rattle.facet_output.proofs.Pairing.{pair_labels}
 use Rattle.facet_names.specs.Labels.{skips_none}
 use Rattle.chronicle.proofs.Prefixes.{prefix_length}
@@ -54,42 +56,38 @@ in_numbered n (suc m) (x ∷ xs) e there =
 -- ---- what a right reply has shown of the labels
 
 module _ (settings : Settings) (labels these : List (List (List ℕ))) (history : List Operation) (held : Held) (session : ℕ) (took : Option (ℕ × ℕ)) (reply : Reply) (begins : IsPrefix labels these) where
-  resolved_among : (doc : Doc) (b : Bool) → knows labels doc ≡ b → IsResolved settings labels history session doc b reply → add_among doc these reply ≡ true
-  resolved_among doc false e r = subst (λ (q : Reply). add_among doc these q ≡ true) (sym r.1) (le-leb (length labels) (length these) (prefix_length labels these begins))
+  resolved_among : (doc : Doc) (b : Bool) → knows labels doc ≡ b → IsResolved settings labels history session doc b reply → add_among doc these (report reply) ≡ true
+  resolved_among doc false e r = subst (λ (q : Reply). add_among doc these (report q) ≡ true) (sym r.1) (le-leb (length labels) (length these) (prefix_length labels these begins))
   resolved_among doc true e r = ⊎_elim
-      (λ p. subst (λ (q : Reply). add_among doc these q ≡ true) (sym p.3) (still_knows labels these doc begins e))
-      (λ n. subst (λ (q : Reply). add_among doc these q ≡ true) (sym n.3) (still_knows labels these doc begins e)) r
+      (λ p. subst (λ (q : Reply). add_among doc these (report q) ≡ true) (sym p.3) (still_knows labels these doc begins e))
+      (λ n. subst (λ (q : Reply). add_among doc these (report q) ≡ true) (sym n.3) (still_knows labels these doc begins e)) r
 
-  added_among : (doc : Doc) (o : Option Broken) → IsAdded settings labels history session doc o reply → add_among doc these reply ≡ true
-  added_among doc (Some b) r = subst (λ (q : Reply). add_among doc these q ≡ true) (sym r) refl
+  added_among : (doc : Doc) (o : Option Broken) → IsAdded settings labels history session doc o reply → add_among doc these (report reply) ≡ true
+  added_among doc (Some b) r = subst (λ (q : Reply). add_among doc these (report q) ≡ true) (sym r) refl
   added_among doc None r = resolved_among doc (knows labels doc) refl r
 
-  of_among : (o : Option (ℕ × ℕ)) (on : Option (List ℕ)) → ((pair : ℕ × ℕ) → o ≡ Some pair → pair.1 ≤ length labels) → IsOf (λ pair r. r ≡ numbers_of history pair) o on reply → stats_among these reply ≡ true
-  of_among (Some pair) on seen r = let l = seen pair refl in let m = prefix_length labels these begins in subst (λ (q : Reply). stats_among these q ≡ true) (sym r) (le-leb pair.1 (length these) (omega arith))
-  of_among None (Some name) seen r = subst (λ (q : Reply). stats_among these q ≡ true) (sym r) refl
-  of_among None None seen r = absurd r
+  of_among : (command : Command) (o : Option (ℕ × ℕ)) (on : Option (List ℕ)) → ((pair : ℕ × ℕ) → o ≡ Some pair → pair.1 ≤ length labels) → IsOf (λ pair r. IsLooked settings labels history command pair r) o on reply → pair_among these (report reply) ≡ true
+  of_among command (Some pair) on seen r = let l = seen pair refl in let m = prefix_length labels these begins in (looked settings labels history pair reply command r).among these (omega arith)
+  of_among command None (Some name) seen r = subst (λ (q : Reply). pair_among these (report q) ≡ true) (sym r) refl
+  of_among command None None seen r = absurd r
 
-  right_among : (command : Command) → ((on : Option (List ℕ)) (pair : ℕ × ℕ) → pair_seen held took on ≡ Some pair → pair.1 ≤ length labels) → IsRight settings labels history held session command took reply → reply_among these command reply ≡ true
-  right_among (add doc) seen right = added_among doc (first_broken settings.config doc) right
-  right_among (stats on) seen right = of_among (pair_seen held took on) on (seen on) right
-  right_among refresh seen right = refl
-  right_among (hold name) seen right = refl
-  right_among (release name) seen right = refl
-  right_among (search on s) seen right = refl
-  right_among (document on at) seen right = refl
-  right_among commit seen right = refl
-  right_among merge seen right = refl
+  right_among : (e : Effect) (command : Command) → ((on : Option (List ℕ)) (pair : ℕ × ℕ) → pair_seen held took on ≡ Some pair → pair.1 ≤ length labels) → IsRightBy settings labels history held session e command took reply → report_among these e (report reply) ≡ true
+  right_among (adds doc) command seen right = added_among doc (first_broken settings.config doc) right
+  right_among publishes command seen right = refl
+  right_among (holds name) command seen right = refl
+  right_among (releases name) command seen right = refl
+  right_among persists command seen right = refl
+  right_among merges command seen right = refl
+  right_among (looks on) command seen right = of_among command (pair_seen held took on) on (seen on) right
 
-lacks_among : (these : List (List (List ℕ))) (command : Command) → reply_among these command (refused no_memory) ≡ true
-lacks_among these (add doc) = refl
-lacks_among these (stats on) = refl
-lacks_among these refresh = refl
-lacks_among these (hold name) = refl
-lacks_among these (release name) = refl
-lacks_among these (search on s) = refl
-lacks_among these (document on at) = refl
-lacks_among these commit = refl
-lacks_among these merge = refl
+lacks_among : (these : List (List (List ℕ))) (e : Effect) → report_among these e (says_refused for_memory) ≡ true
+lacks_among these (adds doc) = refl
+lacks_among these publishes = refl
+lacks_among these (holds name) = refl
+lacks_among these (releases name) = refl
+lacks_among these persists = refl
+lacks_among these merges = refl
+lacks_among these (looks on) = refl
 
 module _ (settings : Settings) (phases : List (List Order)) (opened : Opened) (ran : List (List Step)) (last : Seen) (all : AllRan settings phases opened ran last) where
   -- what a step has shown is among the first labels, where what it has seen is
@@ -99,9 +97,9 @@ module _ (settings : Settings) (phases : List (List Order)) (opened : Opened) (r
       let step = f.2.1 in
       and_from _ _
       (⊎_elim
-      (λ right. right_among settings (labels_of x.after) these (history_of x.after) f.2.0 x.answered.order.session x.answered.took x.answered.reply begins x.answered.order.command
+      (λ right. right_among settings (labels_of x.after) these (history_of x.after) f.2.0 x.answered.order.session x.answered.took x.answered.reply begins (effect x.answered.order.command) x.answered.order.command
       (λ on pair e. let l = (pair_in settings f.2.0 x on pair step f.2.2 e).1 in let s = labels_size x.after in omega arith) right)
-      (λ lacks. subst (λ (q : Reply). reply_among these x.answered.order.command q ≡ true) (sym lacks.1) (lacks_among these x.answered.order.command)) step.right)
+      (λ lacks. subst (λ (q : Reply). report_among these (effect x.answered.order.command) (report q) ≡ true) (sym lacks.1) (lacks_among these (effect x.answered.order.command))) step.right)
       (by_place x.answered.place (λ k e. by_entry (slice_get last.pairs k) (λ g at. let l = pair_labels settings phases opened ran last all x there k e g at in let m = prefix_length (labels_of x.after) these begins in le-leb g.1.1 (length these) (omega arith))))
     where
       by_entry : (o : Option (ℕ × (ℕ × ℕ))) → ((g : ℕ × (ℕ × ℕ)) → o ≡ Some g → nat_le g.1.1 (length these) ≡ true) → option_map_or (λ e. nat_le e.1.1 (length these)) o true ≡ true

@@ -8,14 +8,16 @@ use Rattle.std.proofs.lemmas.List.{length-drop, length-take, length-map}
 use Rattle.std.proofs.lemmas.List.Elements.{filter_map-append}
 use Rattle.facet_model.specs.Histories.{Operation}
 use Rattle.facet_model.specs.CoreStates.{is_same_pair}
-use Rattle.facet_words.specs.Commands.{Settings, Command, Order, add, refresh, hold, release, search, document, stats, commit, merge}
-use Rattle.facet_replies.specs.Replies.{Reply, placed, numbered, found, shown, stats as numbers, merged, refused}
+use Rattle.facet_words.specs.Commands.{Settings, Command, Order}
+use Rattle.facet_replies.specs.Replies.{Reply}
+use Rattle.facet_output.specs.Effects.{effect, report}
 use Rattle.facet_output.specs.Answered.{Answered, is_of, of_session, comes_after, may_come_after}
 use Rattle.facet_output.specs.OneSession.{after_placing, AreExact, OneSessionIsExact}
 use Rattle.facet_output.specs.Output.{Opened, IsOutput, is_fresh, has_source}
 use Rattle.facet_words.specs.ScriptOrder.{lines_rise}
-use Rattle.facet_output.specs.Reported.{placed_by, placed_operation, shows, stood, stood_by, refreshed, refreshed_by, is_number}
+use Rattle.facet_output.specs.Reported.{placed_by, placed_operation, shown_in, shows, stood, stood_in, stood_by, refreshed, refreshed_by, is_number}
 use Rattle.facet_output.proofs.Among.{In, of_all, in_left, in_right, of_append, of_any}
+use Rattle.facet_output.proofs.Effects.{add_placed, refresh_only}
 use Rattle.facet_output.proofs.Fresh.{stood_shown, implied_so}
 use Rattle.facet_output.proofs.Fronts.{get_there}
 use Rattle.facet_output.proofs.Known.{after_parts}
@@ -69,38 +71,12 @@ some_numbered n (y ∷ xs) x there none = ⊎_elim
 
 -- a placed operation shows itself and all before it, and stood at its place
 placed_shows : (session : ℕ) (command : Command) (reply : Reply) (p : ℕ × Operation) → placed_by session command reply ≡ Some p → (shows reply ≡ p.0 + 1) × (stood_by command reply ≡ Some p.0)
-placed_shows session (add doc) (placed at) p e = let f : at ≡ p.0 = ap (λ (o : Option (ℕ × Operation)). (unwrap_or o p).0) e in (omega arith, ap Some f)
-placed_shows session (add doc) (numbered n) p e = absurd cc
-placed_shows session (add doc) (found f) p e = absurd cc
-placed_shows session (add doc) (shown s) p e = absurd cc
-placed_shows session (add doc) (numbers s) p e = absurd cc
-placed_shows session (add doc) merged p e = absurd cc
-placed_shows session (add doc) (refused r) p e = absurd cc
-placed_shows session refresh reply p e = absurd cc
-placed_shows session (hold name) reply p e = absurd cc
-placed_shows session (release name) reply p e = absurd cc
-placed_shows session (search on s) reply p e = absurd cc
-placed_shows session (document on at) reply p e = absurd cc
-placed_shows session (stats on) reply p e = absurd cc
-placed_shows session commit reply p e = absurd cc
-placed_shows session merge reply p e = absurd cc
+placed_shows session command reply p e =
+    let add = add_placed session (effect command) (report reply) p e in
+    (ap shown_in add.2, λ i. stood_in (add.1 i) (add.2 i))
 
 pub refreshed_stood : (command : Command) (reply : Reply) (n : ℕ) → refreshed_by command reply ≡ Some n → stood_by command reply ≡ Some n
-refreshed_stood refresh (numbered k) n e = e
-refreshed_stood refresh (placed at) n e = absurd cc
-refreshed_stood refresh (found f) n e = absurd cc
-refreshed_stood refresh (shown s) n e = absurd cc
-refreshed_stood refresh (numbers s) n e = absurd cc
-refreshed_stood refresh merged n e = absurd cc
-refreshed_stood refresh (refused r) n e = absurd cc
-refreshed_stood (add doc) reply n e = absurd cc
-refreshed_stood (hold name) reply n e = absurd cc
-refreshed_stood (release name) reply n e = absurd cc
-refreshed_stood (search on s) reply n e = absurd cc
-refreshed_stood (document on at) reply n e = absurd cc
-refreshed_stood (stats on) reply n e = absurd cc
-refreshed_stood commit reply n e = absurd cc
-refreshed_stood merge reply n e = absurd cc
+refreshed_stood command reply n e = let r = refresh_only (effect command) (report reply) n e in λ i. stood_in (r.0 i) (r.1 i)
 
 other_way : (n m : ℕ) → eqb n m ≡ false → eqb m n ≡ false
 other_way n m no_match = ne_eqb m n (λ e. both_ways (eqb n m) no_match (eq-eqb n m (sym e)))

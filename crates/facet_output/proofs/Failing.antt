@@ -7,19 +7,21 @@ use Rattle.std.proofs.lemmas.Bool.{and_from, cases_lt, eq-eqb}
 use Rattle.std.proofs.lemmas.List.Sums.{sum_by-cons}
 use mathlib.Core.List.{IsPrefix}
 use Rattle.facet_model.specs.Histories.{Operation}
-use Rattle.facet_words.specs.Commands.{Settings, Command, Order, add, refresh, hold, release, search, document, stats, commit, merge}
-use Rattle.facet_replies.specs.Replies.{broken, labels_full, docs_full, not_held, held_already, top_zero, dim_value_not_kept, no_such_document, disk_failed, closed, numbers_spent, no_memory, Reply, placed, numbered, found, shown, stats as numbers, merged, refused}
+use Rattle.facet_words.specs.Commands.{Settings, Command, Order, commit}
+use Rattle.facet_output.specs.Effects.{Effect, adds, publishes, holds, releases, persists, merges, looks, effect, Report, says_placed, says_number, says_pair, says_refused, for_labels, for_docs, for_disk, for_closed, for_numbers, for_memory, for_other, says_nothing, report}
+use Rattle.facet_replies.specs.Replies.{no_memory, Reply, numbered, refused}
 use Rattle.facet_output.specs.Answered.{Answered, comes_after, may_come_after}
 use Rattle.facet_output.specs.Held.{Held}
 use Rattle.facet_output.specs.Output.{Opened, has_failure, is_last_commit}
-use Rattle.facet_output.specs.Replying.{IsCommitted, IsRight}
-use Rattle.facet_output.specs.Reported.{failed, failed_by, failed_in, closed_at, closed_by, closed_in, is_number, tells_of_failure}
+use Rattle.facet_output.specs.Replying.{IsCommitted, IsRight, IsRightBy}
+use Rattle.facet_output.specs.Reported.{failed, failed_by, failed_in, closed_at, closed_by, closed_in, of_commit, is_number, commit_reports, tells_of_failure}
 use Rattle.facet_output.specs.Seen.{CommitPoint, Entries, Seen, failures, EntersNone, labels_of, history_of}
-use Rattle.facet_output.specs.Steps.{Step, IsStep, EntersPoint, EntersCommit, EntersPoints}
+use Rattle.facet_output.specs.Steps.{Step, IsStep, EntersPoint, EntersSaid, EntersCommit, EntersBy, EntersPoints}
 use Rattle.facet_output.specs.Sessions.{AllRan, steps_of, own_steps, is_by}
 use Rattle.facet_output.proofs.Among.{In, pairs_head, pairs_tail, in_filter}
 use Rattle.facet_output.proofs.Answers.{answers, all_steps, any_step, all_some}
 use Rattle.facet_output.proofs.Bringing.{opened_sees}
+use Rattle.facet_output.proofs.Effects.{commit_only, failure_said, closing_said}
 use Rattle.facet_output.proofs.Fresh.{implied}
 use Rattle.facet_output.proofs.Fronts.{get_last, get_below, get_back, own_front}
 use Rattle.facet_output.proofs.Known.{facts, after_sees, entered, in_order}
@@ -51,67 +53,20 @@ in_fails (x ∷ xs) c there = by x.1.failed refl (in_fails xs c) there
 
 -- ---- what a failed commit, and one that tells of it, entered
 
-failed_commit : (n least c : ℕ) (reply : Reply) (old new : Entries CommitPoint) → failed_in reply ≡ Some c → EntersCommit n least reply old new → EntersPoint n (Some c) old new
-failed_commit n least c (refused (disk_failed k)) old new e enters = subst (λ (d : ℕ). EntersPoint n (Some d) old new) (ap (λ o. unwrap_or o k) e) enters
-failed_commit n least c (placed at) old new e enters = absurd cc
-failed_commit n least c (numbered k) old new e enters = absurd cc
-failed_commit n least c (found f) old new e enters = absurd cc
-failed_commit n least c (shown s) old new e enters = absurd cc
-failed_commit n least c (numbers s) old new e enters = absurd cc
-failed_commit n least c merged old new e enters = absurd cc
-failed_commit n least c (refused (broken b)) old new e enters = absurd cc
-failed_commit n least c (refused (labels_full k)) old new e enters = absurd cc
-failed_commit n least c (refused (docs_full k)) old new e enters = absurd cc
-failed_commit n least c (refused not_held) old new e enters = absurd cc
-failed_commit n least c (refused held_already) old new e enters = absurd cc
-failed_commit n least c (refused (top_zero k)) old new e enters = absurd cc
-failed_commit n least c (refused (dim_value_not_kept k)) old new e enters = absurd cc
-failed_commit n least c (refused (no_such_document k)) old new e enters = absurd cc
-failed_commit n least c (refused (closed k)) old new e enters = absurd cc
-failed_commit n least c (refused (numbers_spent k)) old new e enters = absurd cc
-failed_commit n least c (refused no_memory) old new e enters = absurd cc
+-- what a commit entered that reports this
+said_so : (n least : ℕ) (e : Effect) (r said : Report) (old new : Entries CommitPoint) → e ≡ persists → r ≡ said → EntersBy n least e r old new → EntersSaid n least said old new
+said_so n least e r said old new is says enters = subst (λ (q : Report). EntersSaid n least q old new) says (subst (λ (q : Effect). EntersBy n least q r old new) is enters)
 
 failed_point : (n least c : ℕ) (command : Command) (reply : Reply) (old new : Entries CommitPoint) → failed_by command reply ≡ Some c → EntersPoints n least command reply old new → EntersPoint n (Some c) old new
-failed_point n least c commit reply old new e enters = failed_commit n least c reply old new e enters
-failed_point n least c (add doc) reply old new e enters = absurd cc
-failed_point n least c refresh reply old new e enters = absurd cc
-failed_point n least c (hold name) reply old new e enters = absurd cc
-failed_point n least c (release name) reply old new e enters = absurd cc
-failed_point n least c (search on s) reply old new e enters = absurd cc
-failed_point n least c (document on at) reply old new e enters = absurd cc
-failed_point n least c (stats on) reply old new e enters = absurd cc
-failed_point n least c merge reply old new e enters = absurd cc
-
-closed_commit : (n least c : ℕ) (reply : Reply) (old new : Entries CommitPoint) → closed_in reply ≡ Some c → EntersCommit n least reply old new → (failures new ≡ c ∷ []) × (failed_in reply ≡ None)
-closed_commit n least c (refused (closed k)) old new e enters = (subst (λ (d : ℕ). failures new ≡ d ∷ []) (ap (λ o. unwrap_or o k) e) enters.1, refl)
-closed_commit n least c (placed at) old new e enters = absurd cc
-closed_commit n least c (numbered k) old new e enters = absurd cc
-closed_commit n least c (found f) old new e enters = absurd cc
-closed_commit n least c (shown s) old new e enters = absurd cc
-closed_commit n least c (numbers s) old new e enters = absurd cc
-closed_commit n least c merged old new e enters = absurd cc
-closed_commit n least c (refused (broken b)) old new e enters = absurd cc
-closed_commit n least c (refused (labels_full k)) old new e enters = absurd cc
-closed_commit n least c (refused (docs_full k)) old new e enters = absurd cc
-closed_commit n least c (refused not_held) old new e enters = absurd cc
-closed_commit n least c (refused held_already) old new e enters = absurd cc
-closed_commit n least c (refused (top_zero k)) old new e enters = absurd cc
-closed_commit n least c (refused (dim_value_not_kept k)) old new e enters = absurd cc
-closed_commit n least c (refused (no_such_document k)) old new e enters = absurd cc
-closed_commit n least c (refused (disk_failed k)) old new e enters = absurd cc
-closed_commit n least c (refused (numbers_spent k)) old new e enters = absurd cc
-closed_commit n least c (refused no_memory) old new e enters = absurd cc
+failed_point n least c command reply old new h enters =
+    let only = commit_only failed_in (effect command) (report reply) c h in
+    said_so n least (effect command) (report reply) (says_refused (for_disk c)) old new only.0 (failure_said (report reply) c only.1) enters
 
 closed_points : (n least c : ℕ) (command : Command) (reply : Reply) (old new : Entries CommitPoint) → closed_by command reply ≡ Some c → EntersPoints n least command reply old new → (failures new ≡ c ∷ []) × (failed_by command reply ≡ None)
-closed_points n least c commit reply old new e enters = closed_commit n least c reply old new e enters
-closed_points n least c (add doc) reply old new e enters = absurd cc
-closed_points n least c refresh reply old new e enters = absurd cc
-closed_points n least c (hold name) reply old new e enters = absurd cc
-closed_points n least c (release name) reply old new e enters = absurd cc
-closed_points n least c (search on s) reply old new e enters = absurd cc
-closed_points n least c (document on at) reply old new e enters = absurd cc
-closed_points n least c (stats on) reply old new e enters = absurd cc
-closed_points n least c merge reply old new e enters = absurd cc
+closed_points n least c command reply old new h enters =
+    let only = commit_only closed_in (effect command) (report reply) c h in
+    let says = closing_said (report reply) c only.1 in
+    ((said_so n least (effect command) (report reply) (says_refused (for_closed c)) old new only.0 says enters).1, λ i. of_commit failed_in (only.0 i) (says i))
 
 -- ---- who entered a failed point
 
@@ -130,36 +85,27 @@ point_entered n o old new k p enters ge at = ⊎_elim
     ap (λ (e : ℕ × CommitPoint). e.1.failed) (sym same) ∙ enters.4)
     (cases_lt k (length enters.0))
 
-commit_entered : (n least c : ℕ) (reply : Reply) (old new : Entries CommitPoint) (k : ℕ) (p : CommitPoint) → EntersCommit n least reply old new → length old ≤ k → slice_get new k ≡ Some (n, p) → p.failed ≡ Some c → failed_in reply ≡ Some c
-commit_entered n least c (refused (disk_failed d)) old new k p enters ge at e = sym (point_entered n (Some d) old new k p enters ge at) ∙ e
-commit_entered n least c (numbered j) old new k p enters ge at e = let no : None ≡ Some c = sym (point_entered n None old new k p enters.0 ge at) ∙ e in absurd cc
-commit_entered n least c (refused (closed d)) old new k p enters ge at e = absurd (none_entered n old new k p enters.0 ge at)
-commit_entered n least c (refused (numbers_spent d)) old new k p enters ge at e = absurd (none_entered n old new k p enters.0 ge at)
-commit_entered n least c (placed j) old new k p enters ge at e = absurd (none_entered n old new k p enters ge at)
-commit_entered n least c (found f) old new k p enters ge at e = absurd (none_entered n old new k p enters ge at)
-commit_entered n least c (shown s) old new k p enters ge at e = absurd (none_entered n old new k p enters ge at)
-commit_entered n least c (numbers s) old new k p enters ge at e = absurd (none_entered n old new k p enters ge at)
-commit_entered n least c merged old new k p enters ge at e = absurd (none_entered n old new k p enters ge at)
-commit_entered n least c (refused (broken b)) old new k p enters ge at e = absurd (none_entered n old new k p enters ge at)
-commit_entered n least c (refused (labels_full d)) old new k p enters ge at e = absurd (none_entered n old new k p enters ge at)
-commit_entered n least c (refused (docs_full d)) old new k p enters ge at e = absurd (none_entered n old new k p enters ge at)
-commit_entered n least c (refused not_held) old new k p enters ge at e = absurd (none_entered n old new k p enters ge at)
-commit_entered n least c (refused held_already) old new k p enters ge at e = absurd (none_entered n old new k p enters ge at)
-commit_entered n least c (refused (top_zero d)) old new k p enters ge at e = absurd (none_entered n old new k p enters ge at)
-commit_entered n least c (refused (dim_value_not_kept d)) old new k p enters ge at e = absurd (none_entered n old new k p enters ge at)
-commit_entered n least c (refused (no_such_document d)) old new k p enters ge at e = absurd (none_entered n old new k p enters ge at)
-commit_entered n least c (refused no_memory) old new k p enters ge at e = absurd (none_entered n old new k p enters ge at)
+commit_entered : (n least c : ℕ) (said : Report) (old new : Entries CommitPoint) (k : ℕ) (p : CommitPoint) → EntersSaid n least said old new → length old ≤ k → slice_get new k ≡ Some (n, p) → p.failed ≡ Some c → failed_in said ≡ Some c
+commit_entered n least c (says_refused (for_disk d)) old new k p enters ge at e = sym (point_entered n (Some d) old new k p enters ge at) ∙ e
+commit_entered n least c (says_number j) old new k p enters ge at e = let no : None ≡ Some c = sym (point_entered n None old new k p enters.0 ge at) ∙ e in absurd cc
+commit_entered n least c (says_refused (for_closed d)) old new k p enters ge at e = absurd (none_entered n old new k p enters.0 ge at)
+commit_entered n least c (says_refused for_numbers) old new k p enters ge at e = absurd (none_entered n old new k p enters.0 ge at)
+commit_entered n least c (says_placed j) old new k p enters ge at e = absurd (none_entered n old new k p enters ge at)
+commit_entered n least c (says_pair operations labels) old new k p enters ge at e = absurd (none_entered n old new k p enters ge at)
+commit_entered n least c (says_refused (for_labels d)) old new k p enters ge at e = absurd (none_entered n old new k p enters ge at)
+commit_entered n least c (says_refused (for_docs d)) old new k p enters ge at e = absurd (none_entered n old new k p enters ge at)
+commit_entered n least c (says_refused for_memory) old new k p enters ge at e = absurd (none_entered n old new k p enters ge at)
+commit_entered n least c says_nothing old new k p enters ge at e = absurd (none_entered n old new k p enters ge at)
+commit_entered n least c (says_refused for_other) old new k p enters ge at e = absurd (none_entered n old new k p enters ge at)
 
-points_entered : (n least c : ℕ) (command : Command) (reply : Reply) (old new : Entries CommitPoint) (k : ℕ) (p : CommitPoint) → EntersPoints n least command reply old new → length old ≤ k → slice_get new k ≡ Some (n, p) → p.failed ≡ Some c → failed_by command reply ≡ Some c
-points_entered n least c commit reply old new k p enters ge at e = commit_entered n least c reply old new k p enters ge at e
-points_entered n least c (add doc) reply old new k p enters ge at e = absurd (none_entered n old new k p enters ge at)
-points_entered n least c refresh reply old new k p enters ge at e = absurd (none_entered n old new k p enters ge at)
-points_entered n least c (hold name) reply old new k p enters ge at e = absurd (none_entered n old new k p enters ge at)
-points_entered n least c (release name) reply old new k p enters ge at e = absurd (none_entered n old new k p enters ge at)
-points_entered n least c (search on s) reply old new k p enters ge at e = absurd (none_entered n old new k p enters ge at)
-points_entered n least c (document on at') reply old new k p enters ge at e = absurd (none_entered n old new k p enters ge at)
-points_entered n least c (stats on) reply old new k p enters ge at e = absurd (none_entered n old new k p enters ge at)
-points_entered n least c merge reply old new k p enters ge at e = absurd (none_entered n old new k p enters ge at)
+points_entered : (n least c : ℕ) (e : Effect) (said : Report) (old new : Entries CommitPoint) (k : ℕ) (p : CommitPoint) → EntersBy n least e said old new → length old ≤ k → slice_get new k ≡ Some (n, p) → p.failed ≡ Some c → of_commit failed_in e said ≡ Some c
+points_entered n least c persists said old new k p enters ge at h = commit_entered n least c said old new k p enters ge at h
+points_entered n least c (adds doc) said old new k p enters ge at h = absurd (none_entered n old new k p enters ge at)
+points_entered n least c publishes said old new k p enters ge at h = absurd (none_entered n old new k p enters ge at)
+points_entered n least c (holds name) said old new k p enters ge at h = absurd (none_entered n old new k p enters ge at)
+points_entered n least c (releases name) said old new k p enters ge at h = absurd (none_entered n old new k p enters ge at)
+points_entered n least c merges said old new k p enters ge at h = absurd (none_entered n old new k p enters ge at)
+points_entered n least c (looks on) said old new k p enters ge at h = absurd (none_entered n old new k p enters ge at)
 
 -- ---- a commit that comes after a failure
 
@@ -316,7 +262,7 @@ module _ (settings : Settings) (phases : List (List Order)) (opened : Opened) (r
           let b = r.0 in
           let f = facts settings phases opened ran last all b r.1 in
           let own : slice_get b.after.commits (suc k) ≡ Some (b.answered.order.session, p) = subst (λ (m : ℕ). slice_get b.after.commits (suc k) ≡ Some (m, p)) (sym r.2) r.4 in
-          let is : failed b.answered ≡ Some c = points_entered b.answered.order.session (length (labels_of b.before)) c b.answered.order.command b.answered.reply b.before.commits b.after.commits (suc k) p f.2.1.commits r.3 own e in
+          let is : failed b.answered ≡ Some c = points_entered b.answered.order.session (length (labels_of b.before)) c (effect b.answered.order.command) (report b.answered.reply) b.before.commits b.after.commits (suc k) p f.2.1.commits r.3 own e in
           let lt = get_below x.after.commits (suc k) (n, p) seen in
           let later : comes_after b.answered x.answered ≡ true → ⊥ = λ after. let l = prefix_length x.after.commits b.before.commits (after_sees settings phases opened ran last all x b there r.1 after).commits in let g = r.3 in omega arith in
           let other : x ≡ b → ⊥ = λ same. let wrong : None ≡ Some c = sym unfailed ∙ (λ i. failed (same i).answered) ∙ is in cc in
@@ -330,22 +276,20 @@ module _ (settings : Settings) (phases : List (List Order)) (opened : Opened) (r
       let sees = after_sees settings phases opened ran last all a b there there' after in
       let r = in_fails a.after.commits c seen in
       let was : In c (failures b.before.commits) = fails_in b.before.commits r.0 r.1 c r.2 (prefix_get a.after.commits b.before.commits r.0 (r.1, r.2) sees.commits r.3) r.4 in
-      by b was f.2.0 b.answered.order.command b.answered.reply f.2.1.commits (right_or f.2.0 f.2.1)
+      by b was f.2.0 (effect b.answered.order.command) b.answered.reply f.2.1.commits (right_or f.2.0 f.2.1)
     where
       right_or : (held : Held) → IsStep settings held b → IsRight settings (labels_of b.after) (history_of b.after) held b.answered.order.session b.answered.order.command b.answered.took b.answered.reply ⊎ (b.answered.reply ≡ refused no_memory)
       right_or held step = ⊎_elim (λ r. inl r) (λ lacks. inr lacks.1) step.right
 
-      by : (b : Step) → In c (failures b.before.commits) → (held : Held) (command : Command) (reply : Reply) → EntersPoints b.answered.order.session (length (labels_of b.before)) command reply b.before.commits b.after.commits
-          → IsRight settings (labels_of b.after) (history_of b.after) held b.answered.order.session command b.answered.took reply ⊎ (reply ≡ refused no_memory) → tells_of_failure c command reply ≡ true
-      by b was held commit reply enters right = told_after b.answered.order.session (length (labels_of b.before)) c b.before.commits b.after.commits was (history_of b.after) reply enters right
-      by b was held (add doc) reply enters right = refl
-      by b was held refresh reply enters right = refl
-      by b was held (hold name) reply enters right = refl
-      by b was held (release name) reply enters right = refl
-      by b was held (search on s) reply enters right = refl
-      by b was held (document on at) reply enters right = refl
-      by b was held (stats on) reply enters right = refl
-      by b was held merge reply enters right = refl
+      by : (b : Step) → In c (failures b.before.commits) → (held : Held) (e : Effect) (reply : Reply) → EntersBy b.answered.order.session (length (labels_of b.before)) e (report reply) b.before.commits b.after.commits
+          → IsRightBy settings (labels_of b.after) (history_of b.after) held b.answered.order.session e b.answered.order.command b.answered.took reply ⊎ (reply ≡ refused no_memory) → commit_reports c e (report reply) ≡ true
+      by b was held persists reply enters right = told_after b.answered.order.session (length (labels_of b.before)) c b.before.commits b.after.commits was (history_of b.after) reply enters right
+      by b was held (adds doc) reply enters right = refl
+      by b was held publishes reply enters right = refl
+      by b was held (holds name) reply enters right = refl
+      by b was held (releases name) reply enters right = refl
+      by b was held merges reply enters right = refl
+      by b was held (looks on) reply enters right = refl
 
   tells : (a b : Step) → In a (steps_of ran) → In b (steps_of ran) → (c : ℕ) → failed a.answered ≡ Some c → comes_after b.answered a.answered ≡ true → tells_of_failure c b.answered.order.command b.answered.reply ≡ true
   tells a b there there' c e after =

@@ -5,11 +5,12 @@ use Rattle.std.specs.List.{list_all}
 use Rattle.std.specs.Option.{option_map_or}
 use Rattle.std.proofs.lemmas.Bool.{and_from, le-leb}
 use Rattle.std.proofs.lemmas.List.{length-map}
-use Rattle.facet_words.specs.Commands.{Settings, Command, Order, add, refresh, hold, release, search, document, stats, commit, merge}
-use Rattle.facet_replies.specs.Replies.{broken, labels_full, docs_full, not_held, held_already, top_zero, dim_value_not_kept, no_such_document, disk_failed, closed, numbers_spent, no_memory, Reply, placed, numbered, found, shown, stats as numbers, merged, refused}
+use Rattle.facet_words.specs.Commands.{Settings, Command, Order}
+use Rattle.facet_output.specs.Effects.{Effect, adds, publishes, holds, releases, persists, merges, looks, effect, Report, says_placed, says_number, says_pair, says_refused, for_labels, for_docs, for_disk, for_closed, for_numbers, for_memory, for_other, says_nothing, report}
+use Rattle.facet_replies.specs.Replies.{Reply}
 use Rattle.facet_output.specs.Answered.{Answered, comes_after}
 use Rattle.facet_output.specs.Output.{Opened, is_fresh}
-use Rattle.facet_output.specs.Reported.{shows, stood, stood_at, stood_by}
+use Rattle.facet_output.specs.Reported.{shown_in, shows, stood, stood_at, stood_in, stood_by}
 use Rattle.facet_output.specs.Seen.{Seen, opened_seen, history_of}
 use Rattle.facet_output.specs.Steps.{Step}
 use Rattle.facet_output.specs.Sessions.{AllRan, steps_of}
@@ -31,36 +32,30 @@ pub implied_so : (b c : Bool) → (not b || c) ≡ true → b ≡ true → c ≡
 implied_so true c h e = h
 implied_so false c h e = absurd cc
 
-stands_shown : (reply : Reply) (n : ℕ) → stood_at reply ≡ Some n → n ≤ shows reply
-stands_shown (placed at) n e = let f : at ≡ n = cc in omega arith
-stands_shown (numbered k) n e = let f : k ≡ n = cc in omega arith
-stands_shown (found f) n e = absurd cc
-stands_shown (shown s) n e = absurd cc
-stands_shown (numbers s) n e = absurd cc
-stands_shown merged n e = absurd cc
-stands_shown (refused (broken b)) n e = absurd cc
-stands_shown (refused (labels_full k)) n e = absurd cc
-stands_shown (refused (docs_full k)) n e = let f : k ≡ n = cc in omega arith
-stands_shown (refused not_held) n e = absurd cc
-stands_shown (refused held_already) n e = absurd cc
-stands_shown (refused (top_zero k)) n e = absurd cc
-stands_shown (refused (dim_value_not_kept k)) n e = absurd cc
-stands_shown (refused (no_such_document k)) n e = absurd cc
-stands_shown (refused (disk_failed k)) n e = absurd cc
-stands_shown (refused (closed k)) n e = absurd cc
-stands_shown (refused (numbers_spent k)) n e = absurd cc
-stands_shown (refused no_memory) n e = absurd cc
+stands_shown : (said : Report) (n : ℕ) → stood_at said ≡ Some n → n ≤ shown_in said
+stands_shown (says_placed at) n e = let f : at ≡ n = cc in omega arith
+stands_shown (says_number k) n e = let f : k ≡ n = cc in omega arith
+stands_shown (says_refused (for_docs k)) n e = let f : k ≡ n = cc in omega arith
+stands_shown (says_pair operations labels) n e = absurd cc
+stands_shown (says_refused (for_labels k)) n e = absurd cc
+stands_shown (says_refused (for_disk k)) n e = absurd cc
+stands_shown (says_refused (for_closed k)) n e = absurd cc
+stands_shown (says_refused for_numbers) n e = absurd cc
+stands_shown (says_refused for_memory) n e = absurd cc
+stands_shown says_nothing n e = absurd cc
+stands_shown (says_refused for_other) n e = absurd cc
+
+effect_shown : (e : Effect) (said : Report) (n : ℕ) → stood_in e said ≡ Some n → n ≤ shown_in said
+effect_shown (adds doc) said n h = stands_shown said n h
+effect_shown publishes said n h = stands_shown said n h
+effect_shown persists said n h = stands_shown said n h
+effect_shown (holds name) said n h = absurd cc
+effect_shown (releases name) said n h = absurd cc
+effect_shown merges said n h = absurd cc
+effect_shown (looks on) said n h = absurd cc
 
 pub stood_shown : (command : Command) (reply : Reply) (n : ℕ) → stood_by command reply ≡ Some n → n ≤ shows reply
-stood_shown (add doc) reply n e = stands_shown reply n e
-stood_shown refresh reply n e = stands_shown reply n e
-stood_shown commit reply n e = stands_shown reply n e
-stood_shown (hold name) reply n e = absurd cc
-stood_shown (release name) reply n e = absurd cc
-stood_shown (search on s) reply n e = absurd cc
-stood_shown (document on at) reply n e = absurd cc
-stood_shown (stats on) reply n e = absurd cc
-stood_shown merge reply n e = absurd cc
+stood_shown command reply n h = effect_shown (effect command) (report reply) n h
 
 module _ (settings : Settings) (phases : List (List Order)) (opened : Opened) (ran : List (List Step)) (last : Seen) (all : AllRan settings phases opened ran last) where
   abbrev pub answers : List Answered

@@ -2,8 +2,9 @@
 use Rattle.std.proofs.Common.{◌≡◌, inl, inr, ⊎_elim, ℕ, ◌+◌, ◌≤◌, Bool, true, false, cond, List, [], ◌∷◌, length, Option, Some, None, refl, sym, subst, arith}
 use Rattle.std.specs.Prelude.{not, IfSome}
 use Rattle.std.specs.Str.{bytes_eq}
-use Rattle.facet_words.specs.Commands.{Settings, Command, add, refresh, hold, release, search, document, stats, commit, merge}
-use Rattle.facet_output.specs.Held.{Held, held_under, held_after, after_command, is_numbered}
+use Rattle.facet_words.specs.Commands.{Settings}
+use Rattle.facet_output.specs.Effects.{Effect, adds, publishes, holds, releases, persists, merges, looks, effect}
+use Rattle.facet_output.specs.Held.{Held, held_under, held_after, after_effect, is_numbered}
 use Rattle.facet_output.specs.Replying.{pair_seen}
 use Rattle.facet_output.specs.Seen.{Seen, Sees, labels_of}
 use Rattle.facet_output.specs.Steps.{Step, IsStep, IsLastPair}
@@ -33,18 +34,16 @@ under_held (h ∷ held) name pair e = by (bytes_eq h.0 name) refl (under_held he
     by false t rest e = let f : held_under held name ≡ Some pair = rw t at e in let r = rest f in (r.0, inr r.1, r.2)
 
 -- what is held after a command
-command_held : (command : Command) (took : Option (ℕ × ℕ)) (held : Held) (seen : Seen) → IfSome took (λ pair. PairIn pair seen) → HeldIn held seen → HeldIn (after_command command took held) seen
-command_held (hold name) None held seen new within h there = ⊎_elim (λ old. within h old) (λ none. absurd none) (of_append held [] h there)
-command_held (hold name) (Some pair) held seen new within h there = ⊎_elim (λ old. within h old)
+effect_held : (e : Effect) (took : Option (ℕ × ℕ)) (held : Held) (seen : Seen) → IfSome took (λ pair. PairIn pair seen) → HeldIn held seen → HeldIn (after_effect e took held) seen
+effect_held (holds name) None held seen new within h there = ⊎_elim (λ old. within h old) (λ none. absurd none) (of_append held [] h there)
+effect_held (holds name) (Some pair) held seen new within h there = ⊎_elim (λ old. within h old)
     (λ last. ⊎_elim (λ is. subst (λ (g : List ℕ × (ℕ × ℕ)). PairIn g.1 seen) (sym is) new) (λ none. absurd none) last) (of_append held ((name, pair) ∷ []) h there)
-command_held (release name) took held seen new within h there = within h (of_filter (λ (g : List ℕ × (ℕ × ℕ)). not (bytes_eq g.0 name)) held h there).0
-command_held (add doc) took held seen new within h there = within h there
-command_held refresh took held seen new within h there = within h there
-command_held (search on s) took held seen new within h there = within h there
-command_held (document on at) took held seen new within h there = within h there
-command_held (stats on) took held seen new within h there = within h there
-command_held commit took held seen new within h there = within h there
-command_held merge took held seen new within h there = within h there
+effect_held (releases name) took held seen new within h there = within h (of_filter (λ (g : List ℕ × (ℕ × ℕ)). not (bytes_eq g.0 name)) held h there).0
+effect_held (adds doc) took held seen new within h there = within h there
+effect_held publishes took held seen new within h there = within h there
+effect_held persists took held seen new within h there = within h there
+effect_held merges took held seen new within h there = within h there
+effect_held (looks on) took held seen new within h there = within h there
 
 taken_in : (took : Option (ℕ × ℕ)) (x : Step) → IfSome took (λ pair. IsLastPair x.after pair × (refreshed x.answered ≡ None)) → IfSome took (λ pair. PairIn pair x.after)
 taken_in None x is = tt
@@ -53,8 +52,8 @@ taken_in (Some pair) x is = (is.0.operations, (let s : length (labels_of x.after
 pub held_step : (settings : Settings) (held : Held) (x : Step) → IsStep settings held x → HeldIn held x.before → HeldIn (held_after held x.answered) x.after
 held_step settings held x step within = by (is_numbered x.answered.reply) (held_more held x.before x.after step.sees within)
   where
-    by : (b : Bool) → HeldIn held x.after → HeldIn (cond b (after_command x.answered.order.command x.answered.took held) held) x.after
-    by true within = command_held x.answered.order.command x.answered.took held x.after (taken_in x.answered.took x step.took) within
+    by : (b : Bool) → HeldIn held x.after → HeldIn (cond b (after_effect (effect x.answered.order.command) x.answered.took held) held) x.after
+    by true within = effect_held (effect x.answered.order.command) x.answered.took held x.after (taken_in x.answered.took x step.took) within
     by false within = within
 
 -- the pair that a command sees was seen

@@ -3,10 +3,12 @@ pub mod Holding
 pub mod Refuted
 pub mod TwoSessions
 pub mod Among
+pub mod Effects
 pub mod Fronts
 pub mod Chain
 pub mod Known
 pub mod HeldPairs
+pub mod Looking
 pub mod Showing
 pub mod Fresh
 pub mod Answers

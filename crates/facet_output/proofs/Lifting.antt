@@ -13,9 +13,10 @@ use Rattle.facet_model.proofs.Fronts.{weaker}
 use Rattle.facet_words.specs.Commands.{Settings, Command, Order, add, refresh, hold, release, search, document, stats, commit, merge}
 use Rattle.facet_replies.specs.Replies.{Reply, stats as numbers}
 use Rattle.facet_output.specs.Answered.{Answered, of_session}
+use Rattle.facet_output.specs.Effects.{Effect, adds, publishes, holds, releases, persists, merges, looks, effect}
 use Rattle.facet_output.specs.Held.{Held, held_after}
 use Rattle.facet_output.specs.Output.{Opened}
-use Rattle.facet_output.specs.Replying.{IsAdded, IsResolved, IsOf, IsFound, IsShown, IsRight, RightReply, RightReplies, IsCommitted, Counts, pair_seen, docs_of, first_refused, numbers_of}
+use Rattle.facet_output.specs.Replying.{IsAdded, IsResolved, IsOf, IsFound, IsShown, IsLooked, IsRightBy, RightReply, RightReplies, IsCommitted, Counts, pair_seen, docs_of, first_refused}
 use Rattle.facet_output.specs.Seen.{Seen, Sees, opened_seen, labels_of, history_of}
 use Rattle.facet_output.specs.Steps.{Step, IsStep}
 use Rattle.facet_output.specs.Sessions.{SessionRan, AllRan, steps_of, own_steps, is_by}
@@ -79,21 +80,26 @@ module _ (settings : Settings) (labels all : List (List (List ℕ))) (history wh
   lifted_committed : IsCommitted history reply → IsCommitted whole reply
   lifted_committed r = ⊎_elim (λ c. inl (lifted_counts c)) (λ r. inr r) r
 
-  lifted : (command : Command) → ((on : Option (List ℕ)) (pair : ℕ × ℕ) → pair_seen held took on ≡ Some pair → pair.0 ≤ length history) → IsRight settings labels history held session command took reply → IsRight settings all whole held session command took reply
-  lifted (add doc) seen right = lifted_added doc (first_broken settings.config doc) right
-  lifted refresh seen right = lifted_counts right
-  lifted (hold name) seen right = right
-  lifted (release name) seen right = right
-  lifted (search on s) seen right = lifted_of
-      (λ pair r. IsFound settings.config s (first_refused settings.config s.asks) pair.0 (docs_of history pair) r) (λ pair r. IsFound settings.config s (first_refused settings.config s.asks) pair.0 (docs_of whole pair) r)
-      (pair_seen held took on) on (λ pair e r. subst (λ (ds : List Doc). IsFound settings.config s (first_refused settings.config s.asks) pair.0 ds reply) (same_docs pair (seen on pair e)) r) right
-  lifted (document on at) seen right = lifted_of
-      (λ pair r. IsShown labels pair.0 (docs_of history pair) at (slice_get (docs_of history pair) at) r) (λ pair r. IsShown all pair.0 (docs_of whole pair) at (slice_get (docs_of whole pair) at) r)
-      (pair_seen held took on) on (λ pair e r. subst (λ (ds : List Doc). IsShown all pair.0 ds at (slice_get ds at) reply) (same_docs pair (seen on pair e)) (lifted_shown pair.0 at (docs_of history pair) (slice_get (docs_of history pair) at) r)) right
-  lifted (stats on) seen right = lifted_of (λ pair r. r ≡ numbers_of history pair) (λ pair r. r ≡ numbers_of whole pair)
-      (pair_seen held took on) on (λ pair e r. r ∙ ap (λ ds. numbers (record { operations = pair.0; labels = pair.1; documents = length ds })) (same_docs pair (seen on pair e))) right
-  lifted commit seen right = lifted_committed right
-  lifted merge seen right = right
+  lifted_looked : (command : Command) (pair : ℕ × ℕ) → pair.0 ≤ length history → IsLooked settings labels history command pair reply → IsLooked settings all whole command pair reply
+  lifted_looked (search on s) pair le r = subst (λ (ds : List Doc). IsFound settings.config s (first_refused settings.config s.asks) pair.0 ds reply) (same_docs pair le) r
+  lifted_looked (document on at) pair le r = subst (λ (ds : List Doc). IsShown all pair.0 ds at (slice_get ds at) reply) (same_docs pair le) (lifted_shown pair.0 at (docs_of history pair) (slice_get (docs_of history pair) at) r)
+  lifted_looked (stats on) pair le r = r ∙ (λ i. numbers (record { operations = pair.0; labels = pair.1; documents = length (same_docs pair le i) }))
+  lifted_looked (add doc) pair le r = absurd r
+  lifted_looked refresh pair le r = absurd r
+  lifted_looked (hold name) pair le r = absurd r
+  lifted_looked (release name) pair le r = absurd r
+  lifted_looked commit pair le r = absurd r
+  lifted_looked merge pair le r = absurd r
+
+  lifted : (e : Effect) (command : Command) → ((on : Option (List ℕ)) (pair : ℕ × ℕ) → pair_seen held took on ≡ Some pair → pair.0 ≤ length history) → IsRightBy settings labels history held session e command took reply → IsRightBy settings all whole held session e command took reply
+  lifted (adds doc) command seen right = lifted_added doc (first_broken settings.config doc) right
+  lifted publishes command seen right = lifted_counts right
+  lifted (holds name) command seen right = right
+  lifted (releases name) command seen right = right
+  lifted persists command seen right = lifted_committed right
+  lifted merges command seen right = right
+  lifted (looks on) command seen right = lifted_of (λ pair r. IsLooked settings labels history command pair r) (λ pair r. IsLooked settings all whole command pair r) (pair_seen held took on) on
+      (λ pair is r. lifted_looked command pair (seen on pair is) r) right
 
 -- ---- the replies of a session
 
@@ -103,7 +109,7 @@ module _ (settings : Settings) (phases : List (List Order)) (opened : Opened) (r
       (λ right. inl (lifted settings (labels_of x.after) (labels_of last) (history_of x.after) (history_of last) held x.answered.order.session x.answered.took x.answered.reply
       (labels_begin settings phases opened ran last all x.after last sees)
       (map_prefix (λ e. record { session = e.0; doc = e.1 }) x.after.operations last.operations sees.operations) all.label_list
-      (full_last settings phases opened ran last all x there) x.answered.order.command
+      (full_last settings phases opened ran last all x there) (effect x.answered.order.command) x.answered.order.command
       (λ on pair e. let l = (pair_in settings held x on pair step within e).0 in let s : length (history_of x.after) ≡ length x.after.operations = length-map x.after.operations (λ e. record { session = e.0; doc = e.1 }) in omega arith) right))
       (λ lacks. inr lacks) step.right
 

@@ -3,68 +3,31 @@ use Rattle.std.proofs.Common.{◌≡◌, inl, inr, ⊎_elim, ℕ, eqb, true, Lis
 use Rattle.std.specs.Prelude.{filter, filter_map, is_none, not, drop, unwrap_or, Result, Ok, Err}
 use Rattle.std.specs.List.{AllZip, cons_option}
 use Rattle.std.proofs.lemmas.Bool.{eq-eqb}
-use Rattle.facet_words.specs.Commands.{Command, add, refresh, hold, release, search, document, stats, commit, merge}
-use Rattle.facet_replies.specs.Replies.{broken, labels_full, docs_full, not_held, held_already, top_zero, dim_value_not_kept, no_such_document, disk_failed, closed, numbers_spent, no_memory, Reply, placed, numbered, found, shown, stats as numbers, merged, refused}
+use Rattle.facet_words.specs.Commands.{Command}
+use Rattle.facet_replies.specs.Replies.{Reply}
+use Rattle.facet_output.specs.Effects.{effect, report}
 use Rattle.facet_output.specs.Answered.{Answered, is_of, of_session}
 use Rattle.facet_output.specs.Commits.{HasPoints, HasItsLabels, commits_of, has_outcome, outcome, outcome_at, outcome_by, outcome_in, outcome_of}
 use Rattle.facet_output.specs.Output.{Opened, has_shown}
 use Rattle.facet_output.specs.Seen.{CommitPoint, Seen, entered_by, labels_of}
-use Rattle.facet_output.specs.Reported.{durable, durable_by, failed, failed_by, failed_in, number_in}
+use Rattle.facet_output.specs.Reported.{durable, durable_by, failed, failed_by, failed_in, number_in, of_commit}
 use Rattle.facet_output.proofs.Among.{In, at_in, in_filter, of_filter, of_map}
 use Rattle.facet_output.proofs.Answers.{in_drop}
+use Rattle.facet_output.proofs.Effects.{commit_only, failure_said, number_said}
 
 -- ---- outcomes
 
-number_outcome : (reply : Reply) (n : ℕ) → number_in reply ≡ Some n → outcome_in reply ≡ Some (Ok n)
-number_outcome (numbered k) n e = let same : k ≡ n = ap (λ (o : Option ℕ). unwrap_or o k) e in ap (λ (j : ℕ). outcome_in (numbered j)) same
-number_outcome (placed at) n e = absurd cc
-number_outcome (found f) n e = absurd cc
-number_outcome (shown s) n e = absurd cc
-number_outcome (numbers s) n e = absurd cc
-number_outcome merged n e = absurd cc
-number_outcome (refused r) n e = absurd cc
-
-count_outcome : (reply : Reply) (count : ℕ) → failed_in reply ≡ Some count → outcome_in reply ≡ Some (Err count)
-count_outcome (refused (disk_failed k)) count e = let same : k ≡ count = ap (λ (o : Option ℕ). unwrap_or o k) e in ap (λ (j : ℕ). outcome_in (refused (disk_failed j))) same
-count_outcome (placed at) count e = absurd cc
-count_outcome (numbered k) count e = absurd cc
-count_outcome (found f) count e = absurd cc
-count_outcome (shown s) count e = absurd cc
-count_outcome (numbers s) count e = absurd cc
-count_outcome merged count e = absurd cc
-count_outcome (refused (broken b)) count e = absurd cc
-count_outcome (refused (labels_full k)) count e = absurd cc
-count_outcome (refused (docs_full k)) count e = absurd cc
-count_outcome (refused not_held) count e = absurd cc
-count_outcome (refused held_already) count e = absurd cc
-count_outcome (refused (top_zero k)) count e = absurd cc
-count_outcome (refused (dim_value_not_kept k)) count e = absurd cc
-count_outcome (refused (no_such_document k)) count e = absurd cc
-count_outcome (refused (closed k)) count e = absurd cc
-count_outcome (refused (numbers_spent k)) count e = absurd cc
-count_outcome (refused no_memory) count e = absurd cc
-
 durable_outcome : (command : Command) (reply : Reply) (n : ℕ) → durable_by command reply ≡ Some n → outcome_by command reply ≡ Some (Ok n)
-durable_outcome commit reply n e = number_outcome reply n e
-durable_outcome (add doc) reply n e = absurd cc
-durable_outcome refresh reply n e = absurd cc
-durable_outcome (hold name) reply n e = absurd cc
-durable_outcome (release name) reply n e = absurd cc
-durable_outcome (search on s) reply n e = absurd cc
-durable_outcome (document on at) reply n e = absurd cc
-durable_outcome (stats on) reply n e = absurd cc
-durable_outcome merge reply n e = absurd cc
+durable_outcome command reply n h =
+    let only = commit_only number_in (effect command) (report reply) n h in
+    let says = number_said (report reply) n only.1 in
+    λ i. of_commit outcome_in (only.0 i) (says i)
 
 failed_outcome : (command : Command) (reply : Reply) (count : ℕ) → failed_by command reply ≡ Some count → outcome_by command reply ≡ Some (Err count)
-failed_outcome commit reply count e = count_outcome reply count e
-failed_outcome (add doc) reply count e = absurd cc
-failed_outcome refresh reply count e = absurd cc
-failed_outcome (hold name) reply count e = absurd cc
-failed_outcome (release name) reply count e = absurd cc
-failed_outcome (search on s) reply count e = absurd cc
-failed_outcome (document on at) reply count e = absurd cc
-failed_outcome (stats on) reply count e = absurd cc
-failed_outcome merge reply count e = absurd cc
+failed_outcome command reply count h =
+    let only = commit_only failed_in (effect command) (report reply) count h in
+    let says = failure_said (report reply) count only.1 in
+    λ i. of_commit outcome_in (only.0 i) (says i)
 
 of_ok : (operations : ℕ) (o : Option ℕ) (n : ℕ) → outcome_at operations o ≡ Ok n → (o ≡ None) × (operations ≡ n)
 of_ok operations None n e = (refl, cc)

@@ -8,8 +8,9 @@ use Rattle.std.proofs.lemmas.List.Elements.{filter-append}
 use mathlib.Core.List.{IsPrefix}
 use Rattle.facet_model.specs.Documents.{Doc}
 use Rattle.facet_model.specs.Histories.{Operation}
-use Rattle.facet_words.specs.Commands.{Settings, Command, Order, add, refresh, hold, release, search, document, stats, commit, merge}
-use Rattle.facet_replies.specs.Replies.{Reply, placed, numbered, found, shown, stats as numbers, merged, refused}
+use Rattle.facet_words.specs.Commands.{Settings, Command, Order}
+use Rattle.facet_replies.specs.Replies.{Reply}
+use Rattle.facet_output.specs.Effects.{effect, report}
 use Rattle.facet_output.specs.Answered.{Answered, of_session, is_of}
 use Rattle.facet_output.specs.Held.{Held, held_after}
 use Rattle.facet_output.specs.Output.{Opened, opened_operations, opened_pair}
@@ -20,6 +21,7 @@ use Rattle.facet_output.specs.Sessions.{SessionRan, AllRan, steps_of, own_steps,
 use Rattle.facet_output.proofs.Among.{In, of_filter, filter-map}
 use Rattle.facet_output.proofs.Answers.{answers}
 use Rattle.facet_output.proofs.Bringing.{opened_sees}
+use Rattle.facet_output.proofs.Effects.{add_placed}
 use Rattle.facet_output.proofs.Fronts.{operation_of}
 
 -- ---- what grows by each answer
@@ -81,21 +83,7 @@ owned_more n x old between new p = ap (owned n 0) p.1 ∙ owned_behind n between
     last = let e : eqb n n ≡ true = eq-eqb n n refl in rw e refl
 
 pub placed_session : (session : ℕ) (command : Command) (reply : Reply) (p : ℕ × Operation) → placed_by session command reply ≡ Some p → p.1.session ≡ session
-placed_session session (add doc) (placed at) p e = let f : (at, record { session = session; doc = doc }) ≡ p = cc in sym (ap (λ (q : ℕ × Operation). q.1.session) f)
-placed_session session (add doc) (numbered n) p e = absurd cc
-placed_session session (add doc) (found f) p e = absurd cc
-placed_session session (add doc) (shown s) p e = absurd cc
-placed_session session (add doc) (numbers s) p e = absurd cc
-placed_session session (add doc) merged p e = absurd cc
-placed_session session (add doc) (refused r) p e = absurd cc
-placed_session session refresh reply p e = absurd cc
-placed_session session (hold name) reply p e = absurd cc
-placed_session session (release name) reply p e = absurd cc
-placed_session session (search on s) reply p e = absurd cc
-placed_session session (document on at) reply p e = absurd cc
-placed_session session (stats on) reply p e = absurd cc
-placed_session session commit reply p e = absurd cc
-placed_session session merge reply p e = absurd cc
+placed_session session command reply p e = (add_placed session (effect command) (report reply) p e).3
 
 entered_operation : (n : ℕ) (o : Option (ℕ × Operation)) (old new : Entries Doc) → ((p : ℕ × Operation) → o ≡ Some p → p.1.session ≡ n) → EntersOperation n o old new → owned n 0 new ≡ owned n 0 old ++ option_to_list o
 entered_operation n None old new own enters = owned_still n old new enters ∙ sym (append-nil (owned n 0 old))

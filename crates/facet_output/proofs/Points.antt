@@ -6,14 +6,15 @@ use Rattle.std.proofs.lemmas.Bool.{eq-eqb, cases_lt}
 use Rattle.std.proofs.lemmas.List.{length-map, map-append, append_cancel_left}
 use Rattle.std.proofs.lemmas.List.Elements.{filter-append}
 use Rattle.std.proofs.lemmas.List.Sums.{sum_by-cons}
-use Rattle.facet_words.specs.Commands.{Settings, Command, Order, add, refresh, hold, release, search, document, stats, commit, merge}
-use Rattle.facet_output.specs.Commits.{CommitsHavePoints, HasItsLabels, commits_of, committed, has_outcome, outcome, outcome_at, outcome_by, outcome_in, outcome_of}
-use Rattle.facet_replies.specs.Replies.{broken, labels_full, docs_full, not_held, held_already, top_zero, dim_value_not_kept, no_such_document, disk_failed, closed, numbers_spent, no_memory, Reply, placed, numbered, found, shown, stats as numbers, merged, refused}
+use Rattle.facet_words.specs.Commands.{Settings, Order}
+use Rattle.facet_output.specs.Effects.{Effect, adds, publishes, holds, releases, persists, merges, looks, effect, Report, says_placed, says_number, says_pair, says_refused, for_labels, for_docs, for_disk, for_closed, for_numbers, for_memory, for_other, says_nothing, report}
+use Rattle.facet_output.specs.Commits.{CommitsHavePoints, HasItsLabels, commits_of, committed, has_outcome, outcome, outcome_at, outcome_in, outcome_of}
+use Rattle.facet_output.specs.Reported.{of_commit}
 use Rattle.facet_output.specs.Answered.{Answered, is_of, of_session}
 use Rattle.facet_output.specs.Held.{Held, held_after}
 use Rattle.facet_output.specs.Output.{Opened, has_shown}
 use Rattle.facet_output.specs.Seen.{CommitPoint, Entries, Seen, EntersNone, entered_by, labels_of, opened_seen}
-use Rattle.facet_output.specs.Steps.{Step, EntersPoint, EntersCommit, EntersPoints}
+use Rattle.facet_output.specs.Steps.{Step, EntersPoint, EntersSaid, EntersBy, EntersPoints}
 use Rattle.facet_output.specs.Sessions.{SessionRan, AllRan, steps_of, own_steps, is_by}
 use Rattle.facet_output.proofs.Among.{In, of_filter}
 use Rattle.facet_output.proofs.Answers.{answers}
@@ -45,46 +46,37 @@ point_more n o old new enters = ap (points_by n) enters.2.1 ∙ points_append n 
     last : points_by n ((n, enters.1) ∷ []) ≡ enters.1 ∷ []
     last = let e : eqb n n ≡ true = eq-eqb n n refl in rw e refl
 
-commit_outcome : (n least : ℕ) (reply : Reply) (old new : Entries CommitPoint) → EntersCommit n least reply old new → EntersOutcome n least (outcome_in reply) old new
-commit_outcome n least (numbered k) old new enters = (
+commit_outcome : (n least : ℕ) (said : Report) (old new : Entries CommitPoint) → EntersSaid n least said old new → EntersOutcome n least (outcome_in said) old new
+commit_outcome n least (says_number k) old new enters = (
   enters.0.1,
   point_more n None old new enters.0,
   ap (outcome_at enters.0.1.operations) enters.0.4 ∙ ap (λ (j : ℕ). outcome_at j None) enters.1,
   λ none. enters.2,
 )
-commit_outcome n least (refused (disk_failed c)) old new enters = (
+commit_outcome n least (says_refused (for_disk c)) old new enters = (
   enters.1,
   point_more n (Some c) old new enters,
   ap (outcome_at enters.1.operations) enters.4,
   λ none. let no_match : Some c ≡ None = sym enters.4 ∙ none in absurd cc,
 )
-commit_outcome n least (refused (closed c)) old new enters = none_more n old new enters.0
-commit_outcome n least (refused (numbers_spent c)) old new enters = none_more n old new enters.0
-commit_outcome n least (placed j) old new enters = none_more n old new enters
-commit_outcome n least (found f) old new enters = none_more n old new enters
-commit_outcome n least (shown s) old new enters = none_more n old new enters
-commit_outcome n least (numbers s) old new enters = none_more n old new enters
-commit_outcome n least merged old new enters = none_more n old new enters
-commit_outcome n least (refused (broken b)) old new enters = none_more n old new enters
-commit_outcome n least (refused (labels_full d)) old new enters = none_more n old new enters
-commit_outcome n least (refused (docs_full d)) old new enters = none_more n old new enters
-commit_outcome n least (refused not_held) old new enters = none_more n old new enters
-commit_outcome n least (refused held_already) old new enters = none_more n old new enters
-commit_outcome n least (refused (top_zero d)) old new enters = none_more n old new enters
-commit_outcome n least (refused (dim_value_not_kept d)) old new enters = none_more n old new enters
-commit_outcome n least (refused (no_such_document d)) old new enters = none_more n old new enters
-commit_outcome n least (refused no_memory) old new enters = none_more n old new enters
+commit_outcome n least (says_refused (for_closed c)) old new enters = none_more n old new enters.0
+commit_outcome n least (says_refused for_numbers) old new enters = none_more n old new enters.0
+commit_outcome n least (says_placed j) old new enters = none_more n old new enters
+commit_outcome n least (says_pair operations labels) old new enters = none_more n old new enters
+commit_outcome n least (says_refused (for_labels d)) old new enters = none_more n old new enters
+commit_outcome n least (says_refused (for_docs d)) old new enters = none_more n old new enters
+commit_outcome n least (says_refused for_memory) old new enters = none_more n old new enters
+commit_outcome n least says_nothing old new enters = none_more n old new enters
+commit_outcome n least (says_refused for_other) old new enters = none_more n old new enters
 
-points_outcome : (n least : ℕ) (command : Command) (reply : Reply) (old new : Entries CommitPoint) → EntersPoints n least command reply old new → EntersOutcome n least (outcome_by command reply) old new
-points_outcome n least commit reply old new enters = commit_outcome n least reply old new enters
-points_outcome n least (add doc) reply old new enters = none_more n old new enters
-points_outcome n least refresh reply old new enters = none_more n old new enters
-points_outcome n least (hold name) reply old new enters = none_more n old new enters
-points_outcome n least (release name) reply old new enters = none_more n old new enters
-points_outcome n least (search on s) reply old new enters = none_more n old new enters
-points_outcome n least (document on at) reply old new enters = none_more n old new enters
-points_outcome n least (stats on) reply old new enters = none_more n old new enters
-points_outcome n least merge reply old new enters = none_more n old new enters
+points_outcome : (n least : ℕ) (e : Effect) (said : Report) (old new : Entries CommitPoint) → EntersBy n least e said old new → EntersOutcome n least (of_commit outcome_in e said) old new
+points_outcome n least persists said old new enters = commit_outcome n least said old new enters
+points_outcome n least (adds doc) said old new enters = none_more n old new enters
+points_outcome n least publishes said old new enters = none_more n old new enters
+points_outcome n least (holds name) said old new enters = none_more n old new enters
+points_outcome n least (releases name) said old new enters = none_more n old new enters
+points_outcome n least merges said old new enters = none_more n old new enters
+points_outcome n least (looks on) said old new enters = none_more n old new enters
 
 -- ---- what a session entered
 
@@ -116,7 +108,7 @@ module _ (session : ℕ) (last : Seen) (answered : List Answered) where
       let enters : EntersPoints session (length (labels_of x.before)) x.answered.order.command x.answered.reply x.before.commits x.after.commits =
       subst (λ (n : ℕ). EntersPoints n (length (labels_of x.before)) x.answered.order.command x.answered.reply x.before.commits x.after.commits) (own x (inl refl)) ran.1.commits in
       one_more seen x.before x.after (length (labels_of x.before)) x.answered (answers xs) (outcome x.answered) (ap (map (λ (e : ℕ × CommitPoint). e.1)) ran.0.commits)
-      (points_outcome session (length (labels_of x.before)) x.answered.order.command x.answered.reply x.before.commits x.after.commits enters) (known x (inl refl))
+      (points_outcome session (length (labels_of x.before)) (effect x.answered.order.command) (report x.answered.reply) x.before.commits x.after.commits enters) (known x (inl refl))
       (gathers settings (held_after held x.answered) x.after xs ran.2 (λ y there. own y (inr there)) (λ y there. known y (inr there)))
 
 -- ---- counted by their sessions

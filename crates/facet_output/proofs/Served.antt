@@ -17,17 +17,18 @@ use Rattle.facet_words.specs.Answers as words_answers
 use Rattle.facet_words.specs.Answers.{Shelf, names_no_pair, with_labels, hits_of, first_hits}
 use Rattle.facet_words.specs.Commands.{Settings, Search, Command, Order, add, refresh, hold, release, search, document, stats, commit, merge}
 use Rattle.facet_output.specs.Answered.{Answered}
+use Rattle.facet_output.specs.Effects.{Effect, publishes, persists, merges, looks, effect, report}
 use Rattle.facet_output.specs.Held.{Held, held_after}
-use Rattle.facet_output.specs.OneSession.{AddLeaves, Leaves, LeavesFirst, room, is_resolved}
+use Rattle.facet_output.specs.OneSession.{AddLeaves, EffectLeaves, LeavesFirst, room, is_resolved}
 use Rattle.facet_output.specs.OneShelf.{orders_of, NamesNoPair, Served, OneSessionIsServed}
 use Rattle.facet_output.specs.Output.{Opened}
 use Rattle.facet_output.specs.OutputLines.{reply_lines}
-use Rattle.facet_replies.specs.Replies.{Refusal, broken, labels_full, docs_full, no_such_document, disk_failed, closed, numbers_spent, no_memory, Reply, placed, numbered, found, shown, stats as numbers, merged, refused}
-use Rattle.facet_output.specs.Replying.{IsAdded, IsResolved, IsOf, IsFound, IsShown, IsRight, IsCommitted, Counts, docs_of, first_refused, numbers_of, takes_memory}
+use Rattle.facet_replies.specs.Replies.{Refusal, broken, labels_full, docs_full, disk_failed, closed, numbers_spent, no_memory, Reply, placed, numbered, stats as numbers, merged, refused}
+use Rattle.facet_output.specs.Replying.{IsAdded, IsResolved, IsOf, IsFound, IsShown, IsLooked, IsRight, IsRightBy, IsCommitted, Counts, docs_of, first_refused, takes_memory}
 use Rattle.facet_output.specs.Seen.{CommitPoint, Entries, Seen, Sees, IsTold, EntersNone, opened_seen, labels_of, history_of, failures}
 use Rattle.facet_output.specs.Sessions.{SessionRan, AllRan, steps_of, own_steps, is_by}
-use Rattle.facet_output.specs.Steps.{Step, IsStep, IsLastPair, EntersOperation, EntersPair, EntersPoint, EntersPoints, EntersCommit}
-use Rattle.facet_output.specs.Reported.{placed_by, refreshed_by, stood_by, says_full}
+use Rattle.facet_output.specs.Steps.{Step, IsStep, IsLastPair, EntersOperation, EntersPair, EntersPoint, EntersPoints, EntersBy, EntersCommit}
+use Rattle.facet_output.specs.Reported.{placed_by, placed_in, refreshed_by, refreshed_in, stood_by, stood_in, says_full}
 use Rattle.facet_output.proofs.Alone.{nothing_between, own, step_leaves}
 use Rattle.facet_output.proofs.Among.{In, all_in, in_left, in_right}
 use Rattle.facet_output.proofs.Bringing.{opened_first}
@@ -108,15 +109,15 @@ record Fits (seen : Seen) (shelf : Shelf) : Type 0 where
   ends : EndsWith seen.pairs pair
   closed_so : failures seen.commits ≡ option_to_list shut
 
--- what is known of the reply to a command, and of what was entered beside it
-record Facts (settings : Settings) (before after : Seen) (held : Held) (session : ℕ) (command : Command) (took : Option (ℕ × ℕ)) (reply : Reply) : Type 0 where
-  right : IsRight settings (labels_of after) (history_of after) held session command took reply ⊎ (IsTrue (takes_memory command) × (reply ≡ refused no_memory))
-  leaves : Leaves settings (labels_of before) command reply (labels_of after)
-  operations : EntersOperation session (placed_by session command reply) before.operations after.operations
-  pairs : EntersPair session (length (labels_of before)) (length (labels_of after)) (refreshed_by command reply) before.pairs after.pairs
-  commits : EntersPoints session (length (labels_of before)) command reply before.commits after.commits
-  fresh : IfSome (stood_by command reply) (λ n. length before.operations ≤ n)
-  taken : IfSome took (λ pair. IsLastPair after pair × (refreshed_by command reply ≡ None))
+-- what is known of the reply to a command with this effect, and of what was entered with it
+record Facts (settings : Settings) (before after : Seen) (held : Held) (session : ℕ) (e : Effect) (command : Command) (took : Option (ℕ × ℕ)) (reply : Reply) : Type 0 where
+  right : IsRightBy settings (labels_of after) (history_of after) held session e command took reply ⊎ (IsTrue (takes_memory command) × (reply ≡ refused no_memory))
+  leaves : EffectLeaves settings (labels_of before) e reply (labels_of after)
+  operations : EntersOperation session (placed_in session e (report reply)) before.operations after.operations
+  pairs : EntersPair session (length (labels_of before)) (length (labels_of after)) (refreshed_in e (report reply)) before.pairs after.pairs
+  commits : EntersBy session (length (labels_of before)) e (report reply) before.commits after.commits
+  fresh : IfSome (stood_in e (report reply)) (λ n. length before.operations ≤ n)
+  taken : IfSome took (λ pair. IsLastPair after pair × (refreshed_in e (report reply) ≡ None))
 
 among_all : (paths : List (List (List ℕ))) (label p : List (List ℕ)) → In label paths → In p (prefixes label) → In p (flat_map prefixes paths)
 among_all [] label p there among = absurd there
@@ -308,7 +309,7 @@ module _ (settings : Settings) (before after : Seen) (held : Held) (session : �
 
   -- ---- refresh
 
-  refresh_goes : (took : Option (ℕ × ℕ)) (reply : Reply) → Facts settings before after held session refresh took reply → Goes settings refresh reply S after
+  refresh_goes : (took : Option (ℕ × ℕ)) (reply : Reply) → Facts settings before after held session publishes refresh took reply → Goes settings refresh reply S after
   refresh_goes took reply f = ⊎_elim refreshed_so lacks f.right
     where
       refreshed_so : Counts (history_of after) reply → Goes settings refresh reply S after
@@ -351,75 +352,57 @@ module _ (settings : Settings) (before after : Seen) (held : Held) (session : �
   seen_docs : (p : ℕ × ℕ) → p ≡ pair → EntersNone session before.operations after.operations → docs_of (history_of after) p ≡ take pair.0 D
   seen_docs p is none = sym (take-map (λ (o : Operation). o.doc) p.0 (history_of after)) ∙ (λ i. take (is i).0 (documents_in (sym (no_operation none) i)))
 
-  -- ---- search
+  -- ---- a command that looks at the last pair
 
-  search_goes : (s : Search) (took : Option (ℕ × ℕ)) (reply : Reply) → Facts settings before after held session (search None s) took reply → Goes settings (search None s) reply S after
-  search_goes s took reply f = ⊎_elim (seen took refl) lacks f.right
+  module _ (command : Command) (took : Option (ℕ × ℕ)) (reply : Reply) (f : Facts settings before after held session (looks None) command took reply) where
+    -- the reply that is right for the pair is right on the shelf
+    look_goes : (IsTrue (takes_memory command) → words_answers.RightReply settings S command (refused no_memory) S)
+        → (IsLooked settings (labels_of before) (history_of after) command pair reply → words_answers.RightReply settings S command reply S) → Goes settings command reply S after
+    look_goes lacks is_right = record {
+      told = reply;
+      next = S;
+      same = refl;
+      right = ⊎_elim (seen took refl) (λ l. subst (λ (q : Reply). words_answers.RightReply settings S command q S) (sym l.1) (lacks l.0)) f.right;
+      fits = stays f.leaves f.operations f.pairs f.commits;
+    }
+      where
+        seen : (t : Option (ℕ × ℕ)) → took ≡ t → IsOf (λ pair r. IsLooked settings (labels_of after) (history_of after) command pair r) t None reply → words_answers.RightReply settings S command reply S
+        seen None e r = absurd r
+        seen (Some p) e r =
+            let t = if_some (λ pair. IsLastPair after pair × (refreshed_in (looks None) (report reply) ≡ None)) took p f.taken e in
+            let here = subst (λ (q : ℕ × ℕ). IsLooked settings (labels_of after) (history_of after) command q reply) (is_last p t.0 f.pairs) r in
+            is_right (subst (λ (l : List (List (List ℕ))). IsLooked settings l (history_of after) command pair reply) f.leaves here)
+
+    -- the documents of the pair are those that the shelf shows
+    shelf_docs : docs_of (history_of after) pair ≡ take pair.0 D
+    shelf_docs = seen_docs pair refl f.operations
+
+  search_goes : (s : Search) (took : Option (ℕ × ℕ)) (reply : Reply) → Facts settings before after held session (looks None) (search None s) took reply → Goes settings (search None s) reply S after
+  search_goes s took reply f = look_goes (search None s) took reply f (λ takes. inr (refl, refl)) (λ is. inl (
+    found_so (first_refused settings.config s.asks) refl
+        (subst (λ (ds : List Doc). IsFound settings.config s (first_refused settings.config s.asks) pair.0 ds reply) (shelf_docs (search None s) took reply f) is),
+    refl,
+  ))
     where
-      fits : Fits after S
-      fits = stays f.leaves f.operations f.pairs f.commits
-
-      found_so : (o : Option (ℕ × AskFault)) → first_refused settings.config s.asks ≡ o → IsFound settings.config s o pair.0 (take pair.0 D) reply → Goes settings (search None s) reply S after
+      found_so : (o : Option (ℕ × AskFault)) → first_refused settings.config s.asks ≡ o → IsFound settings.config s o pair.0 (take pair.0 D) reply → words_answers.IsFound settings.config pair.0 (take pair.0 D) s (words_answers.first_refused settings.config s.asks) reply
       found_so (Some r) e is =
-          let first : words_answers.first_refused settings.config s.asks ≡ Some (named r) = first_named settings.config (enumerate_from 0 s.asks) ∙ ap (option_map named) e in
-          record { told = refused (named r); next = S; same = sym is; right = inl (rw first refl, refl); fits = fits }
+          let first : words_answers.first_refused settings.config s.asks ≡ Some (named r) = first_named settings.config (enumerate_from 0 s.asks) ∙ ap (option_map named) e in rw first is
       found_so None e is =
-          let first : words_answers.first_refused settings.config s.asks ≡ None = first_named settings.config (enumerate_from 0 s.asks) ∙ ap (option_map named) e in
-          record { told = found (record { operations = pair.0; hit_count = length (hits_of (take pair.0 D) s); hits = first_hits (take pair.0 D) s; answers = is.0 }); next = S; same = sym is.2; right = inl (rw first (is.0, is.1, refl), refl); fits = fits }
+          let first : words_answers.first_refused settings.config s.asks ≡ None = first_named settings.config (enumerate_from 0 s.asks) ∙ ap (option_map named) e in rw first is
 
-      seen : (t : Option (ℕ × ℕ)) → took ≡ t → IsOf (λ pair r. IsFound settings.config s (first_refused settings.config s.asks) pair.0 (docs_of (history_of after) pair) r) t None reply → Goes settings (search None s) reply S after
-      seen None e r = absurd r
-      seen (Some p) e r =
-          let t = if_some (λ pair. IsLastPair after pair × (refreshed_by (search None s) reply ≡ None)) took p f.taken e in
-          let is = is_last p t.0 f.pairs in
-          let there = subst (λ (ds : List Doc). IsFound settings.config s (first_refused settings.config s.asks) p.0 ds reply) (seen_docs p is f.operations) r in
-          found_so (first_refused settings.config s.asks) refl (subst (λ (q : ℕ × ℕ). IsFound settings.config s (first_refused settings.config s.asks) q.0 (take pair.0 D) reply) is there)
-
-      lacks : IsTrue true × (reply ≡ refused no_memory) → Goes settings (search None s) reply S after
-      lacks l = record { told = refused no_memory; next = S; same = sym l.1; right = inr (refl, refl); fits = fits }
-
-  -- ---- document
-
-  document_goes : (at : ℕ) (took : Option (ℕ × ℕ)) (reply : Reply) → Facts settings before after held session (document None at) took reply → Goes settings (document None at) reply S after
-  document_goes at took reply f = ⊎_elim (seen took refl) lacks f.right
+  document_goes : (at : ℕ) (took : Option (ℕ × ℕ)) (reply : Reply) → Facts settings before after held session (looks None) (document None at) took reply → Goes settings (document None at) reply S after
+  document_goes at took reply f = look_goes (document None at) took reply f (λ takes. inr (refl, refl)) (λ is. inl (
+    shown_so (slice_get (take pair.0 D) at)
+        (subst (λ (ds : List Doc). IsShown (labels_of before) pair.0 ds at (slice_get ds at) reply) (shelf_docs (document None at) took reply f) is),
+    refl,
+  ))
     where
-      fits : Fits after S
-      fits = stays f.leaves f.operations f.pairs f.commits
+      shown_so : (o : Option Doc) → IsShown (labels_of before) pair.0 (take pair.0 D) at o reply → words_answers.IsShown S at o reply
+      shown_so None is = is
+      shown_so (Some doc) is = is
 
-      shown_so : (o : Option Doc) → slice_get (take pair.0 D) at ≡ o → IsShown (labels_of before) pair.0 (take pair.0 D) at o reply → Goes settings (document None at) reply S after
-      shown_so None e is = record { told = refused (no_such_document (length (take pair.0 D))); next = S; same = sym is; right = inl (rw e refl, refl); fits = fits }
-      shown_so (Some doc) e is = record { told = shown (record { operations = pair.0; at = at; doc = doc; ordinals = is.0 }); next = S; same = sym is.2; right = inl (rw e (is.0, is.1, refl), refl); fits = fits }
-
-      seen : (t : Option (ℕ × ℕ)) → took ≡ t → IsOf (λ pair r. IsShown (labels_of after) pair.0 (docs_of (history_of after) pair) at (slice_get (docs_of (history_of after) pair) at) r) t None reply → Goes settings (document None at) reply S after
-      seen None e r = absurd r
-      seen (Some p) e r =
-          let t = if_some (λ pair. IsLastPair after pair × (refreshed_by (document None at) reply ≡ None)) took p f.taken e in
-          let is = is_last p t.0 f.pairs in
-          let one = subst (λ (ds : List Doc). IsShown (labels_of after) p.0 ds at (slice_get ds at) reply) (seen_docs p is f.operations) r in
-          let two = subst (λ (q : ℕ × ℕ). IsShown (labels_of after) q.0 (take pair.0 D) at (slice_get (take pair.0 D) at) reply) is one in
-          shown_so (slice_get (take pair.0 D) at) refl (subst (λ l. IsShown l pair.0 (take pair.0 D) at (slice_get (take pair.0 D) at) reply) f.leaves two)
-
-      lacks : IsTrue true × (reply ≡ refused no_memory) → Goes settings (document None at) reply S after
-      lacks l = record { told = refused no_memory; next = S; same = sym l.1; right = inr (refl, refl); fits = fits }
-
-  -- ---- stats
-
-  stats_goes : (took : Option (ℕ × ℕ)) (reply : Reply) → Facts settings before after held session (stats None) took reply → Goes settings (stats None) reply S after
-  stats_goes took reply f = ⊎_elim (seen took refl) (λ l. absurd (both_ways false refl l.0)) f.right
-    where
-      seen : (t : Option (ℕ × ℕ)) → took ≡ t → IsOf (λ pair r. r ≡ numbers_of (history_of after) pair) t None reply → Goes settings (stats None) reply S after
-      seen None e r = absurd r
-      seen (Some p) e r =
-          let t = if_some (λ pair. IsLastPair after pair × (refreshed_by (stats None) reply ≡ None)) took p f.taken e in
-          let is = is_last p t.0 f.pairs in
-          let documents = seen_docs p is f.operations in
-          record {
-            told = words_answers.numbers_of S;
-            next = S;
-            same = sym (r ∙ (λ i. numbers (record { operations = (is i).0; labels = (is i).1; documents = length (documents i) })));
-            right = inl (refl, refl);
-            fits = stays f.leaves f.operations f.pairs f.commits;
-          }
+  stats_goes : (took : Option (ℕ × ℕ)) (reply : Reply) → Facts settings before after held session (looks None) (stats None) took reply → Goes settings (stats None) reply S after
+  stats_goes took reply f = look_goes (stats None) took reply f (λ takes. absurd (both_ways false refl takes)) (λ is. inl (is ∙ (λ i. numbers (record { operations = pair.0; labels = pair.1; documents = length (shelf_docs (stats None) took reply f i) })), refl))
 
   -- ---- commit
 
@@ -427,7 +410,7 @@ module _ (settings : Settings) (before after : Seen) (held : Held) (session : �
   ends_so : (o : Option ℕ) (told : Reply) (next : Shelf) → shut ≡ o → words_answers.IsCommitted S o told next → words_answers.IsCommitted S shut told next
   ends_so o told next e ends = subst (λ (o : Option ℕ). words_answers.IsCommitted S o told next) (sym e) ends
 
-  commit_goes : (took : Option (ℕ × ℕ)) (reply : Reply) → Facts settings before after held session commit took reply → Goes settings commit reply S after
+  commit_goes : (took : Option (ℕ × ℕ)) (reply : Reply) → Facts settings before after held session persists commit took reply → Goes settings commit reply S after
   commit_goes took reply f = ⊎_elim answered_so lacks f.right
     where
       fits_so : (now : Option ℕ) → failures after.commits ≡ option_to_list now → Fits after (shelf_with (labels_of before) D pair now)
@@ -493,7 +476,7 @@ module _ (settings : Settings) (before after : Seen) (held : Held) (session : �
 
   -- ---- merge
 
-  merge_goes : (took : Option (ℕ × ℕ)) (reply : Reply) → Facts settings before after held session merge took reply → Goes settings merge reply S after
+  merge_goes : (took : Option (ℕ × ℕ)) (reply : Reply) → Facts settings before after held session merges merge took reply → Goes settings merge reply S after
   merge_goes took reply f = ⊎_elim merged_so lacks f.right
     where
       merged_so : reply ≡ merged → Goes settings merge reply S after
@@ -504,7 +487,7 @@ module _ (settings : Settings) (before after : Seen) (held : Held) (session : �
 
   -- ---- each command
 
-  goes : (c : Command) → names_no_pair c ≡ true → (took : Option (ℕ × ℕ)) (reply : Reply) → Facts settings before after held session c took reply → Goes settings c reply S after
+  goes : (c : Command) → names_no_pair c ≡ true → (took : Option (ℕ × ℕ)) (reply : Reply) → Facts settings before after held session (effect c) c took reply → Goes settings c reply S after
   goes (add doc) none took reply f = add_goes doc reply (f.commits, f.pairs) f.fresh f.operations f.leaves f.right
   goes refresh none took reply f = refresh_goes took reply f
   goes (hold name) none took reply f = absurd (both_ways false refl none)
@@ -556,7 +539,7 @@ module _ (settings : Settings) (phases : List (List Order)) (opened : Opened) (r
   step_goes : (held : Held) (x : Step) → In x (steps_of ran) → Sees start x.before → Sees x.after last → IsStep settings held x → names_no_pair x.answered.order.command ≡ true → (shelf : Shelf) → Fits x.before shelf → Goes settings x.answered.order.command x.answered.reply shelf x.after
   step_goes held x there since until step named shelf fits =
       let mine = own settings phases opened ran last session all one x there in
-      let facts : Facts settings x.before x.after held session x.answered.order.command x.answered.took x.answered.reply = record {
+      let facts : Facts settings x.before x.after held session (effect x.answered.order.command) x.answered.order.command x.answered.took x.answered.reply = record {
         right = subst (λ (n : ℕ). IsRight settings (labels_of x.after) (history_of x.after) held n x.answered.order.command x.answered.took x.answered.reply ⊎ (IsTrue (takes_memory x.answered.order.command) × (x.answered.reply ≡ refused no_memory))) mine step.right;
         leaves = step_leaves settings phases opened ran last session all one held x there since until step;
         operations = subst (λ (n : ℕ). EntersOperation n (placed_by n x.answered.order.command x.answered.reply) x.before.operations x.after.operations) mine step.operations;

@@ -6,8 +6,7 @@ use Rattle.facet_words.specs.Commands.{Order}
 use Rattle.facet_replies.specs.Replies.{Reply}
 
 -- A command of a phase with its reply. `took` is the numbers of operations and labels of the last published pair, if it
--- took that.
--- `place` is the place of the pair that it took or published, if any, among those that were published.
+-- took that. `place` is the place of the pair that it took or published, if any, among those that were published.
 pub record Answered : Type 0 where
   pub phase : ℕ
   pub order : Order

@@ -2,23 +2,24 @@
 use Rattle.std.specs.Prelude.{◌≡◌, ◌+◌, ℕ, not, Bool, List, length, take, drop, map, filter, filter_map, count_by}
 use Rattle.std.specs.Prelude.{IsTrue, Option, Some, None, is_none, Result, Ok, Err}
 use Rattle.std.specs.List.{AllZip}
-use Rattle.facet_words.specs.Commands.{Settings, Command, Order, commit}
-use Rattle.facet_replies.specs.Replies.{Reply, disk_failed, numbered, refused}
+use Rattle.facet_words.specs.Commands.{Settings, Command, Order}
+use Rattle.facet_replies.specs.Replies.{Reply}
 use Rattle.facet_output.specs.Answered.{Answered, of_session}
+use Rattle.facet_output.specs.Effects.{effect, Report, says_refused, for_disk, says_number, report}
 use Rattle.facet_output.specs.Output.{Opened, has_shown}
+use Rattle.facet_output.specs.Reported.{of_commit}
 use Rattle.facet_output.specs.Seen.{CommitPoint, Entries, Seen, entered_by, labels_of, opened_seen}
 use Rattle.facet_output.specs.Sessions.{AllRan, answers_of}
 use Rattle.facet_output.specs.Steps.{Step}
 
 -- the result of a commit: the number of operations that it made durable, or the disk's count of faults when it failed
-abbrev pub outcome_in : Reply → Option (Result ℕ ℕ)
-outcome_in (numbered n) = Some (Ok n)
-outcome_in (refused (disk_failed count)) = Some (Err count)
+abbrev pub outcome_in : Report → Option (Result ℕ ℕ)
+outcome_in (says_number n) = Some (Ok n)
+outcome_in (says_refused (for_disk count)) = Some (Err count)
 outcome_in _ = None
 
 abbrev pub outcome_by : Command → Reply → Option (Result ℕ ℕ)
-outcome_by commit reply = outcome_in reply
-outcome_by _ reply = None
+outcome_by command reply = of_commit outcome_in (effect command) (report reply)
 
 -- none if the command is no commit, or one that was neither acknowledged nor failed on the disk
 abbrev pub outcome : Answered → Option (Result ℕ ℕ)

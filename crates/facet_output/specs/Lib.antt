@@ -1,5 +1,6 @@
 pub mod Replies
 pub mod Answered
+pub mod Effects
 pub mod Held
 pub mod Replying
 pub mod Reported

@@ -6,11 +6,12 @@ use Rattle.facet_model.specs.Accepts.{Broken, first_broken}
 use Rattle.facet_model.specs.Documents.{Doc}
 use Rattle.facet_model.specs.Histories.{Operation}
 use Rattle.facet_words.specs.Answers.{with_labels}
-use Rattle.facet_words.specs.Commands.{Settings, Command, add, Order}
+use Rattle.facet_words.specs.Commands.{Settings, Command, Order}
 use Rattle.facet_replies.specs.Replies.{Reply, placed, refused, docs_full}
 use Rattle.facet_output.specs.Seen.{Seen, labels_of}
 use Rattle.facet_output.specs.Steps.{Step}
 use Rattle.facet_output.specs.Answered.{Answered, is_of}
+use Rattle.facet_output.specs.Effects.{Effect, adds, effect}
 use Rattle.facet_output.specs.Output.{Opened, Published, IsOutput}
 use Rattle.facet_output.specs.Sessions.{AllRan, steps_of, is_by, answers_of}
 use Rattle.facet_words.specs.ScriptOrder.{lines_rise}
@@ -21,9 +22,8 @@ abbrev pub after_placing : ℕ → Option (ℕ × Operation) → ℕ
 after_placing operations None = operations
 after_placing operations (Some p) = operations + 1
 
--- Given the number of operations and that of the last refresh: an add is placed after all of them, a refresh and a
--- commit have all of them,
--- and a pair is that of the last refresh.
+-- Given the number of operations and that of the last refresh: an add is placed after all operations, a refresh and a
+-- commit have all of them, and a pair is that of the last refresh.
 abbrev pub AreExact : ℕ → ℕ → List Answered → Type 0
 AreExact operations taken [] = Unit {0}
 AreExact operations taken (a ∷ later) =
@@ -51,8 +51,8 @@ is_resolved (refused (docs_full n)) = true
 is_resolved _ = false
 
 -- What an add leaves if the config accepts its document: the labels and a prefix of the missing ones, facet by facet,
--- the dimension first.
--- If it was rejected for labels, these are as many as fit; if it reached the documents, these are all.
+-- the dimension first. If it was rejected for labels, these are as many as fit. If it reached the documents, these are
+-- all.
 pub record LeavesFirst (settings : Settings) (labels : List (List (List ℕ))) (doc : Doc) (reply : Reply)
     (next : List (List (List ℕ))) : Type 0 where
   pub first : next ≡ take (length next) (with_labels labels doc)
@@ -66,11 +66,14 @@ abbrev pub AddLeaves : Settings → List (List (List ℕ)) → Doc → Option Br
 AddLeaves settings labels doc (Some b) reply next = next ≡ labels
 AddLeaves settings labels doc None reply next = LeavesFirst settings labels doc reply next
 
--- and so does every other command
-abbrev pub Leaves : Settings → List (List (List ℕ)) → Command → Reply → List (List (List ℕ)) → Type 0
-Leaves settings labels (add doc) reply next =
+-- and so does a command with another effect
+abbrev pub EffectLeaves : Settings → List (List (List ℕ)) → Effect → Reply → List (List (List ℕ)) → Type 0
+EffectLeaves settings labels (adds doc) reply next =
     AddLeaves settings labels doc (first_broken settings.config doc) reply next
-Leaves settings labels _ reply next = next ≡ labels
+EffectLeaves settings labels _ reply next = next ≡ labels
+
+abbrev pub Leaves : Settings → List (List (List ℕ)) → Command → Reply → List (List (List ℕ)) → Type 0
+Leaves settings labels command reply next = EffectLeaves settings labels (effect command) reply next
 
 -- given these labels, how many the last refresh has, and those at the end: what each command leaves, and how many
 -- labels a taken pair has

@@ -13,7 +13,7 @@ use Rattle.facet_output.specs.Seen.{Seen, labels_of, history_of}
 use Rattle.facet_output.specs.Sessions.{AllRan, steps_of, is_by, answers_of}
 use Rattle.facet_output.specs.Steps.{Step}
 
--- the orders that were answered
+-- the commands that were answered, with their sessions and lines
 abbrev pub orders_of : List Answered → List Order
 orders_of answered = map (λ a. a.order) answered
 
@@ -21,7 +21,7 @@ orders_of answered = map (λ a. a.order) answered
 abbrev pub NamesNoPair : List Answered → Type 0
 NamesNoPair answered = IsTrue (list_all (λ o. names_no_pair o.command) (orders_of answered))
 
--- The commands have these replies, from what was opened; the shelf at the end is the state at the end, and the lines
+-- The commands have these replies, from what was opened. The shelf at the end is the state at the end, and the lines
 -- are these.
 pub record Served (settings : Settings) (opened : Opened) (answered : List Answered) (last : Seen) : Type 0 where
   pub replies : List Reply

@@ -29,8 +29,8 @@ opened_operations opened = map (λ doc. record { session = 0; doc = doc }) opene
 abbrev pub opened_pair : Opened → ℕ × ℕ
 opened_pair opened = (length opened.docs, length opened.labels)
 
--- Pairs of a number of operations and one of labels, each with the session that published it. The opened one is under
--- 0.
+-- Pairs of a number of operations and one of labels, each with the session that published it. The opened pair has
+-- session 0.
 abbrev pub Published : Type 0
 Published = List (ℕ × (ℕ × ℕ))
 
@@ -64,8 +64,7 @@ has_shown labels published answered a n =
     list_all (λ b. not (comes_after a b) || labels_among published (take n labels) b) answered
 
 -- A label with its ordinal was entered by a command that brings it. Before it no earlier path of the command's document
--- was skipped,
--- and there were all labels that the session had been shown.
+-- was skipped, and there were all labels that the session had been shown.
 abbrev pub is_entered : Config → List (List (List ℕ)) → Published → List Answered → ℕ × List (List ℕ) → Bool
 is_entered config labels published answered e =
     list_any (λ b. brings config e.1 b.order.command && skips_none (take e.0 labels) (paths_of b.order.command) e.1
@@ -144,8 +143,7 @@ is_last_commit answered a count =
 -- ---- the output
 
 -- The commands of these phases have these replies, from what was opened. The labels, operations and published pairs are
--- those at the end,
--- each in their order.
+-- those at the end, each in their order.
 pub record IsOutput (settings : Settings) (phases : List (List Order)) (opened : Opened) (labels : List (List (List ℕ)))
     (history : List Operation) (published : Published) (answered : List Answered) : Type 0 where
   -- each command has one reply: phase by phase, in a phase by rising sessions, in a session by lines

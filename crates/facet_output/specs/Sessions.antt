@@ -27,8 +27,7 @@ abbrev pub own_steps : ℕ → List Step → List Step
 own_steps session steps = filter (is_by session) steps
 
 -- A session that holds these pairs and has seen so much carries out its steps, one after the other. Between two of
--- them, and after the last,
--- it is shown what others entered.
+-- them, and after the last, it learns what others entered.
 abbrev pub SessionRan : Settings → ℕ → Held → Seen → List Step → Seen → Type 0
 SessionRan settings session held seen [] last = IsTold session seen last
 SessionRan settings session held seen (x ∷ xs) last = IsTold session seen x.before × IsStep settings held x

@@ -3,12 +3,14 @@ use Rattle.std.specs.Prelude.{◌≡◌, ◌≤◌, ◌<◌, ◌+◌, ◌++◌, 
 use Rattle.std.specs.Prelude.{Option, Some, None, IfSome}
 use Rattle.facet_model.specs.Documents.{Doc}
 use Rattle.facet_model.specs.Histories.{Operation}
-use Rattle.facet_words.specs.Commands.{Settings, Command, commit}
-use Rattle.facet_replies.specs.Replies.{Reply, numbered, refused, disk_failed, closed, numbers_spent}
+use Rattle.facet_words.specs.Commands.{Settings, Command}
+use Rattle.facet_replies.specs.Replies.{Reply}
 use Rattle.facet_output.specs.Answered.{Answered}
+use Rattle.facet_output.specs.Effects.{Effect, persists, effect, Report, says_number, says_refused, for_disk}
+use Rattle.facet_output.specs.Effects.{for_closed, for_numbers, report}
 use Rattle.facet_output.specs.Held.{Held}
 use Rattle.facet_output.specs.Replying.{RightReply}
-use Rattle.facet_output.specs.Reported.{brings, paths_of, placed_operation, refreshed, sees_no_pair, stood}
+use Rattle.facet_output.specs.Reported.{brought, added_paths, placed_operation, refreshed, sees_no_pair, stood}
 use Rattle.facet_output.specs.Seen.{CommitPoint, Entries, Seen, Sees, labels_of, history_of, failures, EntersNone}
 use Rattle.facet_output.specs.Seen.{EntersBehind, EachNew}
 use Rattle.facet_names.specs.Labels.{skips_none}
@@ -37,27 +39,35 @@ abbrev pub EntersPoint : ℕ → Option ℕ → Entries CommitPoint → Entries 
 EntersPoint n failed old new = (between : Entries CommitPoint) × (point : CommitPoint)
     × EntersBehind n point old between new × (failures between ≡ []) × (point.failed ≡ failed)
 
--- What a commit enters, by its reply: a point if it made so many operations and at least so many labels durable, or
--- failed on the disk.
--- If it reports an earlier failure, it is that one.
-abbrev pub EntersCommit : ℕ → ℕ → Reply → Entries CommitPoint → Entries CommitPoint → Type 0
-EntersCommit n least (numbered k) old new =
+-- What a commit enters, by what it reports: a point if it made so many operations and at least so many labels durable,
+-- or failed on the disk. If it reports an earlier failure, that is the only one.
+abbrev pub EntersSaid : ℕ → ℕ → Report → Entries CommitPoint → Entries CommitPoint → Type 0
+EntersSaid n least (says_number k) old new =
     (enters : EntersPoint n None old new) × (enters.1.operations ≡ k) × (least ≤ enters.1.labels)
-EntersCommit n least (refused (disk_failed count)) old new = EntersPoint n (Some count) old new
-EntersCommit n least (refused (closed count)) old new = EntersNone n old new × (failures new ≡ count ∷ [])
-EntersCommit n least (refused (numbers_spent number)) old new = EntersNone n old new × (failures new ≡ [])
-EntersCommit n least _ old new = EntersNone n old new
+EntersSaid n least (says_refused (for_disk count)) old new = EntersPoint n (Some count) old new
+EntersSaid n least (says_refused (for_closed count)) old new = EntersNone n old new × (failures new ≡ count ∷ [])
+EntersSaid n least (says_refused for_numbers) old new = EntersNone n old new × (failures new ≡ [])
+EntersSaid n least _ old new = EntersNone n old new
+
+abbrev pub EntersCommit : ℕ → ℕ → Reply → Entries CommitPoint → Entries CommitPoint → Type 0
+EntersCommit n least reply old new = EntersSaid n least (report reply) old new
 
 -- no other command enters a point
+abbrev pub EntersBy : ℕ → ℕ → Effect → Report → Entries CommitPoint → Entries CommitPoint → Type 0
+EntersBy n least persists said old new = EntersSaid n least said old new
+EntersBy n least _ said old new = EntersNone n old new
+
 abbrev pub EntersPoints : ℕ → ℕ → Command → Reply → Entries CommitPoint → Entries CommitPoint → Type 0
-EntersPoints n least commit reply old new = EntersCommit n least reply old new
-EntersPoints n least _ reply old new = EntersNone n old new
+EntersPoints n least command reply old new = EntersBy n least (effect command) (report reply) old new
 
 -- A label that is entered, at its place after the root: a document that the config accepts brings it, it is below the
 -- limit, and none before it was skipped.
+abbrev pub IsEnteredBy : Settings → Effect → List (List (List ℕ)) → ℕ → List (List ℕ) → Type 0
+IsEnteredBy settings e labels i path = IsTrue (brought settings.config path e) × (i + 1 < settings.max_labels)
+    × IsTrue (skips_none (take (i + 1) labels) (added_paths e) path)
+
 abbrev pub IsEntered : Settings → Command → List (List (List ℕ)) → ℕ → List (List ℕ) → Type 0
-IsEntered settings command labels i path = IsTrue (brings settings.config path command) × (i + 1 < settings.max_labels)
-    × IsTrue (skips_none (take (i + 1) labels) (paths_of command) path)
+IsEntered settings command labels i path = IsEnteredBy settings (effect command) labels i path
 
 -- ---- the pair that is taken
 
