@@ -1,0 +1,14 @@
+pub mod Sorting
+pub mod Alike
+pub mod Deeds
+pub mod Calm
+pub mod Gather
+pub mod Walk
+pub mod Changing
+pub mod Doing
+pub mod Acting
+pub mod Opening
+pub mod Phases
+pub mod Runs
+pub mod Impossible
+pub mod Examples
