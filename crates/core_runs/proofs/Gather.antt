@@ -35,7 +35,7 @@ module _ {A : Type 0} (f : ℕ → A → Deed) where
   pub own_still : (n k : ℕ) (old rest : Entries A) → entered_by n rest ≡ [] → entered_by n (each_at k (old ++ rest)) ≡ entered_by n (each_at k old)
   own_still n k old rest none = own_append n k old rest ∙ ap (λ l. entered_by n (each_at k old) ++ l) (each_none n (k + length old) rest none) ∙ append-nil (entered_by n (each_at k old))
 
-  -- one entry of a number behind others that are not of it
+  -- an entry of a number after entries of other numbers
   pub own_more : (n k : ℕ) (x : A) (old rest : Entries A) → entered_by n rest ≡ []
       → entered_by n (each_at k ((old ++ rest) ++ (n, x) ∷ [])) ≡ entered_by n (each_at k old) ++ (n, f (k + length (old ++ rest)) x) ∷ []
   own_more n k x old rest none = own_append n k (old ++ rest) ((n, x) ∷ []) ∙ (λ i. own_still n k old rest none i ++ last i)
