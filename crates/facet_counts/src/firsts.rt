@@ -133,6 +133,45 @@ fn choose<'a>(
     Ok(())
 }
 
+// Returns whether `n` children are chosen and the last of them has more documents than this.
+fn has_passed(candidates: &[Candidate<'_>], n: usize, count: u32) -> bool
+    ensures many { result ≡ true → n ≤ length candidates.now }
+    ensures more { result ≡ true → (part : List ℕ) → is_lt (listing_cmp (part, count)
+        (slice_index_or (map standing candidates.now) (length candidates.now - 1) (part, count))) ≡ false }
+{
+    let len = candidates.len();
+    if len == 0 || len < n {
+        return false;
+    }
+    count < candidates[len - 1].count
+}
+
+// Adds a child to the first ones if it is one of them. Where `n` others have more documents, its text is not read.
+fn choose_child<'a>(
+    view: &'a TaxoView,
+    child: u32,
+    count: u32,
+    depth: usize,
+    n: usize,
+    candidates: &mut Vec<Candidate<'a>>,
+) -> Result<(), NoMemory>
+    requires some { 0 < child }
+    requires within { child < length view.now }
+    requires last { length (slice_index_or view.now child []) ≡ depth + 1 }
+    requires short { All IsShort candidates.old.items }
+    ensures chosen { OnOk result ((ordered : List PartCount) → IsSorted listing_cmp ordered
+        → map standing candidates.old.items ≡ take n ordered
+        → (more : List PartCount) × IsPermutation ((last_part (slice_index_or view.now child []), count) ∷ ordered) more
+        × IsSorted listing_cmp more × (map standing candidates.new.items ≡ take n more)) }
+    ensures short { OnOk result (All IsShort candidates.new.items) }
+{
+    if has_passed(candidates, n, count) {
+        return Ok(());
+    }
+    let text = text_of(view, child, depth);
+    choose(Candidate { text, count }, n, candidates)
+}
+
 // Visits one more child, if its count is above 0.
 fn choose_among<'a>(
     view: &'a TaxoView,
@@ -155,8 +194,7 @@ fn choose_among<'a>(
 {
     let count = totals[child as usize];
     if count > 0 {
-        let text = text_of(view, child, depth);
-        choose(Candidate { text, count }, n, &mut chosen.candidates)?;
+        choose_child(view, child, count, depth, n, &mut chosen.candidates)?;
         chosen.sum += count as u64;
         chosen.number += 1;
     }

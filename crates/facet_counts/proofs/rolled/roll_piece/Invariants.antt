@@ -1,4 +1,4 @@
-use Rattle.std.proofs.Common.{◌≡◌, ◌<◌, ◌≤◌, ◌-◌, ◌*◌, ◌/◌, ℕ, length}
+use Rattle.std.proofs.Common.{◌≡◌, ◌<◌, ◌≤◌, ◌-◌, ◌*◌, ◌/◌}
 use Rattle.facet_counts.specs.Tallies.{Tally}
 use Rattle.facet_counts.specs.Climbs.{IsRolledTo}
 use Rattle.facet_counts.specs.Kept.{IsCounter}
