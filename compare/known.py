@@ -10,6 +10,14 @@ REFRESH = '{"s":1,"cmd":"refresh"}'
 COMMIT = '{"s":1,"cmd":"commit"}'
 STATS = '{"s":1,"cmd":"stats"}'
 MERGE = '{"s":1,"cmd":"merge"}'
+RANGES = '{"s":1,"cmd":"ranges","dim":"price","ranges":[{"name":"low","min":0,"max":10},{"name":"mid","min":10,"max":20,"min_open":true}]}'
+SUMS = '{"s":1,"cmd":"sums","dim":"genre","n":10}'
+BAD_SHAPE = {"fault": "bad_shape", "line": 2}
+
+
+def one_range(keys: str) -> str:
+    return '{"s":1,"cmd":"ranges","dim":"price","ranges":[{%s}]}' % keys
+
 
 READ: list[tuple[str, dict | None]] = [
     ('{"cmd":"phase"}', None),
@@ -50,6 +58,31 @@ READ: list[tuple[str, dict | None]] = [
     ('{"s":18446744073709551616,"cmd":"stats"}', {"fault": "bad_shape", "line": 2}),
     ('{"s":-1,"cmd":"stats"}', {"fault": "bad_shape", "line": 2}),
     ('{"s":65,"cmd":"hold","name":""}', {"fault": "bad_shape", "line": 2}),
+    (RANGES, None),
+    (SUMS, None),
+    (RANGES.replace('"dim"', '"on":"a","query":{"term":"go"},"drill":[["Author"]],"dim"'), None),
+    (SUMS.replace('"dim"', '"on":"a","query":{"term":"go"},"drill":[["Author"]],"dim"'), None),
+    (one_range('"name":"a","min":-9223372036854775808,"max":9223372036854775807'), None),
+    (one_range('"name":"a","min":1,"max":-1,"min_open":false,"max_open":true'), None),
+    (SUMS.replace("10", "4294967295"), None),
+    (SUMS.replace("10", "4294967296"), BAD_SHAPE),
+    (SUMS.replace("10", "-1"), BAD_SHAPE),
+    (SUMS.replace("10", "-0"), BAD_SHAPE),
+    (SUMS.replace('"genre"', '""'), BAD_SHAPE),
+    (SUMS.replace("dim", "dims"), BAD_SHAPE),
+    (RANGES.replace('"dim"', '"sideways":true,"dim"'), BAD_SHAPE),
+    ('{"s":1,"cmd":"ranges","dim":"price","ranges":[]}', BAD_SHAPE),
+    ('{"s":1,"cmd":"ranges","dim":"price"}', BAD_SHAPE),
+    (one_range('"name":"","min":0,"max":1'), BAD_SHAPE),
+    (one_range('"name":"a","min":0'), BAD_SHAPE),
+    (one_range('"name":"a","min":0,"max":1,"n":1'), BAD_SHAPE),
+    (one_range('"name":"a","min":0,"max":1,"min_open":1'), BAD_SHAPE),
+    (one_range('"name":"a","min":0,"max":9223372036854775808'), BAD_SHAPE),
+    (one_range('"name":"a","min":-9223372036854775809,"max":0'), BAD_SHAPE),
+    (one_range('"name":"a","min":-0,"max":1'), BAD_SHAPE),
+    (one_range('"name":"a","min":1.0,"max":1'), BAD_SHAPE),
+    (one_range('"name":"a","min":0,"max":1e3'), BAD_SHAPE),
+    (one_range('"name":"a","min":"0","max":1'), BAD_SHAPE),
 ]
 
 # A config line, and its fault, or None.
@@ -166,6 +199,35 @@ ALONE: list[tuple[str, list[str], list[str]]] = [
             '{"hit_count":1,"hits":[{"at":0,"id":"b1"}],"line":13,"n":1,"results":[],"s":1}',
             '{"line":14,"n":2,"s":1}',
             '{"labels":[[0,"Author"],[1,"Bob"],[1,"Lisa"]],"opened":[0,1],"order":[1,1]}',
+        ],
+    ),
+    (
+        '{"cmd":"config","dims":[{"dim":"price","hierarchical":true,"multi_valued":true}]}',
+        ['{"s":1,"cmd":"add","id":"b1","facets":[["price","10"],["price","5"]]}', '{"s":1,"cmd":"add","id":"b2","facets":[["price","15"]]}']
+        + ['{"s":1,"cmd":"add","id":"b3","facets":[["price","010"],["price","9","EUR"]]}']
+        + [REFRESH, RANGES, RANGES.replace('"dim"', '"on":"a","dim"'), '{"s":1,"cmd":"sums","dim":"price","n":0}'],
+        [
+            '{"at":0,"line":2,"s":1}',
+            '{"at":1,"line":3,"s":1}',
+            '{"at":2,"line":4,"s":1}',
+            '{"line":5,"n":3,"s":1}',
+            '{"line":6,"n":3,"ranges":[["low",1],["mid",1]],"s":1,"valued":2}',
+            '{"line":7,"refused":"not_held","s":1}',
+            '{"ask":0,"line":8,"refused":"top_zero","s":1}',
+            '{"labels":[[0,"price"],[1,"10"],[1,"5"],[1,"15"],[1,"010"],[1,"9"],[6,"EUR"]],"opened":[0,1],"order":[1,1,1]}',
+        ],
+    ),
+    (
+        '{"cmd":"config","dims":[{"dim":"genre","hierarchical":true,"multi_valued":true}]}',
+        ['{"s":1,"cmd":"add","id":"b1","facets":[["genre","b","5"],["genre","b","1"],["genre","b","1"],["genre","e","-1"]]}']
+        + ['{"s":1,"cmd":"add","id":"b2","facets":[["genre","c","2147483648"],["genre","a","-1"],["genre","4"]]}', REFRESH, SUMS, SUMS.replace("10", "2")],
+        [
+            '{"at":0,"line":2,"s":1}',
+            '{"at":1,"line":3,"s":1}',
+            '{"line":4,"n":2,"s":1}',
+            '{"line":5,"n":2,"s":1,"sums":[["b",7],["a",-1],["e",-1]]}',
+            '{"line":6,"n":2,"s":1,"sums":[["b",7],["a",-1]]}',
+            '{"labels":[[0,"genre"],[1,"b"],[2,"5"],[2,"1"],[1,"e"],[5,"-1"],[1,"c"],[7,"2147483648"],[1,"a"],[9,"-1"],[1,"4"]],"opened":[0,1],"order":[1,1]}',
         ],
     ),
     (
@@ -320,6 +382,17 @@ def filled(labels: str) -> list[str]:
     return ['{"line":2,"refused":"labels_full","s":1,"size":3}', '{"at":0,"line":4,"s":1}', '{"labels":%s,"opened":[0,1],"order":[1]}' % labels]
 
 
+def ranged(last: str) -> list[str]:
+    """A document has the price 10."""
+    return ['{"at":0,"line":2,"s":1}', '{"line":3,"n":1,"s":1}', last, '{"labels":[[0,"price"],[1,"10"]],"opened":[0,1],"order":[1]}']
+
+
+def summed(last: str) -> list[str]:
+    """No document is there."""
+    return [last, '{"labels":[],"opened":[0,1],"order":[]}']
+
+
+RANGED = ['{"s":1,"cmd":"add","id":"b1","facets":[["price","10"]]}', REFRESH, RANGES]
 TOLD = [COMMIT, '{"s":2,"cmd":"commit"}', '{"s":2,"cmd":"commit"}']
 
 # The config line and the others of a script on an empty store, an output, and the clause that it breaks, or None.
@@ -364,6 +437,22 @@ JUDGED: list[tuple[str, list[str], list[str], str | None]] = [
     (CONFIG, [MERGE], ['{"line":2,"merged":true,"n":0,"s":1}', '{"labels":[],"opened":[0,1],"order":[]}'], "replies"),
     (CONFIG, [MERGE], ['{"line":2,"n":0,"s":1}', '{"labels":[],"opened":[0,1],"order":[]}'], "replies"),
     (CONFIG, [MERGE], ['{"count":1,"line":2,"refused":"closed","s":1}', '{"labels":[],"opened":[0,1],"order":[]}'], "replies"),
+    # ranges and sums are those of the pair whose number the reply tells, or there is no memory
+    (CONFIG, RANGED, ranged('{"line":4,"n":1,"ranges":[["low",1],["mid",0]],"s":1,"valued":1}'), None),
+    (CONFIG, RANGED, ranged('{"line":4,"n":0,"ranges":[["low",0],["mid",0]],"s":1,"valued":0}'), "pairs"),
+    (CONFIG, RANGED, ranged('{"line":4,"n":1,"ranges":[["low",1],["mid",1]],"s":1,"valued":1}'), "replies"),
+    (CONFIG, RANGED, ranged('{"line":4,"n":1,"ranges":[["mid",0],["low",1]],"s":1,"valued":1}'), "replies"),
+    (CONFIG, RANGED, ranged('{"line":4,"n":1,"ranges":[["low",1],["mid",0]],"s":1,"valued":0}'), "replies"),
+    (CONFIG, RANGED, ranged('{"line":4,"refused":"no_memory","s":1}'), None),
+    (CONFIG, RANGED, ranged('{"line":4,"refused":"not_held","s":1}'), "replies"),
+    (CONFIG, [SUMS], summed('{"line":2,"n":0,"s":1,"sums":[]}'), None),
+    (CONFIG, [SUMS], summed('{"line":2,"n":0,"s":1,"sums":[["a",0]]}'), "replies"),
+    (CONFIG, [SUMS], summed('{"ask":0,"line":2,"refused":"top_zero","s":1}'), "replies"),
+    (CONFIG, [SUMS.replace("10", "0")], summed('{"ask":0,"line":2,"refused":"top_zero","s":1}'), None),
+    (CONFIG, [SUMS.replace("10", "0")], summed('{"ask":1,"line":2,"refused":"top_zero","s":1}'), "replies"),
+    (CONFIG, [SUMS.replace("10", "0")], summed('{"line":2,"refused":"no_memory","s":1}'), None),
+    (CONFIG, [SUMS.replace('"dim"', '"on":"a","dim"').replace("10", "0")], summed('{"line":2,"refused":"not_held","s":1}'), None),
+    (CONFIG, [SUMS.replace('"dim"', '"on":"a","dim"').replace("10", "0")], summed('{"ask":0,"line":2,"refused":"top_zero","s":1}'), "replies"),
     (CONFIG, [STATS], ['{"line":2,"refused":"no_memory","s":1}', '{"labels":[],"opened":[0,1],"order":[]}'], "replies"),
     (CONFIG, [COMMIT], ['{"line":2,"number":9223372036854775808,"refused":"numbers_spent","s":1}', '{"labels":[],"opened":[0,1],"order":[]}'], None),
     (CONFIG, [COMMIT], ['{"line":2,"number":9223372036854775807,"refused":"numbers_spent","s":1}', '{"labels":[],"opened":[0,1],"order":[]}'], "replies"),

@@ -10,6 +10,7 @@ from dataclasses import dataclass
 
 from reference import Document
 from relation import Answered, Checker, comes_after, may_come_after
+from shapes import LOOKS
 
 Numbers = tuple[int, int]
 
@@ -78,7 +79,7 @@ class Literal:
         if a.order.command == "hold":
             took = self.took(a)
             return given == {"refused": "held_already"} if under else took is not None and given == {"n": took[0]}
-        if a.order.command in ("search", "document", "stats"):
+        if a.order.command in LOOKS:
             pair = under if a.order.on is not None else self.took(a)
             if pair is None:
                 return a.order.on is not None and given == {"refused": "not_held"}
@@ -158,7 +159,7 @@ def takes(a: Answered) -> bool:
     """It took a pair without a name, and was not refused for memory or for a name."""
     if a.is_refused("no_memory") or a.is_refused("held_already"):
         return False
-    return a.order.command in ("search", "document", "stats", "hold") and a.order.on is None
+    return a.order.command in (*LOOKS, "hold") and a.order.on is None
 
 
 def found(read: Checker) -> Hidden:
@@ -171,7 +172,7 @@ def found(read: Checker) -> Hidden:
         if labels is not None and a.refreshed is not None:
             published.append((a.order.session, (a.refreshed, labels)))
         places[line] = len(published) - 1
-    # a search that was refused for an ask took a pair too
+    # a search that was refused for an ask took a pair too, and so did `sums` with an `n` of 0
     for a in read.answered:
         if takes(a) and a.order.line not in places:
             places[a.order.line] = max((places[b.order.line] for b in read.answered if comes_after(a, b) and b.order.line in places), default=0)

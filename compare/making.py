@@ -7,6 +7,11 @@ from files import digest, sealed
 from shapes import NOT_JSON
 
 DIMENSIONS = ["A", "B", "Author", "é", "Z\x1f", "a"]
+# dimensions for numbers: in labels of two components, and of three
+VALUED, WEIGHED = "N", "W"
+# texts that are numbers, of 64 bits or of 32, and some that are nearly
+NUMBERS = ["5", "-1", "10", "0", "20", "7", "007", "-0", "+1", "1.0", "2147483647", "2147483648", "-2147483648", "-2147483649", "٣", " 1", "1" + "0" * 30]
+NUMBERS += ["9223372036854775807", "9223372036854775808", "-9223372036854775808", "-9223372036854775809"]
 PARTS = ["a", "b", "c", "aa", "B", "\x1e", "\x1f", "x\x1fy", "ß", "𝄞", '"', "\\", "\n", "\x7f", "0", "A"]
 WORDS = ["rust", "Rust", "go", "GO", "book", "É", "é", "x" * 130, "\x0b", "a,b"]
 FLAGS = ("hierarchical", "multi_valued", "require_dim_count")
@@ -17,7 +22,7 @@ def some(random, most, make):
 
 
 def path(random, deep):
-    dims, parts = DIMENSIONS[: random.choice([1, 2, 6])], PARTS[: random.choice([1, 3, 16])]
+    dims, parts = random.choice([DIMENSIONS[:1], DIMENSIONS[:2], DIMENSIONS, [VALUED, WEIGHED]]), random.choice([PARTS[:1], PARTS[:3], PARTS, PARTS[:2] + NUMBERS[:2]])
     return [random.choice(dims)] + some(random, deep, lambda: random.choice(parts))
 
 
@@ -34,7 +39,11 @@ def query(random, levels):
 
 def dimensions(random):
     names = [dim for dim in DIMENSIONS if random.random() < 0.6]
-    return [{"dim": dim, **{flag: random.random() < 0.7 for flag in FLAGS if random.random() < 0.6}} for dim in names]
+    declared = [{"dim": dim, **{flag: random.random() < 0.7 for flag in FLAGS if random.random() < 0.6}} for dim in names]
+    for dim in (VALUED, WEIGHED):
+        if random.random() < 0.9:
+            declared.append({"dim": dim, "multi_valued": True, "hierarchical": dim == WEIGHED or random.random() < 0.4, "require_dim_count": random.random() < 0.3})
+    return declared
 
 
 def config(random, dims, auto_merge=False):
@@ -49,6 +58,14 @@ def config(random, dims, auto_merge=False):
     return value
 
 
+def numbered(random):
+    """Labels that are numbers, or nearly, most of them of few."""
+    few = NUMBERS[: random.choice([2, 4, 8, len(NUMBERS)])]
+    labels = [[VALUED, random.choice(few)] for _ in range(random.choice([0, 1, 1, 2, 3]))]
+    labels += [[WEIGHED, random.choice(PARTS[:3]), random.choice(few)] for _ in range(random.choice([0, 0, 1, 2, 3]))]
+    return labels
+
+
 def add(random, number):
     if random.random() < 0.1:
         return {"s": 1, "cmd": "add", "id": "twin"}
@@ -61,6 +78,8 @@ def add(random, number):
         for label in order["facets"]:
             if len(label) == 1 and random.random() < 0.95:
                 label.append(random.choice(PARTS))
+        if random.random() < 0.6:
+            order["facets"] = order["facets"][: random.choice([0, 1, 5])] + numbered(random)
     return order
 
 
@@ -73,15 +92,55 @@ def ask(random):
     return {"all": number}
 
 
+def with_some(random, order, keys):
+    """The order with some of these keys."""
+    return {**order, **{key: make() for key, make in keys.items() if random.random() < 0.6}}
+
+
+def matching(random):
+    """What makes the keys that choose documents."""
+    return {"query": lambda: query(random, 4), "drill": lambda: some(random, 3, lambda: path(random, 2))}
+
+
 def search(random):
     keys = {
-        "query": lambda: query(random, 4),
-        "drill": lambda: some(random, 3, lambda: path(random, 2)),
+        **matching(random),
         "sideways": lambda: random.random() < 0.7,
         "hits": lambda: random.choice([0, 1, 3, 1000000]),
         "ask": lambda: some(random, 4, lambda: ask(random)),
     }
-    return {"s": 1, "cmd": "search", **{key: make() for key, make in keys.items() if random.random() < 0.6}}
+    return with_some(random, {"s": 1, "cmd": "search"}, keys)
+
+
+def bound(random):
+    """An end of a range: near a number that documents have, or at the end of 64 bits."""
+    near = random.choice([0, 0, 5, 10, 20, -1, 2**31, -(2**31), 2**63 - 2, -(2**63) + 1]) + random.choice([-1, 0, 0, 1])
+    return max(-(2**63), min(near, 2**63 - 1))
+
+
+def one_range(random):
+    least, most = sorted([bound(random), bound(random)])
+    if random.random() < 0.1:
+        least, most = most, least
+    given = {"name": random.choice(["low", "low", "high", "é", "x" * 64]), "min": least, "max": most}
+    return with_some(random, given, {key: lambda: random.random() < 0.6 for key in ("min_open", "max_open")})
+
+
+def ranges(random):
+    given = [one_range(random) for _ in range(random.choice([1, 2, 3, 5, 64]))]
+    order = {"s": 1, "cmd": "ranges", "dim": random.choice([VALUED, VALUED, VALUED, WEIGHED, *DIMENSIONS[:2]]), "ranges": given}
+    return with_some(random, order, matching(random)) if random.random() < 0.4 else order
+
+
+def sums(random):
+    number = random.choice([1, 2, 5, 2**32 - 1]) if random.random() < 0.95 else 0
+    order = {"s": 1, "cmd": "sums", "dim": random.choice([WEIGHED, WEIGHED, WEIGHED, VALUED, *DIMENSIONS[:2]]), "n": number}
+    return with_some(random, order, matching(random)) if random.random() < 0.4 else order
+
+
+def look(random):
+    """A command that looks at what documents have."""
+    return random.choice([search, search, ranges, sums])(random)
 
 
 def order(random, number):
@@ -92,7 +151,7 @@ def order(random, number):
         return {"s": 1, "cmd": random.choice(["refresh", "refresh", "refresh", "commit", "commit", "stats", "merge"])}
     if kind < 0.8:
         return {"s": 1, "cmd": "document", "at": random.choice([0, 1, 2, 5, number, 2**32 - 1])}
-    return search(random)
+    return look(random)
 
 
 def segments(random, count):
@@ -185,6 +244,9 @@ LIMITS = {
     "drill": [[], [["A"]] * 256, [["A"]] * 257],
     "ask": [[], [{"all": 1}] * 64, [{"all": 1}] * 65],
     "n": [0, 2**32 - 1, 2**32],
+    "min": [0, -1, 2**63 - 1, 2**63, -(2**63), -(2**63) - 1, 0.5, "1", None],
+    "max": [0, -1, 2**63 - 1, 2**63, -(2**63), -(2**63) - 1, 1e3, "1", None],
+    "ranges": [[], [{"name": "a", "min": 0, "max": 1}] * 64, [{"name": "a", "min": 0, "max": 1}] * 65, [{"name": "a", "min": 0}], {"name": "a", "min": 0, "max": 1}],
     "all": [True, False, 0, 2**32 - 1, 2**32],
     "top": PATHS,
     "specific": PATHS,
@@ -200,7 +262,16 @@ LIMITS = {
     "auto_merge": [True, False, None, 0, 1, "true", []],
 }
 WRONG = [None, True, False, 0, 1, -1, 1.5, 1e2, 2**64, 10**30, "", "a", [], {}, [[]], [["a"]], [None], {"a": 1}, EVERY, {"all": 1}, {"term": "a"}]
-KEYS = list(LIMITS) + ["sideways", "must", "hierarchical", ""]
+KEYS = list(LIMITS) + ["sideways", "must", "hierarchical", "min_open", "max_open", ""]
+
+# how a number is written that has a sign, and its value; those that are no whole number of 64 bits are any that is none
+SIGNED = [(b"-1", -1), (b"-9223372036854775808", -(2**63)), (b"9223372036854775807", 2**63 - 1), (b"9223372036854775808", 0.5), (b"-9223372036854775809", 0.5)]
+SIGNED += [(b"-0", 0.5), (b"1.0", 0.5), (b"-1.0", 0.5), (b"1e3", 0.5), (b"1E0", 0.5), (b"18446744073709551616", 0.5), (b"-18446744073709551617", 0.5)]
+
+
+def one_range_from(least):
+    return {"s": 1, "cmd": "ranges", "dim": "a", "ranges": [{"name": "a", "min": least, "max": 1}]}
+
 
 # lines that are no JSON, and lines that Python would read as another value than RFC 8259 with the limits of docs/formats.md gives
 TEXTS = [(text, NOT_JSON) for text in (b"", b" ", b"{", b'{"cmd":"config"} x', b"{'cmd':'config'}", b'{"cmd":"config",}', b"NaN", b"Infinity", b"1e400", b"01", b"+1")]
@@ -209,6 +280,7 @@ TEXTS += [(text, NOT_JSON) for text in (b"- 1", b"1.", b"1e", b'{"cmd":"config",
 TEXTS += [(b"-0", 0.5), (b'{"s":-0,"cmd":"stats"}', {"s": 0.5, "cmd": "stats"}), (b'{"s":1.0,"cmd":"stats"}', {"s": 0.5, "cmd": "stats"}), (b"[" * 127 + b"]" * 127, [])]
 TEXTS += [(b'{"cmd":"\\u0063onfig"}', {"cmd": "config"}), (b'{"cmd":"x","cmd":"config"}', {"cmd": "config"}), (b'{"s":1,"s":2,"cmd":"stats"}', {"s": 2, "cmd": "stats"})]
 TEXTS += [(b'{"s":1,"cmd":"hold","name":"\\u0000"}', {"s": 1, "cmd": "hold", "name": "\0"}), (b'{"cmd":"phase","cmd":"phase"}', {"cmd": "phase"})]
+TEXTS += [(b'{"s":1,"cmd":"ranges","dim":"a","ranges":[{"name":"a","min":%b,"max":1}]}' % number, one_range_from(value)) for number, value in SIGNED]
 TEXTS += [(b'\t{"s":1 ,\r"cmd" : "stats"} \r', {"s": 1, "cmd": "stats"}), (b'{"s":1,"cmd":"add","id":"\\ud834\\udd1e"}', {"s": 1, "cmd": "add", "id": "𝄞"})]
 
 

@@ -8,9 +8,8 @@ from random import Random
 
 from relation import Path
 from scripts import Order
+from shapes import LOOKS
 from simulating import Ran, answer, output_of
-
-LOOKS = ("search", "document", "stats")
 
 
 class Output:
@@ -301,6 +300,34 @@ def a_hit_more(output: Output) -> bool:
     return True
 
 
+def another_range(output: Output) -> bool:
+    """A range has another count, or another number of documents has a number."""
+    place = output.pick("ranges", "valued")
+    if place is None:
+        return False
+    line = output.lines[place]
+    if output.random.random() < 0.3:
+        line["valued"] += 1
+    else:
+        output.random.choice(line["ranges"])[1] += output.random.choice([-1, 1])
+    return True
+
+
+def another_sum(output: Output) -> bool:
+    """A component has another sum, is missing, or is one too many."""
+    place = output.pick("sums", "sums")
+    if place is None:
+        return False
+    sums = output.lines[place]["sums"]
+    if not sums or output.random.random() < 0.2:
+        sums.append(["nobody", -(2**63)])
+    elif output.random.random() < 0.5:
+        output.random.choice(sums)[1] += output.random.choice([-1, 1])
+    else:
+        sums.pop(output.random.randrange(len(sums)))
+    return True
+
+
 def another_text(output: Output) -> bool:
     place = output.pick("document", "text")
     if place is None:
@@ -395,6 +422,8 @@ MUTATIONS: list[tuple[Callable[[Output], bool], set[str]]] = [
     (durable_after_failure, {"last_commit", "stays_closed"}),
     (two_failures, {"one_failure"}),
     (a_hit_more, {"replies"}),
+    (another_range, {"replies"}),
+    (another_sum, {"replies"}),
     (another_text, {"replies"}),
     (held_after_release, {"replies"}),
     (too_few_labels, {"publications", "replies"}),

@@ -25,8 +25,8 @@ def number_of(text: str) -> float:
 
 
 def whole_number_of(text: str) -> int | float:
-    """Returns a float for a number that is not a whole number of a script: one with a sign, or with too many digits."""
-    return number_of(text) if text.startswith("-") or len(text) > MOST_DIGITS else int(text)
+    """Returns a float for a number that is not a whole number of a script: `-0`, or one with too many digits."""
+    return number_of(text) if text == "-0" or len(text) > MOST_DIGITS else int(text)
 
 
 def refuse(text: str) -> None:

@@ -1,6 +1,7 @@
 """What a run of the program is to write, and which files it is to leave: docs/formats.md evaluated from scratch over plain lists, without an index."""
 
 import json
+import re
 from collections import namedtuple
 
 import files
@@ -52,6 +53,31 @@ def matches(query, document_words):
 
 def number_of(name):
     return int(name.rsplit("-", 1)[1])
+
+
+def signed_number(text, bits):
+    """The number of a number text, where it has so many bits with sign, or None."""
+    number = int(text) if re.fullmatch("0|-?[1-9][0-9]*", text) else None
+    return number if number is not None and -(2 ** (bits - 1)) <= number < 2 ** (bits - 1) else None
+
+
+def values(document, dim):
+    """The numbers of a document in a dimension: those of its labels of two components."""
+    numbers = [signed_number(label[1], 64) for label in document.labels if len(label) == 2 and label[0] == dim]
+    return [number for number in numbers if number is not None]
+
+
+def weights(document, dim):
+    """The components of a document in a dimension that have a number, each with it, once for each label."""
+    numbers = [(label[1], signed_number(label[2], 32)) for label in document.labels if len(label) == 3 and label[0] == dim]
+    return [(part, number) for part, number in numbers if number is not None]
+
+
+def contains(given, number):
+    """Whether a number lies in a range."""
+    if number == given["min"] and given.get("min_open", False) or number == given["max"] and given.get("max_open", False):
+        return False
+    return given["min"] <= number <= given["max"]
 
 
 def tiered(ends):
@@ -265,12 +291,14 @@ class Session:
         results = [self.top(documents_for(dim), (dim,), ask["all"]) for dim in dims]
         return {"dims": sorted(filter(None, results), key=lambda result: (-result["value"], result["path"][0].encode()))}
 
-    def search(self, order):
-        asks = order.get("ask", [])
-        refused = self.refused_ask(asks)
-        if refused:
-            return refused
-        seen = self.documents[: self.taken]
+    def refused_look(self, order):
+        """Why a command that looks at a pair is rejected, whichever pair that is, or None."""
+        if order["cmd"] == "sums":
+            return {"refused": "top_zero", "ask": 0} if order["n"] == 0 else None
+        return self.refused_ask(order.get("ask", []))
+
+    def passing(self, order):
+        """Tells whether a document passes the query and the drill of a command, all its dimensions or all besides one."""
         query = order.get("query", {"all": True})
         drill = [tuple(path) for path in order.get("drill", [])]
 
@@ -278,12 +306,38 @@ class Session:
             dims = {path[0] for path in drill} - {besides}
             return matches(query, words(document.text)) and all(any(has(document, path) for path in drill if path[0] == dim) for dim in dims)
 
+        return passes
+
+    def search(self, order):
+        asks = order.get("ask", [])
+        refused = self.refused_look(order)
+        if refused:
+            return refused
+        seen = self.documents[: self.taken]
+        passes = self.passing(order)
+
         def documents_for(dim):
             return [document for document in seen if passes(document, dim if order.get("sideways", False) else None)]
 
         hits = [{"at": at, "id": document.id} for at, document in enumerate(seen) if passes(document)]
         results = [self.answer(ask, seen, documents_for) for ask in asks]
         return {"n": self.taken, "hit_count": len(hits), "hits": hits[: order.get("hits", 10)], "results": results}
+
+    def ranges(self, order):
+        found = [values(document, order["dim"]) for document in filter(self.passing(order), self.documents[: self.taken])]
+        counts = [[given["name"], sum(any(contains(given, number) for number in numbers) for numbers in found)] for given in order["ranges"]]
+        return {"n": self.taken, "ranges": counts, "valued": sum(map(bool, found))}
+
+    def sums(self, order):
+        refused = self.refused_look(order)
+        if refused:
+            return refused
+        totals = {}
+        for document in filter(self.passing(order), self.documents[: self.taken]):
+            for part, number in weights(document, order["dim"]):
+                totals[part] = totals.get(part, 0) + number
+        falling = sorted(totals.items(), key=lambda total: (-total[1], total[0].encode()))
+        return {"n": self.taken, "sums": [list(total) for total in falling[: order["n"]]]}
 
     def document(self, order):
         at = order["at"]

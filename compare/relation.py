@@ -38,7 +38,7 @@ import places
 import reference
 from reference import Document, line_of
 from scripts import Order, Script
-from shapes import is_list, is_object, is_text, is_whole
+from shapes import LOOKS, is_list, is_object, is_text, is_whole
 
 Path = tuple[str, ...]
 NEVER = 1 << 80
@@ -306,7 +306,7 @@ class Checker:
             return {"refused": "no_memory"}
         if a.order.command in ("hold", "release"):
             return self.right_name(a, held.get((a.order.session, a.order.value["name"])))
-        if a.order.command in ("search", "document", "stats"):
+        if a.order.command in LOOKS:
             return self.right_look(a, held)
         return {"add": self.right_add, "refresh": self.right_count, "commit": self.right_commit, "merge": self.right_merge}[a.order.command](a)
 
@@ -353,13 +353,13 @@ class Checker:
         return right
 
     def right_look(self, a: Answered, held: dict[tuple[int, str], Pair]) -> dict | None:
-        """Of a search, a document or stats, over a held pair, or the one whose number the reply tells."""
+        """Of a command that looks, over a held pair, or the one whose number the reply tells."""
         if a.order.on is not None:
             pair = held.get((a.order.session, a.order.on))
             if pair is None:
                 return {"refused": "not_held"}
         else:
-            refused = self.view.refused_ask(a.order.value.get("ask", []))
+            refused = self.view.refused_look(a.order.value)
             if refused:
                 return refused
             n = a.number("count" if a.is_refused("no_such_document") else "n")

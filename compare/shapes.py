@@ -2,12 +2,23 @@
 
 MOST_SESSIONS = 64
 
+# the commands that look at a pair, which `on` may name
+LOOKS = ("search", "ranges", "sums", "document", "stats")
+
 # stands for the value of a line that is no JSON
 NOT_JSON = object()
 
 
 def is_whole(value, least=0, most=2**64 - 1):
     return isinstance(value, int) and not isinstance(value, bool) and least <= value <= most
+
+
+def is_signed(value):
+    return is_whole(value, -(2**63), 2**63 - 1)
+
+
+def is_count(value):
+    return is_whole(value, 0, 2**32 - 1)
 
 
 def is_text(value, least, most):
@@ -26,8 +37,12 @@ def is_name(value):
     return is_text(value, 1, 64)
 
 
+def is_component(value):
+    return is_text(value, 1, 1024)
+
+
 def is_path(value):
-    return is_list(value, 32, lambda part: is_text(part, 1, 1024)) and value != []
+    return is_list(value, 32, is_component) and value != []
 
 
 def is_object(value, due, free=()):
@@ -37,7 +52,7 @@ def is_object(value, due, free=()):
 
 
 def is_dimension(value):
-    return is_object(value, {"dim": lambda dim: is_text(dim, 1, 1024)}, dict.fromkeys(("hierarchical", "multi_valued", "require_dim_count"), is_truth))
+    return is_object(value, {"dim": is_component}, dict.fromkeys(("hierarchical", "multi_valued", "require_dim_count"), is_truth))
 
 
 def are_dimensions(value):
@@ -64,11 +79,20 @@ def is_query(value):
     return size is not None and size[0] <= 32 and size[1] <= 256
 
 
-def is_ask(value):
-    def is_count(number):
-        return is_whole(number, 0, 2**32 - 1)
+def is_drill(value):
+    return is_list(value, 256, is_path)
 
+
+def is_ask(value):
     return is_object(value, {"top": is_path, "n": is_count}) or is_object(value, {"specific": is_path}) or is_object(value, {"all": is_count})
+
+
+def is_range(value):
+    return is_object(value, {"name": is_name, "min": is_signed, "max": is_signed}, {"min_open": is_truth, "max_open": is_truth})
+
+
+def are_ranges(value):
+    return is_list(value, 64, is_range) and value != []
 
 
 def is_command(name):
@@ -80,6 +104,9 @@ def is_config(value):
     free = {key: lambda number, most=most: is_whole(number, 1, most) for key, most in limits.items()}
     return is_object(value, {"cmd": is_command("config")}, {"dims": are_dimensions, "auto_merge": is_truth, **free})
 
+
+# what the documents are whose numbers a command takes
+MATCHING = {"on": is_name, "query": is_query, "drill": is_drill}
 
 # the keys of each command besides `cmd` and `s`: those that are due, and those that may be left out
 COMMANDS = {
@@ -93,13 +120,13 @@ COMMANDS = {
     "hold": ({"name": is_name}, {}),
     "release": ({"name": is_name}, {}),
     "stats": ({}, {"on": is_name}),
-    "document": ({"at": lambda at: is_whole(at, 0, 2**32 - 1)}, {"on": is_name}),
+    "document": ({"at": is_count}, {"on": is_name}),
+    "ranges": ({"dim": is_component, "ranges": are_ranges}, MATCHING),
+    "sums": ({"dim": is_component, "n": is_count}, MATCHING),
     "search": (
         {},
         {
-            "on": is_name,
-            "query": is_query,
-            "drill": lambda drill: is_list(drill, 256, is_path),
+            **MATCHING,
             "sideways": is_truth,
             "hits": lambda hits: is_whole(hits, 0, 1000000),
             "ask": lambda asks: is_list(asks, 64, is_ask),

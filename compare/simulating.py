@@ -16,6 +16,7 @@ import sessions
 from reference import line_of
 from relation import Opened
 from scripts import Order, Script
+from shapes import LOOKS
 
 NAMES = ["a", "b", "é", "x" * 64]
 
@@ -28,14 +29,14 @@ Steps = Generator[None, None, dict]
 
 def with_session(random: Random, value: dict, session: int) -> dict:
     value["s"] = session
-    if value["cmd"] in ("search", "document", "stats") and random.random() < 0.4:
+    if value["cmd"] in LOOKS and random.random() < 0.4:
         value["on"] = random.choice(NAMES[: random.choice([1, 2, 4])])
     return value
 
 
 def small_add(random: Random, number: int) -> dict:
     """An add of few labels, which those of other sessions meet."""
-    labels = {dim: [dim, random.choice("xyzuv")] for dim in random.sample("ABC", random.randint(0, 3))}
+    labels = {dim: [dim, random.choice("xyzuv") if random.random() < 0.7 else random.choice(["5", "-1"])] for dim in random.sample("ABC", random.randint(0, 3))}
     return {"s": 1, "cmd": "add", "id": f"b{number}", "text": random.choice(["", "go", "rust go"]), "facets": list(labels.values())}
 
 
@@ -50,11 +51,11 @@ def order(random: Random, number: int, session: int) -> dict:
     elif kind < 0.75:
         value = {"cmd": random.choice(["hold", "hold", "release"]), "name": random.choice(NAMES[: random.choice([1, 2, 4])])}
     elif kind < 0.9:
-        value = {"cmd": random.choice(["stats", "stats", "commit"])}
+        value = {"cmd": random.choice(["stats", "commit"])}
     elif kind < 0.94:
         value = {"cmd": "document", "at": random.choice([0, 1, 2, 5, number])}
     else:
-        value = making.search(random)
+        value = making.look(random)
     return with_session(random, value, session)
 
 
@@ -148,7 +149,7 @@ class Chances:
 
     @staticmethod
     def some(random: Random) -> Chances:
-        failing = random.randint(0, 3) if random.random() < 0.3 else None
+        failing = random.randint(0, 2) if random.random() < 0.4 else None
         return Chances(failing, random.random() < 0.05, random.choice([0.0, 0.0, 0.05]), random.random() < 0.5)
 
 
@@ -292,7 +293,7 @@ STOPPED: Any = object()
 
 
 def answer(view: reference.Session, order: Order, pair: tuple[int, int]) -> dict:
-    """The reply of a search, a document or stats over a pair of documents and labels."""
+    """The reply of a command that looks over a pair of documents and labels."""
     view.taken, view.taken_labels = pair
     return getattr(view, order.command)(order.value)
 

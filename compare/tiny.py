@@ -8,6 +8,7 @@ import literal
 import mutating
 import simulating
 from relation import Checker
+from shapes import LOOKS
 
 # of these clauses the data decides that no line tells
 HIDDEN = {"entered", "pairs", "publications", "places", "replies"}
@@ -25,7 +26,11 @@ def order(random: Random, session: int) -> dict:
         return {"s": session, "cmd": "stats", **({"on": "a"} if random.random() < 0.2 else {})}
     if kind < 0.94:
         return {"s": session, "cmd": "hold", "name": "a"}
-    return {"s": session, "cmd": "merge"} if kind < 0.96 else {"s": session, "cmd": "search", "ask": [{"all": random.randint(0, 1)}]}
+    if kind < 0.95:
+        return {"s": session, "cmd": "merge"}
+    if kind < 0.98:
+        return {"s": session, "cmd": "search", "ask": [{"all": random.randint(0, 1)}]}
+    return {"s": session, "cmd": "sums", "dim": "A", "n": random.randint(0, 1)}
 
 
 def values(random: Random) -> list[dict]:
@@ -79,7 +84,7 @@ def reader(random: Random) -> Checker:
 
 def is_of_hidden(read: Checker) -> bool:
     """What was found broken, if anything, is broken by what is hidden."""
-    looks = {a.order.line for a in read.answered if a.order.command in ("search", "document", "stats", "hold", "release")}
+    looks = {a.order.line for a in read.answered if a.order.command in (*LOOKS, "hold", "release")}
     return all(broken.clause in HIDDEN and (broken.clause != "replies" or set(broken.lines) <= looks) for broken in read.verdict.breaks)
 
 

@@ -1,8 +1,8 @@
 -- What a command with its reply changed: it added a document, published a pair, made operations durable, or nothing of this.
 use Rattle.std.proofs.Common.{◌≡◌, ◌⊎◌, inl, inr, ℕ, Some, None, refl}
 use Rattle.facet_model.specs.Documents.{Doc}
-use Rattle.facet_words.specs.Commands.{Command, add, refresh, hold, release, search, document, stats, commit, merge}
-use Rattle.facet_replies.specs.Replies.{Reply, placed, numbered, found, shown, stats as numbers, merged, refused}
+use Rattle.facet_words.specs.Commands.{Command, add, refresh, hold, release, search, ranges, sums, document, stats, commit, merge}
+use Rattle.facet_replies.specs.Replies.{Reply, placed, numbered, found, shown, stats as numbers, ranged, summed, merged, refused}
 use Rattle.facet_output.specs.Reported.{durable_by, placed_by, refreshed_by, stood_by}
 
 pub record Added (s : ℕ) (c : Command) (r : Reply) : Type 0 where
@@ -49,6 +49,8 @@ kind s (add doc) (numbered n) = same s (add doc) (numbered n) refl refl refl
 kind s (add doc) (found f) = same s (add doc) (found f) refl refl refl
 kind s (add doc) (shown x) = same s (add doc) (shown x) refl refl refl
 kind s (add doc) (numbers x) = same s (add doc) (numbers x) refl refl refl
+kind s (add doc) (ranged x) = same s (add doc) (ranged x) refl refl refl
+kind s (add doc) (summed x) = same s (add doc) (summed x) refl refl refl
 kind s (add doc) merged = same s (add doc) merged refl refl refl
 kind s (add doc) (refused r) = same s (add doc) (refused r) refl refl refl
 kind s refresh (placed at) = same s refresh (placed at) refl refl refl
@@ -56,11 +58,15 @@ kind s refresh (numbered n) = inr (inl (record { n = n; command = refl; reply = 
 kind s refresh (found f) = same s refresh (found f) refl refl refl
 kind s refresh (shown x) = same s refresh (shown x) refl refl refl
 kind s refresh (numbers x) = same s refresh (numbers x) refl refl refl
+kind s refresh (ranged x) = same s refresh (ranged x) refl refl refl
+kind s refresh (summed x) = same s refresh (summed x) refl refl refl
 kind s refresh merged = same s refresh merged refl refl refl
 kind s refresh (refused r) = same s refresh (refused r) refl refl refl
 kind s (hold name) r = same s (hold name) r refl refl refl
 kind s (release name) r = same s (release name) r refl refl refl
 kind s (search on q) r = same s (search on q) r refl refl refl
+kind s (ranges on q rs) r = same s (ranges on q rs) r refl refl refl
+kind s (sums on q n) r = same s (sums on q n) r refl refl refl
 kind s (document on k) r = same s (document on k) r refl refl refl
 kind s (stats on) r = same s (stats on) r refl refl refl
 kind s commit (placed at) = same s commit (placed at) refl refl refl
@@ -68,6 +74,8 @@ kind s commit (numbered n) = inr (inr (inl (record { n = n; command = refl; repl
 kind s commit (found f) = same s commit (found f) refl refl refl
 kind s commit (shown x) = same s commit (shown x) refl refl refl
 kind s commit (numbers x) = same s commit (numbers x) refl refl refl
+kind s commit (ranged x) = same s commit (ranged x) refl refl refl
+kind s commit (summed x) = same s commit (summed x) refl refl refl
 kind s commit merged = same s commit merged refl refl refl
 kind s commit (refused r) = same s commit (refused r) refl refl refl
 kind s merge r = same s merge r refl refl refl

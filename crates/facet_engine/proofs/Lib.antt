@@ -10,6 +10,7 @@ pub mod Ended
 pub mod Opened
 pub mod Sharing
 pub mod Taking
+pub mod Looks
 pub mod PairReplies
 pub mod Added
 pub mod Spent

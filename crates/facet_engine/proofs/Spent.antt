@@ -13,7 +13,10 @@ use Rattle.facet_output.specs.Replies.{Reply, refused, numbers_spent}
 use Rattle.facet_output.specs.Seen.{CommitPoint}
 use Rattle.facet_engine.specs.Calls.{SpendsWithin}
 use Rattle.facet_engine.specs.Replies.{add_reply, refresh_reply, hold_reply, release_reply, stats_reply, commit_reply, merge_reply}
-use Rattle.pair_search.specs.Replies.{search_reply, document_reply}
+use Rattle.pair_search.specs.Replies.{search_reply, ranges_reply, sums_reply, document_reply}
+use Rattle.pair_search.specs.declared.ranging.RangesAnswer.{RangesAnswer}
+use Rattle.pair_search.specs.declared.ranging.RangesFault.{RangesFault}
+use Rattle.pair_search.specs.declared.ranging.RangesFault.TheVariants as ranging
 use Rattle.facet_engine.specs.Steps.{seen_of, point_of}
 use Rattle.facet_adding.specs.declared.adding.AddFault.{AddFault}
 use Rattle.facet_adding.specs.declared.adding.AddFault.TheVariants as adds
@@ -25,6 +28,9 @@ use Rattle.pair_search.specs.declared.searching.SearchFault.TheVariants as searc
 use Rattle.pair_search.specs.declared.showing.DocumentFault.{DocumentFault}
 use Rattle.pair_search.specs.declared.showing.DocumentFault.TheVariants as documents
 use Rattle.pair_search.specs.declared.showing.Shown.{Shown}
+use Rattle.pair_search.specs.declared.summing.SumsAnswer.{SumsAnswer}
+use Rattle.pair_search.specs.declared.summing.SumsFault.{SumsFault}
+use Rattle.pair_search.specs.declared.summing.SumsFault.TheVariants as summing
 
 -- a reply that tells of no file numbers
 abbrev pub TellsOfNone : Reply → Type 0
@@ -59,6 +65,17 @@ search_tells (Err searches.NotHeld) number is = cc
 search_tells (Err (searches.TopZero ask)) number is = cc
 search_tells (Err (searches.DimValueNotKept ask)) number is = cc
 search_tells (Err searches.NoMemory) number is = cc
+
+pub ranges_tells : (result : Result RangesAnswer RangesFault) → TellsOfNone (ranges_reply result)
+ranges_tells (Ok a) number is = cc
+ranges_tells (Err ranging.NotHeld) number is = cc
+ranges_tells (Err ranging.NoMemory) number is = cc
+
+pub sums_tells : (result : Result SumsAnswer SumsFault) → TellsOfNone (sums_reply result)
+sums_tells (Ok a) number is = cc
+sums_tells (Err summing.NotHeld) number is = cc
+sums_tells (Err summing.TopZero) number is = cc
+sums_tells (Err summing.NoMemory) number is = cc
 
 pub document_tells : (at : ℕ) (result : Result Shown DocumentFault) → TellsOfNone (document_reply at result)
 document_tells at (Ok s) number is = cc

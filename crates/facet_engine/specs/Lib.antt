@@ -8,4 +8,5 @@ pub mod Exchange
 pub mod Ending
 pub mod Opening
 pub mod Calls
+pub mod Looking
 pub mod Replies

@@ -6,21 +6,26 @@ use Rattle.facet_model.specs.Documents.{Doc}
 use Rattle.facet_output.specs.Replies.{Reply, refused, no_memory}
 use Rattle.facet_output.specs.Seen.{CommitPoint, Seen}
 use Rattle.facet_output.specs.Steps.{Step}
-use Rattle.facet_words.specs.Commands.{Search, Command, add, refresh, hold, release, search, document, stats, commit}
-use Rattle.facet_words.specs.Commands.{merge}
+use Rattle.facet_words.specs.Commands.{Search, Counted, Command, add, refresh, hold, release, search, ranges, sums}
+use Rattle.facet_words.specs.Commands.{document, stats, commit, merge}
+use Rattle.number_facets.specs.Values.{Range}
 use Rattle.pair_manager.specs.declared.manager.Stats.{Stats}
 use Rattle.pair_manager.specs.declared.pass.Pass.{Pass}
 use Rattle.pair_manager.specs.declared.point.CommitPoint.{CommitPoint as Point}
 use Rattle.pair_manager.specs.Published.{numbers}
 use Rattle.facet_adding.specs.declared.adding.AddFault.{AddFault}
 use Rattle.facet_engine.specs.declared.holding.HoldFault.{HoldFault}
+use Rattle.pair_search.specs.declared.ranging.RangesAnswer.{RangesAnswer}
+use Rattle.pair_search.specs.declared.ranging.RangesFault.{RangesFault}
 use Rattle.pair_search.specs.declared.searching.SearchAnswer.{SearchAnswer}
 use Rattle.pair_search.specs.declared.searching.SearchFault.{SearchFault}
 use Rattle.pair_search.specs.declared.showing.DocumentFault.{DocumentFault}
 use Rattle.pair_search.specs.declared.showing.Shown.{Shown}
+use Rattle.pair_search.specs.declared.summing.SumsAnswer.{SumsAnswer}
+use Rattle.pair_search.specs.declared.summing.SumsFault.{SumsFault}
 use Rattle.facet_engine.specs.Replies.{add_reply, refresh_reply, hold_reply, release_reply, stats_reply, commit_reply}
 use Rattle.facet_engine.specs.Replies.{merge_reply}
-use Rattle.pair_search.specs.Replies.{search_reply, document_reply}
+use Rattle.pair_search.specs.Replies.{search_reply, ranges_reply, sums_reply, document_reply}
 
 -- a point as the output's definitions have it
 abbrev pub point_of : Point → CommitPoint
@@ -102,6 +107,15 @@ released name pass result = taking (release name) None (release_reply result) pa
 abbrev pub searched : Option (List ℕ) → Search → Pass → Pass → Result SearchAnswer SearchFault → ℕ → ℕ → Step
 searched on s old new result =
     taking (search on s) (pair_taken on (search_reply result) new) (search_reply result) old new
+
+abbrev pub ranged : Option (List ℕ) → Counted → List Range → Pass → Pass → Result RangesAnswer RangesFault → ℕ → ℕ
+    → Step
+ranged on c rs old new result =
+    taking (ranges on c rs) (pair_taken on (ranges_reply result) new) (ranges_reply result) old new
+
+abbrev pub summed : Option (List ℕ) → Counted → ℕ → Pass → Pass → Result SumsAnswer SumsFault → ℕ → ℕ → Step
+summed on c n old new result =
+    taking (sums on c n) (pair_taken on (sums_reply result) new) (sums_reply result) old new
 
 abbrev pub documented : Option (List ℕ) → ℕ → Pass → Pass → Result Shown DocumentFault → ℕ → ℕ → Step
 documented on at old new result =

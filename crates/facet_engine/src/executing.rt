@@ -2,12 +2,12 @@ ghost use Rattle.std.specs.Prelude.{◌≡◌};
 ghost use Rattle.facet_config.specs.Faults.{fault_view};
 ghost use Rattle.facet_output.specs.Replies.{broken, refused};
 ghost use Rattle.facet_replies.specs.ReplyViews.{refusal_view, reply_view};
-ghost use Rattle.facet_words.specs.CommandViews.{search_view as line_view, command_view};
+ghost use Rattle.facet_words.specs.CommandViews.{counted_view, search_view as line_view, command_view};
 ghost use Rattle.facet_engine.specs.Calls.{IsCarriedOut};
 ghost use Rattle.facet_names.specs.Texts.{text_in};
 ghost use Rattle.facet_engine.specs.Replies.{add_reply, commit_reply, hold_reply, merge_reply, refresh_reply};
 ghost use Rattle.facet_engine.specs.Replies.{release_reply, stats_reply};
-ghost use Rattle.pair_search.specs.Replies.{document_reply, search_reply};
+ghost use Rattle.pair_search.specs.Replies.{document_reply, ranges_reply, search_reply, sums_reply};
 ghost use Rattle.pair_search.specs.Searches.{search_view};
 ghost use Rattle.facet_engine.specs.Systems.{BelongsTo};
 
@@ -22,9 +22,12 @@ use facet_disk::Disk;
 use facet_model::Word;
 use facet_names::NoMemory;
 use facet_replies::{Refusal, Reply};
-use facet_words::{Command, SearchLine};
+use facet_words::{Command, CountedLine, SearchLine};
 use pair_manager::Stats;
-use pair_search::{DocumentFault, SearchAnswer, SearchFault, Shown};
+use pair_search::{
+    DocumentFault, RangesAnswer, RangesFault, SearchAnswer, SearchFault, Shown, SumsAnswer,
+    SumsFault,
+};
 use sideways::SearchAsk;
 use std::sync::Wait;
 use taxo_cache::Name;
@@ -99,6 +102,34 @@ fn found(of: Result<SearchAnswer, SearchFault>) -> Reply
         Err(SearchFault::TopZero { ask }) => refused(Refusal::TopZero { ask }),
         Err(SearchFault::DimValueNotKept { ask }) => refused(Refusal::DimValueNotKept { ask }),
         Err(SearchFault::NoMemory) => refused(Refusal::NoMemory),
+    }
+}
+
+fn ranged(of: Result<RangesAnswer, RangesFault>) -> Reply
+    ensures { reply_view result ≡ ranges_reply of }
+{
+    match of {
+        Ok(answer) => Reply::Ranged {
+            n: answer.operations,
+            counts: answer.counts,
+            valued: answer.valued,
+        },
+        Err(RangesFault::NotHeld) => refused(Refusal::NotHeld),
+        Err(RangesFault::NoMemory) => refused(Refusal::NoMemory),
+    }
+}
+
+fn summed(of: Result<SumsAnswer, SumsFault>) -> Reply
+    ensures { reply_view result ≡ sums_reply of }
+{
+    match of {
+        Ok(answer) => Reply::Summed {
+            n: answer.operations,
+            sums: answer.sums,
+        },
+        Err(SumsFault::NotHeld) => refused(Refusal::NotHeld),
+        Err(SumsFault::TopZero) => refused(Refusal::TopZero { ask: 0 }),
+        Err(SumsFault::NoMemory) => refused(Refusal::NoMemory),
     }
 }
 
@@ -193,6 +224,30 @@ pub fn execute<D: Disk, N: Name + Start, R: Wait>(
         Command::Search { on, line } => {
             let ask = ask_of(Box::into_inner(line));
             found(system.search(rt, session, text_of(&on), &ask))
+        }
+        Command::Ranges { on, line, ranges } => {
+            let line = Box::into_inner(line);
+            ranged(system.ranges(
+                rt,
+                session,
+                text_of(&on),
+                &line.query,
+                &line.drill,
+                line.dim.text(),
+                &ranges,
+            ))
+        }
+        Command::Sums { on, line, n } => {
+            let line = Box::into_inner(line);
+            summed(system.sums(
+                rt,
+                session,
+                text_of(&on),
+                &line.query,
+                &line.drill,
+                line.dim.text(),
+                n,
+            ))
         }
         Command::Document { on, at } => shown(at, system.document(rt, session, text_of(&on), at)),
         Command::Stats { on } => counted(system.stats(rt, session, text_of(&on))),

@@ -15,11 +15,14 @@ mod holding;
 mod merging;
 mod notes;
 mod opening;
+mod pairing;
+mod ranging;
 mod refreshing;
 mod searching;
 mod session;
 mod showing;
 mod stats;
+mod summing;
 mod system;
 mod upkeep;
 
@@ -30,6 +33,10 @@ pub use held::{Held, HeldPairs};
 pub use holding::{HoldFault, NotHeld};
 pub use notes::Notes;
 pub use opening::Store;
-pub use pair_search::{DocumentFault, SearchAnswer, SearchFault, Shown, search_pair};
+pub use pair_search::{
+    DocumentFault, RangesAnswer, RangesFault, SearchAnswer, SearchFault, Shown, SumsAnswer,
+    SumsFault, ranges_pair, search_pair, sums_pair,
+};
+pub use pairing::PairFault;
 pub use session::Session;
 pub use system::System;

@@ -1,5 +1,6 @@
 pub mod Samples
 pub mod Holding
+pub mod Ranging
 pub mod Refuted
 pub mod TwoSessions
 pub mod Among

@@ -10,7 +10,8 @@ use Rattle.facet_model.specs.Accepts.{Broken, first_broken}
 use Rattle.facet_model.specs.Documents.{Doc}
 use Rattle.facet_model.specs.Histories.{Operation, docs, knows}
 use Rattle.facet_model.proofs.Fronts.{weaker}
-use Rattle.facet_words.specs.Commands.{Settings, Command, Order, add, refresh, hold, release, search, document, stats, commit, merge}
+use Rattle.facet_words.specs.Answers.{ranged_of, IsSummed}
+use Rattle.facet_words.specs.Commands.{Settings, Command, Order, add, refresh, hold, release, search, ranges, sums, document, stats, commit, merge}
 use Rattle.facet_replies.specs.Replies.{Reply, stats as numbers}
 use Rattle.facet_output.specs.Answered.{Answered, of_session}
 use Rattle.facet_output.specs.Effects.{Effect, adds, publishes, holds, releases, persists, merges, looks, effect}
@@ -82,6 +83,8 @@ module _ (settings : Settings) (labels all : List (List (List ℕ))) (history wh
 
   lifted_looked : (command : Command) (pair : ℕ × ℕ) → pair.0 ≤ length history → IsLooked settings labels history command pair reply → IsLooked settings all whole command pair reply
   lifted_looked (search on s) pair le r = subst (λ (ds : List Doc). IsFound settings.config s (first_refused settings.config s.asks) pair.0 ds reply) (same_docs pair le) r
+  lifted_looked (ranges on c rs) pair le r = r ∙ ap (λ (ds : List Doc). ranged_of pair.0 ds c rs) (same_docs pair le)
+  lifted_looked (sums on c n) pair le r = subst (λ (ds : List Doc). IsSummed pair.0 ds c n reply) (same_docs pair le) r
   lifted_looked (document on at) pair le r = subst (λ (ds : List Doc). IsShown all pair.0 ds at (slice_get ds at) reply) (same_docs pair le) (lifted_shown pair.0 at (docs_of history pair) (slice_get (docs_of history pair) at) r)
   lifted_looked (stats on) pair le r = r ∙ (λ i. numbers (record { operations = pair.0; labels = pair.1; documents = length (same_docs pair le i) }))
   lifted_looked (add doc) pair le r = absurd r

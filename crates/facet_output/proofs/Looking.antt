@@ -1,10 +1,11 @@
 -- What is known of a right reply to a command that looks at a pair.
-use Rattle.std.proofs.Common.{◌≡◌, ℕ, ◌≤◌, true, List, length, Option, Some, None, slice_get, refl, sym, ap, subst, arith}
+use Rattle.std.proofs.Common.{◌≡◌, ℕ, zero, suc, ◌≤◌, true, List, length, Option, Some, None, slice_get, refl, sym, ap, subst, arith}
 use Rattle.std.proofs.lemmas.Bool.{le-leb}
 use Rattle.facet_model.specs.Asks.{AskFault, top_of_none, value_not_kept}
 use Rattle.facet_model.specs.Documents.{Doc}
 use Rattle.facet_model.specs.Histories.{Operation}
-use Rattle.facet_words.specs.Commands.{Settings, Search, Command, add, refresh, hold, release, search, document, stats, commit, merge}
+use Rattle.facet_words.specs.Commands.{Settings, Search, Command, add, refresh, hold, release, search, ranges, sums, Counted, document, stats, commit, merge}
+use Rattle.facet_words.specs.Answers.{IsSummed}
 use Rattle.facet_replies.specs.Replies.{Reply, refused}
 use Rattle.facet_output.specs.Effects.{report}
 use Rattle.facet_output.specs.Replying.{IsFound, IsShown, IsLooked, docs_of, first_refused, ask_refusal}
@@ -35,8 +36,14 @@ module _ (settings : Settings) (labels : List (List (List ℕ))) (history : List
   shown_looked docs at None is = at_most _ is (omega arith) (λ these many. refl)
   shown_looked docs at (Some doc) is = at_most _ is.2 (omega arith) (λ these many. refl)
 
+  summed_looked : (docs : List Doc) (c : Counted) (n : ℕ) → IsSummed pair.0 docs c n reply → Looked
+  summed_looked docs c zero is = at_most _ is (omega arith) (λ these many. refl)
+  summed_looked docs c (suc n) is = at_most _ is.2 (omega arith) (λ these many. refl)
+
   pub looked : (command : Command) → IsLooked settings labels history command pair reply → Looked
   looked (search on s) is = found_looked s (first_refused settings.config s.asks) (docs_of history pair) is
+  looked (ranges on c rs) is = at_most _ is (omega arith) (λ these many. refl)
+  looked (sums on c n) is = summed_looked (docs_of history pair) c n is
   looked (document on at) is = shown_looked (docs_of history pair) at (slice_get (docs_of history pair) at) is
   looked (stats on) is = at_most _ is (omega arith) (λ these many. le-leb pair.1 (length these) many)
   looked (add doc) is = absurd is

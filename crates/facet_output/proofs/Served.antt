@@ -14,8 +14,9 @@ use Rattle.facet_model.specs.Flags.{Config}
 use Rattle.facet_model.specs.Histories.{Operation, docs, knows}
 use Rattle.facet_replies.specs.ReplyLines.{reply_line}
 use Rattle.facet_words.specs.Answers as words_answers
-use Rattle.facet_words.specs.Answers.{Shelf, names_no_pair, with_labels, hits_of, first_hits}
-use Rattle.facet_words.specs.Commands.{Settings, Search, Command, Order, add, refresh, hold, release, search, document, stats, commit, merge}
+use Rattle.facet_words.specs.Answers.{Shelf, names_no_pair, with_labels, hits_of, first_hits, ranged_of, IsSummed}
+use Rattle.facet_words.specs.Commands.{Settings, Search, Counted, Command, Order, add, refresh, hold, release, search, ranges, sums, document, stats, commit, merge}
+use Rattle.number_facets.specs.Values.{Range}
 use Rattle.facet_output.specs.Answered.{Answered}
 use Rattle.facet_output.specs.Effects.{Effect, publishes, persists, merges, looks, effect, report}
 use Rattle.facet_output.specs.Held.{Held, held_after}
@@ -390,6 +391,12 @@ module _ (settings : Settings) (before after : Seen) (held : Held) (session : �
       found_so None e is =
           let first : words_answers.first_refused settings.config s.asks ≡ None = first_named settings.config (enumerate_from 0 s.asks) ∙ ap (option_map named) e in rw first is
 
+  ranges_goes : (c : Counted) (rs : List Range) (took : Option (ℕ × ℕ)) (reply : Reply) → Facts settings before after held session (looks None) (ranges None c rs) took reply → Goes settings (ranges None c rs) reply S after
+  ranges_goes c rs took reply f = look_goes (ranges None c rs) took reply f (λ takes. inr (refl, refl)) (λ is. inl (is ∙ ap (λ (ds : List Doc). ranged_of pair.0 ds c rs) (shelf_docs (ranges None c rs) took reply f), refl))
+
+  sums_goes : (c : Counted) (n : ℕ) (took : Option (ℕ × ℕ)) (reply : Reply) → Facts settings before after held session (looks None) (sums None c n) took reply → Goes settings (sums None c n) reply S after
+  sums_goes c n took reply f = look_goes (sums None c n) took reply f (λ takes. inr (refl, refl)) (λ is. inl (subst (λ (ds : List Doc). IsSummed pair.0 ds c n reply) (shelf_docs (sums None c n) took reply f) is, refl))
+
   document_goes : (at : ℕ) (took : Option (ℕ × ℕ)) (reply : Reply) → Facts settings before after held session (looks None) (document None at) took reply → Goes settings (document None at) reply S after
   document_goes at took reply f = look_goes (document None at) took reply f (λ takes. inr (refl, refl)) (λ is. inl (
     shown_so (slice_get (take pair.0 D) at)
@@ -494,6 +501,10 @@ module _ (settings : Settings) (before after : Seen) (held : Held) (session : �
   goes (release name) none took reply f = absurd (both_ways false refl none)
   goes (search None s) none took reply f = search_goes s took reply f
   goes (search (Some name) s) none took reply f = absurd (both_ways false refl none)
+  goes (ranges None c rs) none took reply f = ranges_goes c rs took reply f
+  goes (ranges (Some name) c rs) none took reply f = absurd (both_ways false refl none)
+  goes (sums None c n) none took reply f = sums_goes c n took reply f
+  goes (sums (Some name) c n) none took reply f = absurd (both_ways false refl none)
   goes (document None at) none took reply f = document_goes at took reply f
   goes (document (Some name) at) none took reply f = absurd (both_ways false refl none)
   goes (stats None) none took reply f = stats_goes took reply f

@@ -1,9 +1,11 @@
 -- What a command does to the history and to the published pairs, and what a reply reports of them.
 use Rattle.std.specs.Prelude.{ℕ, List, Option, Some, None}
 use Rattle.facet_model.specs.Documents.{Doc}
-use Rattle.facet_words.specs.Commands.{Command, add, refresh, hold, release, search, document, stats, commit, merge}
+use Rattle.facet_words.specs.Commands.{Command, add, refresh, hold, release, search, ranges, sums, document, stats}
+use Rattle.facet_words.specs.Commands.{commit, merge}
 use Rattle.facet_replies.specs.Replies.{Refusal, labels_full, docs_full, disk_failed, closed, numbers_spent, no_memory}
-use Rattle.facet_replies.specs.Replies.{Reply, placed, numbered, found, shown, stats as numbers, merged, refused}
+use Rattle.facet_replies.specs.Replies.{Reply, placed, numbered, found, shown, stats as numbers, ranged, summed, merged}
+use Rattle.facet_replies.specs.Replies.{refused}
 
 -- A command adds a document, publishes a pair, holds a pair under a name or releases it, makes operations durable,
 -- merges segments, or looks at a pair. It looks at the pair that is held under the name, or without a name at the last
@@ -23,6 +25,8 @@ effect refresh = publishes
 effect (hold name) = holds name
 effect (release name) = releases name
 effect (search on s) = looks on
+effect (ranges on c rs) = looks on
+effect (sums on c n) = looks on
 effect (document on at) = looks on
 effect (stats on) = looks on
 effect commit = persists
@@ -62,6 +66,8 @@ abbrev pub report : Reply → Report
 report (placed at) = says_placed at
 report (numbered n) = says_number n
 report (found f) = says_pair f.operations None
+report (ranged r) = says_pair r.operations None
+report (summed s) = says_pair s.operations None
 report (shown s) = says_pair s.operations None
 report (numbers s) = says_pair s.operations (Some s.labels)
 report merged = says_nothing

@@ -7,7 +7,6 @@ use Rattle.std.proofs.lemmas.List.Elements.{at_read}
 use native.Mathlib.Decide.{ℕ_discrete}
 use mathlib.Core.Logic.{dite}
 use Rattle.pair_manager.specs.declared.pass.Pass.{Pass}
-use Rattle.facet_words.specs.Commands as commands
 use Rattle.facet_words.specs.declared.command.Order.{Order}
 use Rattle.facet_output.specs.Answered.{Answered}
 use Rattle.facet_output.specs.Sessions.{held_by, own_steps, steps_of}

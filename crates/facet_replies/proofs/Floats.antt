@@ -13,8 +13,8 @@ use Rattle.serde_json.specs.Written.{has_float, items_have_float, members_have_f
 use Rattle.facet_model.specs.Listing.{PartCount}
 use Rattle.facet_model.specs.Results.{Listed, Answer, top_answer, value_answer, dims_answer}
 use Rattle.facet_model.specs.Accepts.{no_component, not_hierarchical, not_multi_valued}
-use Rattle.facet_replies.specs.Replies.{broken, labels_full, docs_full, not_held, held_already, top_zero, dim_value_not_kept, no_such_document, disk_failed, closed, numbers_spent, no_memory, Reply, placed, numbered, found, shown, stats, merged, refused}
-use Rattle.facet_replies.specs.ReplyLines.{with_fields, whole_data, path_data, child_data, listed_data, value_data, dims_data, answer_data, hit_data, reply_data}
+use Rattle.facet_replies.specs.Replies.{broken, labels_full, docs_full, not_held, held_already, top_zero, dim_value_not_kept, no_such_document, disk_failed, closed, numbers_spent, no_memory, Reply, placed, numbered, found, shown, stats, ranged, summed, merged, refused}
+use Rattle.facet_replies.specs.ReplyLines.{with_fields, whole_data, path_data, child_data, listed_data, value_data, dims_data, answer_data, hit_data, range_data, sum_data, reply_data}
 use Rattle.facet_replies.specs.LastLine.{label_data, last_data}
 use Rattle.facet_replies.specs.NamedFaults.{detail_field, named_fault_data}
 use Rattle.facet_replies.specs.Summaries.{Summary, summary_data}
@@ -70,6 +70,14 @@ wholes_plain : (ns : List ℕ) → items_have_float (items_of (map whole_data ns
 wholes_plain [] = refl
 wholes_plain (n ∷ ns) = wholes_plain ns
 
+ranges_plain : (counts : List (List ℕ × ℕ)) → items_have_float (items_of (map range_data counts)) ≡ false
+ranges_plain [] = refl
+ranges_plain (r ∷ rs) = ranges_plain rs
+
+sums_plain : (sums : List (List ℕ × ℤ)) → items_have_float (items_of (map sum_data sums)) ≡ false
+sums_plain [] = refl
+sums_plain (s ∷ ss) = rw (integer_plain s.1) (sums_plain ss)
+
 pub reply_plain : (session line : ℕ) (reply : Reply) → has_float (reply_data session line reply) ≡ false
 unfolding reply_data
 reply_plain session line (placed at) = refl
@@ -91,6 +99,8 @@ reply_plain session line (refused (closed count)) = refl
 reply_plain session line (refused (numbers_spent number)) = refl
 reply_plain session line (refused no_memory) = refl
 reply_plain session line (stats s) = refl
+reply_plain session line (ranged r) = rw (ranges_plain r.counts) refl
+reply_plain session line (summed s) = rw (sums_plain s.sums) refl
 reply_plain session line merged = refl
 
 pub summary_plain : (s : Summary) → has_float (summary_data s) ≡ false

@@ -1,3 +1,4 @@
 pub mod Floats
 mod Roots
 pub mod Placed
+pub mod Samples

@@ -1,4 +1,4 @@
--- A path of one component stands below the root.
+-- A path of one component is below the root.
 use Rattle.std.proofs.Common.{◌≡◌, ℕ, true, ltb, List, [], ◌∷◌, length, Some, None, slice_get, refl, ap, arith}
 use Rattle.std.specs.Prelude.{unwrap_or}
 use Rattle.std.proofs.lemmas.Bool.{lt-ltb}

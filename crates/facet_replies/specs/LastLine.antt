@@ -13,7 +13,8 @@ two_data a b = array (item a (item b no_items))
 abbrev pub label_data : List (List (List ℕ)) → List (List ℕ) → Data
 label_data labels path = two_data (whole_data (unwrap_or (place labels (above path)) 0)) (string (last_part path))
 
--- the labels behind those that were opened, how many documents and labels were opened, and whose the operations are
+-- the labels after those that were opened, how many documents and labels were opened, and the sessions of the
+-- operations
 unfoldable pub last_data : ℕ → ℕ → List (List (List ℕ)) → List ℕ → Data
 last_data documents opened labels sessions = fields (
     (codes "labels", list_data (label_data labels) (drop opened labels))

@@ -1,4 +1,4 @@
--- The line of a fault that has a name, and tells something under some keys.
+-- The line of a fault with a name, and with details under some keys.
 use Rattle.std.specs.Prelude.{ℕ, List, ◌∷◌, codes}
 use Rattle.std.specs.Borrow.{Bor}
 use Rattle.hex.specs.Hex.{encode_lower}
@@ -17,7 +17,7 @@ number_field key n = (key, whole_data n)
 abbrev pub digest_field : List ℕ → List ℕ → List ℕ × Data
 digest_field key digest = (key, string (encode_lower digest))
 
--- ---- what is told of a detail
+-- ---- details
 
 abbrev pub detail_data : Detail → Data
 detail_data (Text text) = string text.now

@@ -1,5 +1,5 @@
 -- Replies, as plain data.
-use Rattle.std.specs.Prelude.{ℕ, List}
+use Rattle.std.specs.Prelude.{ℕ, ℤ, List}
 use Rattle.facet_model.specs.Accepts.{Broken}
 use Rattle.facet_model.specs.Documents.{Doc}
 use Rattle.facet_model.specs.Results.{Answer}
@@ -43,11 +43,25 @@ pub record Numbers : Type 0 where
   pub labels : ℕ
   pub documents : ℕ
 
+-- the number of operations that were seen; of their documents, how many have a number in each range, with the range's
+-- name, and how many have a number at all
+pub record Ranged : Type 0 where
+  pub operations : ℕ
+  pub counts : List (List ℕ × ℕ)
+  pub valued : ℕ
+
+-- the number of operations that were seen, and the first components with the sums of their numbers
+pub record Summed : Type 0 where
+  pub operations : ℕ
+  pub sums : List (List ℕ × ℤ)
+
 pub data Reply : Type 0 where
   placed : ℕ → Reply
   numbered : ℕ → Reply
   found : Found → Reply
   shown : Shown → Reply
   stats : Numbers → Reply
+  ranged : Ranged → Reply
+  summed : Summed → Reply
   merged : Reply
   refused : Refusal → Reply

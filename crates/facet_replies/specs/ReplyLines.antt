@@ -11,7 +11,8 @@ use Rattle.facet_model.specs.Listing.{PartCount}
 use Rattle.facet_model.specs.Results.{Listed, Answer, top_answer, value_answer, dims_answer}
 use Rattle.facet_replies.specs.Replies.{Refusal, broken, labels_full, docs_full, not_held, held_already, top_zero}
 use Rattle.facet_replies.specs.Replies.{dim_value_not_kept, no_such_document, disk_failed, closed, numbers_spent}
-use Rattle.facet_replies.specs.Replies.{no_memory, Reply, placed, numbered, found, shown, stats, merged, refused}
+use Rattle.facet_replies.specs.Replies.{no_memory, Reply, placed, numbered, found, shown, stats, ranged, summed}
+use Rattle.facet_replies.specs.Replies.{merged, refused}
 
 -- keys with their values, in any order
 abbrev pub Fields : Type 0
@@ -65,6 +66,14 @@ answer_data (dims_answer rs) = dims_data rs
 unfoldable pub hit_data : ℕ × List ℕ → Data
 hit_data hit = fields ((codes "at", whole_data hit.0) ∷ (codes "id", string hit.1) ∷ [])
 
+-- [the range's name, the number of documents in it]
+abbrev pub range_data : List ℕ × ℕ → Data
+range_data r = array (item (string r.0) (item (whole_data r.1) no_items))
+
+-- [component, sum]
+abbrev pub sum_data : List ℕ × ℤ → Data
+sum_data s = array (item (string s.0) (item (number (of_integer s.1)) no_items))
+
 -- ---- replies
 
 abbrev pub broken_fields : Broken → Fields
@@ -99,7 +108,7 @@ abbrev pub document_fields : Doc → List ℕ → Fields
 document_fields doc ordinals = (codes "id", string doc.id) ∷ (codes "text", string doc.text)
     ∷ (codes "labels", list_data path_data doc.labels) ∷ (codes "ordinals", list_data whole_data ordinals) ∷ []
 
--- what a reply has besides its line and its session
+-- the fields of a reply, except its line and its session
 abbrev pub reply_fields : Reply → Fields
 reply_fields (placed at) = (codes "at", whole_data at) ∷ []
 reply_fields (numbered n) = (codes "n", whole_data n) ∷ []
@@ -109,6 +118,9 @@ reply_fields (shown s) = (codes "n", whole_data s.operations) ∷ (codes "at", w
     ∷ document_fields s.doc s.ordinals
 reply_fields (stats s) = (codes "n", whole_data s.operations) ∷ (codes "labels", whole_data s.labels)
     ∷ (codes "documents", whole_data s.documents) ∷ []
+reply_fields (ranged r) = (codes "n", whole_data r.operations) ∷ (codes "ranges", list_data range_data r.counts)
+    ∷ (codes "valued", whole_data r.valued) ∷ []
+reply_fields (summed s) = (codes "n", whole_data s.operations) ∷ (codes "sums", list_data sum_data s.sums) ∷ []
 reply_fields merged = (codes "merged", boolean true) ∷ []
 reply_fields (refused r) = refusal_fields r
 

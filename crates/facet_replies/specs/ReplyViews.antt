@@ -1,9 +1,11 @@
 -- The plain data of replies.
-use Rattle.std.specs.Prelude.{ℕ, List, map}
+use Rattle.std.specs.Prelude.{ℕ, List, map, string_bytes}
 use Rattle.facet_model.specs.Accepts.{no_component, not_hierarchical, not_multi_valued}
 use Rattle.facet_model.specs.ResultViews.{answer_view}
+use Rattle.number_facets.specs.SumViews.{sum_view}
 use Rattle.facet_replies.specs.Replies as plain
 use Rattle.facet_replies.specs.declared.reply.HitLine.{HitLine}
+use Rattle.facet_replies.specs.declared.reply.RangeLine.{RangeLine}
 use Rattle.facet_replies.specs.declared.reply.Refusal.{Refusal}
 use Rattle.facet_replies.specs.declared.reply.Refusal.TheVariants as refusals
 use Rattle.facet_replies.specs.declared.reply.Reply.{Reply}
@@ -12,6 +14,10 @@ use Rattle.facet_replies.specs.declared.reply.Reply.TheVariants as replies
 -- a hit's place and its id
 abbrev pub hit_view : HitLine → ℕ × List ℕ
 hit_view h = (h.at, h.id)
+
+-- a range's name and the number of documents in it
+abbrev pub range_view : RangeLine → List ℕ × ℕ
+range_view r = (string_bytes r.name, r.count)
 
 abbrev pub refusal_view : Refusal → plain.Refusal
 refusal_view (refusals.NoComponent facet) = plain.broken (no_component facet)
@@ -43,5 +49,9 @@ reply_view (replies.Shown n at doc ordinals) =
     plain.shown (record { operations = n; at = at; doc = doc; ordinals = ordinals.items })
 reply_view (replies.Stats n labels documents) =
     plain.stats (record { operations = n; labels = labels; documents = documents })
+reply_view (replies.Ranged n counts valued) =
+    plain.ranged (record { operations = n; counts = map range_view counts.items; valued = valued })
+reply_view (replies.Summed n sums) =
+    plain.summed (record { operations = n; sums = map sum_view sums.items })
 reply_view replies.Merged = plain.merged
 reply_view (replies.Refused r) = plain.refused (refusal_view r)

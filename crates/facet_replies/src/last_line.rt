@@ -13,7 +13,7 @@ use serde_json::{Value, json};
 use std::alloc::{AllocError, Global};
 use taxo_list::Taxonomy;
 
-// The ordinal of a path's parent. The root's is 0, and it stands for that of a path without one.
+// Returns the ordinal of a path's parent, or 0, the ordinal of the root, if there is none.
 fn parent_ordinal(alloc: Global, labels: &Taxonomy, path: &Path) -> Result<u32, NoMemory>
     requires root { slice_get labels.now 0 ≡ Some [] }
     ensures { IfOk result (λ ord. ord ≡ unwrap_or (place labels.now (above path.now)) 0) }
@@ -40,7 +40,7 @@ fn label_value(alloc: Global, labels: &Taxonomy, path: &Path) -> Result<Value, N
     Ok(entry)
 }
 
-// These labels, in their order.
+// Returns the array of these labels, in their order.
 fn labels_value(alloc: Global, labels: &Taxonomy, added: &[Path]) -> Result<Value, NoMemory>
     requires root { slice_get labels.now 0 ≡ Some [] }
     ensures { IfOk result (λ v. view v ≡ list_data (label_data labels.now) added.now) }

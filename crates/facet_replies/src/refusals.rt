@@ -24,7 +24,7 @@ pub fn put_text(
     put(fields, alloc, key, Value::try_from_str(alloc, text)?)
 }
 
-// The reason, and what it counts under this key.
+// Stores the reason, and what it counts under this key.
 fn put_reason(
     alloc: Global,
     fields: &mut Map<String, Value>,

@@ -1,4 +1,5 @@
 use facet_model::{Document, FacetAnswer, Word};
+use number_facets::Sum;
 
 /// A hit of a search: the document's place in the snapshot, from 0, and its id.
 #[derive(Debug, Drop)]
@@ -7,6 +8,15 @@ pub struct HitLine {
     pub at: u32,
     /// The document's id.
     pub id: Word,
+}
+
+/// A range's name, and how many documents have a number in the range.
+#[derive(Debug, Drop)]
+pub struct RangeLine {
+    /// The range's name.
+    pub name: String,
+    /// The number of documents with a number in the range.
+    pub count: u32,
 }
 
 /// Why a command was rejected.
@@ -75,6 +85,19 @@ pub enum Reply {
         n: u64,
         labels: u32,
         documents: u32,
+    },
+    /// To ranges: how many operations the pair has, how many of the documents that matched have a number in each range,
+    /// in the order of the ranges, and how many have a number at all.
+    Ranged {
+        n: u64,
+        counts: Vec<RangeLine>,
+        valued: u32,
+    },
+    /// To sums: how many operations the pair has, and the first components with the sums of their numbers, over the
+    /// documents that matched.
+    Summed {
+        n: u64,
+        sums: Vec<Sum>,
     },
     /// To a merge: all segments that it found are one now.
     Merged,

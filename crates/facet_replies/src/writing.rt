@@ -2,17 +2,20 @@ ghost use Rattle.std.specs.Prelude.{◌≡◌, ◌++◌, IfOk, OnOk, OnErr, fals
 ghost use Rattle.serde_json.specs.View.{view, members_view};
 ghost use Rattle.serde_json.specs.Written.{has_float};
 ghost use Rattle.facet_model.specs.ResultViews.{answer_view};
-ghost use Rattle.facet_replies.specs.Replies.{placed, found, shown, stats};
+ghost use Rattle.number_facets.specs.SumViews.{sum_view};
+ghost use Rattle.facet_replies.specs.Replies.{placed, found, shown, stats, ranged, summed};
 ghost use Rattle.facet_replies.specs.ReplyLines.{with_fields, whole_data, list_data, hit_data, document_fields};
+ghost use Rattle.facet_replies.specs.ReplyLines.{range_data, sum_data};
 ghost use Rattle.facet_replies.specs.ReplyLines.{reply_fields as fields_of_reply, reply_data, json_line, reply_line};
-ghost use Rattle.facet_replies.specs.ReplyViews.{hit_view, reply_view};
+ghost use Rattle.facet_replies.specs.ReplyViews.{hit_view, range_view, reply_view};
 
 use crate::answers::{answers_value, paths_value};
 use crate::refusals::{put_refusal, put_text};
-use crate::reply::{HitLine, Reply};
+use crate::reply::{HitLine, RangeLine, Reply};
 use crate::values::{ToValue, list_value};
 use facet_model::{Document, FacetAnswer};
 use facet_names::NoMemory;
+use number_facets::Sum;
 use serde_json::{Map, Value, json, put};
 use std::alloc::{AllocError, Global};
 use std::fmt::Write;
@@ -122,7 +125,93 @@ fn put_stats(
     put(fields, alloc, "documents", Value::from(documents))
 }
 
-// What it has besides its line and its session.
+fn range_value(alloc: Global, range: &RangeLine) -> Result<Value, NoMemory>
+    ensures { IfOk result (λ v. view v ≡ range_data (range_view range.now)) }
+{
+    Ok(json!(in alloc; [range.name.as_str(), range.count])?)
+}
+
+impl ToValue for RangeLine {
+    ghost use Rattle.std.specs.Prelude.{ℕ, List};
+    ghost use Rattle.facet_replies.specs.ReplyLines.{range_data};
+    ghost use Rattle.facet_replies.specs.ReplyViews.{range_view};
+
+    ghost Plain = { List ℕ × ℕ };
+
+    ghost plain = { range_view };
+
+    ghost json = { range_data };
+
+    fn to_value(&self, alloc: Global) -> Result<Value, NoMemory> {
+        range_value(alloc, self)
+    }
+}
+
+fn ranges_value(alloc: Global, counts: &[RangeLine]) -> Result<Value, NoMemory>
+    ensures { IfOk result (λ v. view v ≡ list_data range_data (map range_view counts.now)) }
+{
+    list_value(alloc, counts)
+}
+
+fn put_ranged(
+    alloc: Global,
+    fields: &mut Map<String, Value>,
+    n: u64,
+    counts: &[RangeLine],
+    valued: u32,
+) -> Result<(), NoMemory>
+    ensures { OnOk result (members_view fields.new.entries ≡ with_fields (members_view fields.old.entries)
+        (fields_of_reply (ranged (record { operations = n; counts = map range_view counts.now; valued = valued })))) }
+{
+    put(fields, alloc, "n", Value::from(n))?;
+    put(fields, alloc, "ranges", ranges_value(alloc, counts)?)?;
+    put(fields, alloc, "valued", Value::from(valued))?;
+    Ok(())
+}
+
+fn sum_value(alloc: Global, sum: &Sum) -> Result<Value, NoMemory>
+    ensures { IfOk result (λ v. view v ≡ sum_data (sum_view sum.now)) }
+{
+    Ok(json!(in alloc; [sum.part.text(), sum.value])?)
+}
+
+impl ToValue for Sum {
+    ghost use Rattle.number_facets.specs.SumViews.{sum_view};
+    ghost use Rattle.number_facets.specs.Values.{PartSum};
+    ghost use Rattle.facet_replies.specs.ReplyLines.{sum_data};
+
+    ghost Plain = { PartSum };
+
+    ghost plain = { sum_view };
+
+    ghost json = { sum_data };
+
+    fn to_value(&self, alloc: Global) -> Result<Value, NoMemory> {
+        sum_value(alloc, self)
+    }
+}
+
+fn sums_value(alloc: Global, sums: &[Sum]) -> Result<Value, NoMemory>
+    ensures { IfOk result (λ v. view v ≡ list_data sum_data (map sum_view sums.now)) }
+{
+    list_value(alloc, sums)
+}
+
+fn put_summed(
+    alloc: Global,
+    fields: &mut Map<String, Value>,
+    n: u64,
+    sums: &[Sum],
+) -> Result<(), NoMemory>
+    ensures { OnOk result (members_view fields.new.entries ≡ with_fields (members_view fields.old.entries)
+        (fields_of_reply (summed (record { operations = n; sums = map sum_view sums.now })))) }
+{
+    put(fields, alloc, "n", Value::from(n))?;
+    put(fields, alloc, "sums", sums_value(alloc, sums)?)?;
+    Ok(())
+}
+
+// Stores the fields of a reply, except its line and its session.
 fn put_reply(alloc: Global, fields: &mut Map<String, Value>, reply: &Reply) -> Result<(), NoMemory>
     ensures { OnOk result (members_view fields.new.entries
         ≡ with_fields (members_view fields.old.entries) (fields_of_reply (reply_view reply.now))) }
@@ -147,6 +236,8 @@ fn put_reply(alloc: Global, fields: &mut Map<String, Value>, reply: &Reply) -> R
             labels,
             documents,
         } => Ok(put_stats(alloc, fields, *n, *labels, *documents)?),
+        Reply::Ranged { n, counts, valued } => put_ranged(alloc, fields, *n, counts, *valued),
+        Reply::Summed { n, sums } => put_summed(alloc, fields, *n, sums),
         Reply::Merged => Ok(put(fields, alloc, "merged", Value::from(true))?),
         Reply::Refused(refusal) => Ok(put_refusal(alloc, fields, *refusal)?),
     }
@@ -173,8 +264,8 @@ pub(crate) fn to_line(alloc: Global, value: &Value) -> Result<String, NoMemory>
     Ok(text)
 }
 
-// The line of a document's place. There is one for each document, so it is written as it is, without a value in
-// between.
+// Returns the line of a document's place. There is one for each document, so it is written directly, without a JSON
+// value.
 #[tactic(auto, unfolding(crate::specs::ReplyLines::json_line, crate::specs::ReplyLines::reply_data))]
 fn placed_line(alloc: Global, session: u32, line: u64, at: u64) -> Result<String, NoMemory>
     ensures { IfOk result (λ s. string_bytes s ≡ json_line (reply_data session line (placed at))) }

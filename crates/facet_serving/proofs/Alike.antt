@@ -1,5 +1,5 @@
 -- Two runs of one session from one state are answered alike.
-use Rattle.std.proofs.Common.{◌≡◌, ◌∙◌, ◌⊎◌, inl, inr, ⊎_elim, ℕ, ◌≤◌, ◌<◌, Bool, true, false, List, [], ◌∷◌, ◌++◌, length, map, take, drop, Option, Some, None, slice_get, refl, sym, ap, subst, arith}
+use Rattle.std.proofs.Common.{◌≡◌, ◌∙◌, ◌⊎◌, inl, inr, ⊎_elim, ℕ, zero, suc, ◌≤◌, ◌<◌, Bool, true, false, List, [], ◌∷◌, ◌++◌, length, map, take, drop, Option, Some, None, slice_get, refl, sym, ap, subst, arith}
 use Rattle.std.specs.Prelude.{⊤, if◌then◌else◌, is_some, nat_le, nat_lt, unwrap_or}
 use Rattle.std.specs.List.{AllZip, list_all}
 use Rattle.std.proofs.lemmas.Bool.{and_parts, both_ways, cases_lt, le-leb, le-ltb, leb-true, lt-leb, lt-ltb}
@@ -28,9 +28,11 @@ use Rattle.facet_output.specs.OneSession.{AddLeaves, Leaves, LeavesFirst, is_res
 use Rattle.facet_output.specs.OutputLines.{answered_line, reply_lines}
 use Rattle.facet_output.specs.Replying.{IsAdded, IsCommitted, IsFound, IsHold, IsOf, IsRelease, IsResolved, IsRight, IsShown, RightReply, docs_of, first_refused, numbers_of, pair_seen}
 use Rattle.facet_output.specs.Reported.{says_full, stood_by}
-use Rattle.facet_replies.specs.Replies.{Reply, broken, docs_full, found, held_already, labels_full, numbered, placed, refused, shown, stats as numbers}
-use Rattle.facet_words.specs.Answers.{first_hits, hits_of, with_labels}
-use Rattle.facet_words.specs.Commands.{Search, Settings, Command, Order, add, commit, document, hold, merge, refresh, release, search, stats}
+use Rattle.facet_replies.specs.Replies.{Reply, broken, docs_full, found, held_already, labels_full, numbered, placed, refused, shown, stats as numbers, summed}
+use Rattle.number_facets.specs.Values.{PartSum, Range}
+use Rattle.facet_words.specs.Answers.{IsSummed, counted_docs, first_hits, hits_of, ranged_of, with_labels}
+use Rattle.facet_words.specs.Commands.{Counted, Search, Settings, Command, Order, add, commit, document, hold, merge, ranges, refresh, release, search, stats, sums}
+use Rattle.facet_serving.proofs.OneSums.{one_sums}
 use Rattle.facet_serving.proofs.Lone.{Goes, State, after, goes_on, is_in, labels_begin}
 use Rattle.facet_serving.specs.Alike.{AreAlike, IsOfStore, is_plain}
 use Rattle.facet_output.proofs.Served.{all_known}
@@ -140,6 +142,14 @@ same_found config s None n ds r q one two =
     let answers : one.0 ≡ two.0 = same_answers config ds (docs_for s.sideways ds s.query s.drill) s.asks one.0 two.0 one.1 two.1 in
     one.2 ∙ (λ i. found (record { operations = n; hit_count = length (hits_of ds s); hits = first_hits ds s; answers = answers i })) ∙ sym two.2
 
+-- ---- sums
+
+same_summed : (n : ℕ) (ds : List Doc) (c : Counted) (most : ℕ) (r q : Reply) → IsSummed n ds c most r → IsSummed n ds c most q → r ≡ q
+same_summed n ds c zero r q one two = one ∙ sym two
+same_summed n ds c (suc most) r q one two =
+    let same : one.0 ≡ two.0 = one_sums (counted_docs ds c) c.dim (suc most) one.0 two.0 one.1 two.1 in
+    one.2 ∙ ap (λ (shown : List PartSum). summed (record { operations = n; sums = shown })) same ∙ sym two.2
+
 -- ---- document
 
 same_ordinals : (xs ys : List ℕ) → map Some xs ≡ map Some ys → xs ≡ ys
@@ -244,6 +254,18 @@ module _ (settings : Settings) (labels labels' : List (List (List ℕ))) (histor
       (subst (λ (ds : List Doc). IsFound settings.config x (first_refused settings.config x.asks) pair.0 ds q) (pair_in pair le history' g.begins) two))
       f.right g.right
 
+  same_ranges : (on : Option (List ℕ)) (c : Counted) (rs : List Range) → One (ranges on c rs) → Two (ranges on c rs) → r ≡ q
+  same_ranges on c rs f g = of_pair (ranges on c rs) f g (λ pair reply. reply ≡ ranged_of pair.0 (docs_of history pair) c rs) (λ pair reply. reply ≡ ranged_of pair.0 (docs_of history' pair) c rs) on
+      (λ pair le one two. one ∙ ap (λ (ds : List Doc). ranged_of pair.0 ds c rs) (pair_in pair le history f.begins ∙ sym (pair_in pair le history' g.begins)) ∙ sym two)
+      f.right g.right
+
+  same_sums : (on : Option (List ℕ)) (c : Counted) (n : ℕ) → One (sums on c n) → Two (sums on c n) → r ≡ q
+  same_sums on c n f g = of_pair (sums on c n) f g (λ pair reply. IsSummed pair.0 (docs_of history pair) c n reply) (λ pair reply. IsSummed pair.0 (docs_of history' pair) c n reply) on
+      (λ pair le one two. same_summed pair.0 (docs (take pair.0 s.operations)) c n r q
+      (subst (λ (ds : List Doc). IsSummed pair.0 ds c n r) (pair_in pair le history f.begins) one)
+      (subst (λ (ds : List Doc). IsSummed pair.0 ds c n q) (pair_in pair le history' g.begins) two))
+      f.right g.right
+
   same_document : (on : Option (List ℕ)) (at : ℕ) → One (document on at) → Two (document on at) → r ≡ q
   same_document on at f g = of_pair (document on at) f g
       (λ pair reply. IsShown labels pair.0 (docs_of history pair) at (slice_get (docs_of history pair) at) reply) (λ pair reply. IsShown labels' pair.0 (docs_of history' pair) at (slice_get (docs_of history' pair) at) reply) on
@@ -312,6 +334,8 @@ module _ (settings : Settings) (labels labels' : List (List (List ℕ))) (histor
   same_order (hold name) whole f g = same_hold name f g
   same_order (release name) whole f g = let e = same_release name f g in let l = stays (release name) f.leaves g.leaves in (inl e, λ i. after s session (release name) took (e i) (l i))
   same_order (search on x) whole f g = let e = same_search on x f g in let l = stays (search on x) f.leaves g.leaves in (inl e, λ i. after s session (search on x) took (e i) (l i))
+  same_order (ranges on c rs) whole f g = let e = same_ranges on c rs f g in let l = stays (ranges on c rs) f.leaves g.leaves in (inl e, λ i. after s session (ranges on c rs) took (e i) (l i))
+  same_order (sums on c n) whole f g = let e = same_sums on c n f g in let l = stays (sums on c n) f.leaves g.leaves in (inl e, λ i. after s session (sums on c n) took (e i) (l i))
   same_order (document on at) whole f g = let e = same_document on at f g in let l = stays (document on at) f.leaves g.leaves in (inl e, λ i. after s session (document on at) took (e i) (l i))
   same_order (stats on) whole f g = let e = same_stats on f g in let l = stays (stats on) f.leaves g.leaves in (inl e, λ i. after s session (stats on) took (e i) (l i))
   same_order commit whole f g = (

@@ -8,6 +8,7 @@ pub mod Closed
 pub mod Shut
 pub mod Ending
 pub mod Reopened
+pub mod OneSums
 pub mod Lone
 pub mod Alike
 pub mod Equal

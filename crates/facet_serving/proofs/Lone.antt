@@ -21,9 +21,9 @@ use Rattle.facet_output.specs.OneSession.{AddLeaves, AreExact, AreExactLabels, L
 use Rattle.facet_output.specs.Output.{IsOutput, Opened, Published, opened_operations, opened_pair}
 use Rattle.facet_output.specs.Replying.{IsAdded, IsResolved, IsRight, RightReplies}
 use Rattle.facet_output.specs.Reported.{placed_by, placed_operation, refreshed, refreshed_by, stood_by}
-use Rattle.facet_replies.specs.Replies.{Reply, found, merged, numbered, placed, refused, shown, stats as numbers}
+use Rattle.facet_replies.specs.Replies.{Reply, found, merged, numbered, placed, ranged, refused, shown, stats as numbers, summed}
 use Rattle.facet_words.specs.Answers.{with_labels}
-use Rattle.facet_words.specs.Commands.{Settings, Command, Order, add, commit, document, hold, merge, refresh, release, search, stats}
+use Rattle.facet_words.specs.Commands.{Settings, Command, Order, add, commit, document, hold, merge, ranges, refresh, release, search, stats, sums}
 use Rattle.generator.specs.Summaries.{is_placed as tells_place}
 use Rattle.facet_output.proofs.Served.{all_known}
 use Rattle.chronicle.proofs.Prefixes.{prefix_self, prefix_trans, prefix_length, prefix_shorter}
@@ -98,6 +98,8 @@ module _ (settings : Settings) (labels : List (List (List ℕ))) where
   leaves_begin (hold name) reply next leaves = same_begins next leaves
   leaves_begin (release name) reply next leaves = same_begins next leaves
   leaves_begin (search on s) reply next leaves = same_begins next leaves
+  leaves_begin (ranges on c rs) reply next leaves = same_begins next leaves
+  leaves_begin (sums on c n) reply next leaves = same_begins next leaves
   leaves_begin (document on at) reply next leaves = same_begins next leaves
   leaves_begin (stats on) reply next leaves = same_begins next leaves
   leaves_begin commit reply next leaves = same_begins next leaves
@@ -137,12 +139,16 @@ module _ (settings : Settings) (labels before next : List (List (List ℕ))) (hi
   placed_here (add doc) (found f) p e right leaves = absurd cc
   placed_here (add doc) (shown s) p e right leaves = absurd cc
   placed_here (add doc) (numbers s) p e right leaves = absurd cc
+  placed_here (add doc) (ranged x) p e right leaves = absurd cc
+  placed_here (add doc) (summed x) p e right leaves = absurd cc
   placed_here (add doc) merged p e right leaves = absurd cc
   placed_here (add doc) (refused r) p e right leaves = absurd cc
   placed_here refresh reply p e right leaves = absurd cc
   placed_here (hold name) reply p e right leaves = absurd cc
   placed_here (release name) reply p e right leaves = absurd cc
   placed_here (search on s) reply p e right leaves = absurd cc
+  placed_here (ranges on c rs) reply p e right leaves = absurd cc
+  placed_here (sums on c n) reply p e right leaves = absurd cc
   placed_here (document on at) reply p e right leaves = absurd cc
   placed_here (stats on) reply p e right leaves = absurd cc
   placed_here commit reply p e right leaves = absurd cc
@@ -155,12 +161,16 @@ placed_stood session (add doc) (numbered n) p e = absurd cc
 placed_stood session (add doc) (found f) p e = absurd cc
 placed_stood session (add doc) (shown s) p e = absurd cc
 placed_stood session (add doc) (numbers s) p e = absurd cc
+placed_stood session (add doc) (ranged x) p e = absurd cc
+placed_stood session (add doc) (summed x) p e = absurd cc
 placed_stood session (add doc) merged p e = absurd cc
 placed_stood session (add doc) (refused r) p e = absurd cc
 placed_stood session refresh reply p e = absurd cc
 placed_stood session (hold name) reply p e = absurd cc
 placed_stood session (release name) reply p e = absurd cc
 placed_stood session (search on s) reply p e = absurd cc
+placed_stood session (ranges on c rs) reply p e = absurd cc
+placed_stood session (sums on c n) reply p e = absurd cc
 placed_stood session (document on at) reply p e = absurd cc
 placed_stood session (stats on) reply p e = absurd cc
 placed_stood session commit reply p e = absurd cc
@@ -194,6 +204,8 @@ held_by_command n (release name) took held taken all = held_filtered (is_in n) _
 held_by_command n (add doc) took held taken all = all
 held_by_command n refresh took held taken all = all
 held_by_command n (search on s) took held taken all = all
+held_by_command n (ranges on c rs) took held taken all = all
+held_by_command n (sums on c k) took held taken all = all
 held_by_command n (document on at) took held taken all = all
 held_by_command n (stats on) took held taken all = all
 held_by_command n commit took held taken all = all

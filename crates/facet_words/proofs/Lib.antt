@@ -10,6 +10,8 @@ pub mod QuickMembers
 pub mod QuickLines
 pub mod Rising
 mod SearchLines
+mod RangesLines
+mod Samples
 mod Searches
 mod SettingsParts
 mod Limits

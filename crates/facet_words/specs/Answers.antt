@@ -1,7 +1,7 @@
 -- Which replies to a session that runs alone are right, and which lines they are.
-use Rattle.std.specs.Prelude.{◌≡◌, ◌≤◌, ◌⊎◌, ◌^◌, ℕ, max, nat_le, nat_lt, if◌then◌else◌, Bool, true, false, List, []}
-use Rattle.std.specs.Prelude.{◌∷◌, ◌++◌, length, take, map, filter, filter_map, flat_map, fold, slice_get, Option, Some}
-use Rattle.std.specs.Prelude.{None, is_none, option_map}
+use Rattle.std.specs.Prelude.{◌≡◌, ◌≤◌, ◌⊎◌, ◌^◌, ℕ, zero, suc, max, nat_le, nat_lt, if◌then◌else◌, Bool, true, false}
+use Rattle.std.specs.Prelude.{List, [], ◌∷◌, ◌++◌, length, take, map, filter, filter_map, flat_map, fold, slice_get}
+use Rattle.std.specs.Prelude.{Option, Some, None, is_none, option_map}
 use Rattle.std.specs.List.{AllZip, enumerate_from}
 use Rattle.facet_names.specs.Labels.{with_label, prefixes, place}
 use Rattle.facet_model.specs.Flags.{Config}
@@ -10,11 +10,12 @@ use Rattle.facet_model.specs.Accepts.{Broken, first_broken}
 use Rattle.facet_model.specs.Asks.{Asked, AskFault, top_of_none, value_not_kept, ask_fault}
 use Rattle.facet_model.specs.Results.{Answer, IsAnswer}
 use Rattle.facet_model.specs.Hits.{hits, is_hit, docs_for}
-use Rattle.facet_words.specs.Commands.{Settings, Search, Command, add, refresh, hold, release, search, document, stats}
-use Rattle.facet_words.specs.Commands.{commit, merge, Order}
+use Rattle.number_facets.specs.Values.{Range, PartSum, range_count, valued, IsSums}
+use Rattle.facet_words.specs.Commands.{Settings, Search, Counted, Command, add, refresh, hold, release, search, ranges}
+use Rattle.facet_words.specs.Commands.{sums, document, stats, commit, merge, Order}
 use Rattle.facet_replies.specs.Replies.{Refusal, broken, labels_full, docs_full, top_zero, dim_value_not_kept}
 use Rattle.facet_replies.specs.Replies.{no_such_document, disk_failed, closed, numbers_spent, no_memory, Reply, placed}
-use Rattle.facet_replies.specs.Replies.{numbered, found, shown, stats as numbers, merged, refused}
+use Rattle.facet_replies.specs.Replies.{numbered, found, shown, stats as numbers, ranged, summed, merged, refused}
 use Rattle.facet_replies.specs.ReplyLines.{reply_line}
 
 -- what a session works on: the labels with the root, the documents, how many documents and labels the last refresh
@@ -96,10 +97,31 @@ IsFound config operations docs s None reply =
       answers = answers;
     }))
 
+-- ---- ranges and sums
+
+-- the documents whose numbers are counted or added up
+abbrev pub counted_docs : List Doc → Counted → List Doc
+counted_docs docs c = hits docs c.query c.drill
+
+-- The reply to ranges over these documents, which so many operations made: in the order given, each range's name with
+-- the number of documents that have a number in it.
+abbrev pub ranged_of : ℕ → List Doc → Counted → List Range → Reply
+ranged_of operations docs c rs = ranged (record {
+  operations = operations;
+  counts = map (λ r. (r.name, range_count (counted_docs docs c) c.dim r)) rs;
+  valued = valued (counted_docs docs c) c.dim;
+})
+
+-- The reply to sums over these documents, of so many components at most.
+abbrev pub IsSummed : ℕ → List Doc → Counted → ℕ → Reply → Type 0
+IsSummed operations docs c zero reply = reply ≡ refused (top_zero 0)
+IsSummed operations docs c (suc n) reply = (shown : List PartSum) × IsSums (counted_docs docs c) c.dim (suc n) shown
+    × (reply ≡ summed (record { operations = operations; sums = shown }))
+
 -- ---- document
 
--- The reply that shows what stands at a place: the document with the ordinals of its labels, or else how many documents
--- there are.
+-- The reply that shows the document at a place, with the ordinals of its labels; or, if the place has none, how many
+-- documents there are.
 abbrev pub IsShown : Shelf → ℕ → Option Doc → Reply → Type 0
 IsShown shelf at None reply = reply ≡ refused (no_such_document (length (snapshot shelf)))
 IsShown shelf at (Some doc) reply = (ordinals : List ℕ) × (map (place shelf.labels) doc.labels ≡ map Some ordinals)
@@ -139,6 +161,8 @@ abbrev pub names_no_pair : Command → Bool
 names_no_pair (hold name) = false
 names_no_pair (release name) = false
 names_no_pair (search on s) = is_none on
+names_no_pair (ranges on c rs) = is_none on
+names_no_pair (sums on c n) = is_none on
 names_no_pair (document on at) = is_none on
 names_no_pair (stats on) = is_none on
 names_no_pair _ = true
@@ -153,6 +177,10 @@ IsRight settings shelf refresh reply next =
     × (next ≡ record shelf { taken = length shelf.docs; taken_labels = length shelf.labels })
 IsRight settings shelf (search None s) reply next =
     IsFound settings.config shelf.taken (snapshot shelf) s (first_refused settings.config s.asks) reply × (next ≡ shelf)
+IsRight settings shelf (ranges None c rs) reply next =
+    (reply ≡ ranged_of shelf.taken (snapshot shelf) c rs) × (next ≡ shelf)
+IsRight settings shelf (sums None c n) reply next =
+    IsSummed shelf.taken (snapshot shelf) c n reply × (next ≡ shelf)
 IsRight settings shelf (document None at) reply next =
     IsShown shelf at (slice_get (snapshot shelf) at) reply × (next ≡ shelf)
 IsRight settings shelf (stats None) reply next = (reply ≡ numbers_of shelf) × (next ≡ shelf)
@@ -165,6 +193,8 @@ abbrev pub IsLeft : Settings → Shelf → Command → Shelf → Type 0
 IsLeft settings shelf (add doc) next = LeavesSome settings shelf doc (first_broken settings.config doc) next
 IsLeft settings shelf refresh next = next ≡ shelf
 IsLeft settings shelf (search None s) next = next ≡ shelf
+IsLeft settings shelf (ranges None c rs) next = next ≡ shelf
+IsLeft settings shelf (sums None c n) next = next ≡ shelf
 IsLeft settings shelf (document None at) next = next ≡ shelf
 IsLeft settings shelf commit next = next ≡ shelf
 IsLeft settings shelf merge next = next ≡ shelf

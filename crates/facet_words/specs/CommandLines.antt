@@ -7,11 +7,12 @@ use Rattle.serde_json.specs.Find.{as_str, as_bool}
 use Rattle.facet_model.specs.Documents.{Doc}
 use Rattle.facet_model.specs.Asks.{Asked, top, one_value, all_dims}
 use Rattle.facet_model.specs.Queries.{all}
-use Rattle.facet_words.specs.Commands.{Search, Command, add, refresh, hold, release, search, document, stats, commit}
-use Rattle.facet_words.specs.Commands.{merge}
+use Rattle.number_facets.specs.Values.{Range}
+use Rattle.facet_words.specs.Commands.{Search, Counted, Command, add, refresh, hold, release, search, ranges, sums}
+use Rattle.facet_words.specs.Commands.{document, stats, commit, merge}
 use Rattle.facet_words.specs.Queries.{query_of}
-use Rattle.facet_words.specs.Shapes.{◌>>=◌, when, whole, text_within, whole_within, list_within, path, key, key_or}
-use Rattle.facet_words.specs.Shapes.{keys_among}
+use Rattle.facet_words.specs.Shapes.{◌>>=◌, when, whole, signed, text_within, whole_within, list_within, path, key}
+use Rattle.facet_words.specs.Shapes.{key_or, keys_among}
 
 -- ---- the asks of a search
 
@@ -55,7 +56,7 @@ search_with keys d = do
   hits ← key_or (codes "hits") 10 (whole_within 0 1000000) d
   when (keys_among keys d) (record { query = query; drill = drill; sideways = sideways; asks = asks; hits = hits })
 
--- the parts of a search that take memory, beside the two that do not
+-- the parts of a search that take memory, given the two that do not
 unfoldable pub search_parts : Bool → ℕ → Data → Option Search
 search_parts sideways hits d = do
   query ← key_or (codes "query") all query_of d
@@ -63,7 +64,26 @@ search_parts sideways hits d = do
   asks ← key_or (codes "ask") [] (list_within 0 64 ask_of) d
   Some (record { query = query; drill = drill; sideways = sideways; asks = asks; hits = hits })
 
--- the place of a document, beside no other keys than these
+-- what is counted or added up over which documents, with no other keys than these
+unfoldable pub counted_with : List (List ℕ) → Data → Option Counted
+counted_with keys d = do
+  query ← key_or (codes "query") all query_of d
+  drill ← key_or (codes "drill") [] (list_within 0 256 path) d
+  dim ← key (codes "dim") (text_within 1 1024) d
+  when (keys_among keys d) (record { query = query; drill = drill; dim = dim })
+
+-- a range with its name and its ends
+unfoldable pub range_of : Data → Option Range
+range_of d = do
+  name ← key (codes "name") (text_within 1 64) d
+  min ← key (codes "min") signed d
+  max ← key (codes "max") signed d
+  min_open ← key_or (codes "min_open") false as_bool d
+  max_open ← key_or (codes "max_open") false as_bool d
+  when (keys_among (codes "name" ∷ codes "min" ∷ codes "max" ∷ codes "min_open" ∷ codes "max_open" ∷ []) d)
+      (record { name = name; min = min; max = max; min_open = min_open; max_open = max_open })
+
+-- the place of a document, with no other keys than these
 unfoldable pub place_with : List (List ℕ) → Data → Option ℕ
 place_with keys d = do
   at ← key (codes "at") (whole_within 0 4294967295) d
@@ -90,7 +110,7 @@ held_name d = text_within 1 64 d
 abbrev pub on_of : Data → Option (Option (List ℕ))
 on_of d = key_or (codes "on") None (λ v. option_map Some (held_name v)) d
 
--- the name of a hold or a release, beside no further keys
+-- the name of a hold or a release, with no further keys
 unfoldable pub name_of : Data → Option (List ℕ)
 name_of d = do
   name ← key (codes "name") held_name d
@@ -102,6 +122,22 @@ search_of d = do
   option_map (search on)
       (search_with (codes "cmd" ∷ codes "s" ∷ codes "on" ∷ codes "query" ∷ codes "drill" ∷ codes "sideways"
       ∷ codes "ask" ∷ codes "hits" ∷ []) d)
+
+unfoldable pub ranges_of : Data → Option Command
+ranges_of d = do
+  on ← on_of d
+  counted ← counted_with (codes "cmd" ∷ codes "s" ∷ codes "on" ∷ codes "query" ∷ codes "drill" ∷ codes "dim"
+      ∷ codes "ranges" ∷ []) d
+  rs ← key (codes "ranges") (list_within 1 64 range_of) d
+  Some (ranges on counted rs)
+
+unfoldable pub sums_of : Data → Option Command
+sums_of d = do
+  on ← on_of d
+  counted ← counted_with (codes "cmd" ∷ codes "s" ∷ codes "on" ∷ codes "query" ∷ codes "drill" ∷ codes "dim"
+      ∷ codes "n" ∷ []) d
+  n ← key (codes "n") (whole_within 0 4294967295) d
+  Some (sums on counted n)
 
 unfoldable pub document_of : Data → Option Command
 document_of d = do
@@ -120,11 +156,13 @@ command_named name d =
     else (if bytes_eq name (codes "hold") then option_map hold (name_of d)
     else (if bytes_eq name (codes "release") then option_map release (name_of d)
     else (if bytes_eq name (codes "search") then search_of d
+    else (if bytes_eq name (codes "ranges") then ranges_of d
+    else (if bytes_eq name (codes "sums") then sums_of d
     else (if bytes_eq name (codes "document") then document_of d
     else (if bytes_eq name (codes "stats") then stats_of d
     else (if bytes_eq name (codes "commit") then plain_of commit d
     else (if bytes_eq name (codes "merge") then plain_of merge d
-    else None))))))))
+    else None))))))))))
 
 -- the session's number, and the command
 unfoldable pub command_of : Data → Option (ℕ × Command)

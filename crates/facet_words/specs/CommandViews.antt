@@ -7,6 +7,7 @@ use Rattle.facet_words.specs.declared.command.Command.{Command}
 use Rattle.facet_words.specs.declared.command.Command.TheVariants as commands
 use Rattle.facet_words.specs.declared.command.Order.{Order}
 use Rattle.facet_words.specs.declared.command.Script.{Script}
+use Rattle.facet_words.specs.declared.parts.CountedLine.{CountedLine}
 use Rattle.facet_words.specs.declared.parts.SearchLine.{SearchLine}
 use Rattle.facet_words.specs.declared.settings.Settings.{Settings}
 
@@ -18,6 +19,9 @@ search_view s = record {
   asks = map ask_view s.asks.items;
   hits = s.hits;
 }
+
+abbrev pub counted_view : CountedLine → plain.Counted
+counted_view c = record { query = query_view c.query; drill = c.drill; dim = c.dim }
 
 abbrev pub settings_view : Settings → plain.Settings
 settings_view s = record {
@@ -35,6 +39,8 @@ command_view commands.Refresh = plain.refresh
 command_view (commands.Hold name) = plain.hold name
 command_view (commands.Release name) = plain.release name
 command_view (commands.Search on line) = plain.search on (search_view (box_value line))
+command_view (commands.Ranges on line ranges) = plain.ranges on (counted_view (box_value line)) ranges.items
+command_view (commands.Sums on line n) = plain.sums on (counted_view (box_value line)) n
 command_view (commands.Document on at) = plain.document on at
 command_view (commands.Stats on) = plain.stats on
 command_view commands.Commit = plain.commit

@@ -4,6 +4,7 @@ use Rattle.facet_model.specs.Flags.{Config}
 use Rattle.facet_model.specs.Documents.{Doc}
 use Rattle.facet_model.specs.Asks.{Asked}
 use Rattle.facet_model.specs.Queries.{QueryTree}
+use Rattle.number_facets.specs.Values.{Range}
 
 -- what the config line sets: the declared dimensions, how many documents and labels there may be, the latter with the
 -- root, and how the cache of labels is made
@@ -13,7 +14,7 @@ pub record Settings : Type 0 where
   pub max_labels : ℕ
   pub stripes : ℕ
   pub cache : ℕ
-  -- whether a refresh and a commit first merge segments, where there are too many
+  -- whether a refresh and a commit first merge segments if there are too many
   pub auto_merge : Bool
 
 -- What a search has to match and to be under, what it asks to be counted, and how many hits it lists. Sideways each
@@ -25,6 +26,12 @@ pub record Search : Type 0 where
   pub asks : List Asked
   pub hits : ℕ
 
+-- What documents have to match and to be under whose numbers in a dimension are counted or added up.
+pub record Counted : Type 0 where
+  pub query : QueryTree
+  pub drill : List (List (List ℕ))
+  pub dim : List ℕ
+
 -- With a name, a command sees the pair that the session holds under it; without one, the pair that was published last.
 pub data Command : Type 0 where
   add : Doc → Command
@@ -32,6 +39,8 @@ pub data Command : Type 0 where
   hold : List ℕ → Command
   release : List ℕ → Command
   search : Option (List ℕ) → Search → Command
+  ranges : Option (List ℕ) → Counted → List Range → Command
+  sums : Option (List ℕ) → Counted → ℕ → Command
   document : Option (List ℕ) → ℕ → Command
   stats : Option (List ℕ) → Command
   commit : Command

@@ -23,7 +23,7 @@ dimension_of d = do
 abbrev pub is_new : List (List ℕ) → ℕ × List ℕ → Bool
 is_new names e = not (list_any (bytes_eq e.1) (take e.0 names))
 
--- these declarations, where no two have one name
+-- these declarations, if no two have one name
 abbrev pub config_from : Config → Option Config
 config_from dims = when (list_all (is_new (map (λ d. d.0) dims)) (enumerate_from 0 (map (λ d. d.0) dims))) dims
 

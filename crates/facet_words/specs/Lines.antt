@@ -9,11 +9,11 @@ abbrev pub onto_first : ℕ → List (List ℕ) → List (List ℕ)
 onto_first b [] = (b ∷ []) ∷ []
 onto_first b (l ∷ ls) = (b ∷ l) ∷ ls
 
--- cut at each line feed; nothing behind the last one is a line
+-- cut at each line feed; one at the very end begins no further line
 abbrev pub lines_of : List ℕ → List (List ℕ)
 lines_of [] = []
 lines_of (b ∷ bs) = if b == 10 then [] ∷ lines_of bs else onto_first b (lines_of bs)
 
--- the value of a line, where it is JSON
+-- the value of a line, if it is JSON
 unfoldable pub line_data : List ℕ → Option Data
 line_data bytes = if is_utf8 bytes then read bytes else None

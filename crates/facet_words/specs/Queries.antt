@@ -53,7 +53,7 @@ query_of d = do
   query ← query_within 32 d
   when (nat_le (nodes query) 256) query
 
--- what is read with some number of levels is read with another exactly where it has no more
+-- what is read with some number of levels is read with another if and only if it has no more
 abbrev pub LevelsAreCounted : Type 0
 LevelsAreCounted = (m n : ℕ) (d : Data) (q : QueryTree) → query_within m d ≡ Some q
     → (query_within n d ≡ Some q) ↔ (levels q ≤ n)

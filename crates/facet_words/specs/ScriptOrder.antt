@@ -4,7 +4,7 @@ use Rattle.std.specs.List.{list_all}
 use Rattle.facet_words.specs.Commands.{Order}
 use Rattle.facet_words.specs.Shapes.{is_within}
 
--- each order stands in a later line than the one before it
+-- each order is in a later line than the one before it
 abbrev pub lines_rise : List Order → Bool
 lines_rise [] = true
 lines_rise (o ∷ []) = true

@@ -18,7 +18,7 @@ abbrev pub ◌>>=◌ : {A B : Type 0} → Result A ScriptFault → (A → Result
 Ok x >>= f = f x
 Err e >>= f = Err e
 
--- the value, or the fault where there is none
+-- the value, or the fault if there is none
 abbrev pub or_fault : {A : Type 0} → ScriptFault → Option A → Result A ScriptFault
 or_fault fault None = Err fault
 or_fault fault (Some x) = Ok x
@@ -38,7 +38,7 @@ config_at bytes = do
   d ← or_fault (NotJson 1) (line_data bytes)
   config_of d
 
--- ---- a line behind the first
+-- ---- a line after the first
 
 -- the sessions are 1 to 64
 abbrev pub in_session : ℕ → ℕ × Command → Result Order ScriptFault
@@ -54,7 +54,7 @@ order_of line d = do
 unfoldable pub ends_phase : Data → Bool
 ends_phase d = is_named (codes "phase") d && keys_among (codes "cmd" ∷ []) d
 
--- the order of a line, and none where it ends a phase
+-- the order of a line, and none if it ends a phase
 unfoldable pub line_of : ℕ → Data → Result (Option Order) ScriptFault
 line_of line d = if ends_phase d then Ok None else (order_of line d >>= (λ o. Ok (Some o)))
 
@@ -66,7 +66,7 @@ line_at line bytes = do
 
 -- ---- the phases
 
--- the first phase, and those behind it
+-- the first phase, and those after it
 abbrev pub Phases : Type 0
 Phases = List Order × List (List Order)
 
@@ -75,7 +75,7 @@ abbrev pub before : Option Order → Phases → Phases
 before (Some o) phases = (o ∷ phases.0, phases.1)
 before None phases = ([], phases.0 ∷ phases.1)
 
--- The phases of these lines, the first of which has this number. What stands behind the last phase line is a phase too.
+-- The phases of these lines, the first of which has this number. The lines after the last phase line are a phase too.
 -- Each may be empty.
 abbrev pub phases_from : ℕ → List (List ℕ) → Result Phases ScriptFault
 phases_from line [] = Ok ([], [])
@@ -84,7 +84,7 @@ phases_from line (l ∷ ls) = do
   phases ← phases_from (line + 1) ls
   Ok (before order phases)
 
--- all phases of the lines behind the first one
+-- all phases of the lines after the first one
 abbrev pub phases_of : List (List ℕ) → Result (List (List Order)) ScriptFault
 phases_of ls = do
   phases ← phases_from 2 ls

@@ -1,6 +1,7 @@
-use crate::parts::SearchLine;
+use crate::parts::{CountedLine, SearchLine};
 use crate::settings::Settings;
 use facet_model::{Document, Word};
+use number_facets::Range;
 
 /// A command of a session. If it has `on`, it sees the pair that the session holds under this name, and otherwise the
 /// pair that was published last.
@@ -26,6 +27,20 @@ pub enum Command {
     Search {
         on: Option<Word>,
         line: Box<SearchLine>,
+    },
+    /// Counts the documents of the pair that match the query, pass the drill-down and have a number of the dimension in
+    /// a range, range by range, as Lucene's `LongRangeFacetCounts` does. There are 1 to 64 ranges.
+    Ranges {
+        on: Option<Word>,
+        line: Box<CountedLine>,
+        ranges: Vec<Range>,
+    },
+    /// Adds up the numbers of each component of the dimension, over the documents of the pair that match the query and
+    /// pass the drill-down, as Lucene's `TaxonomyFacetIntAssociations` does. It returns the `n` greatest sums.
+    Sums {
+        on: Option<Word>,
+        line: Box<CountedLine>,
+        n: u32,
     },
     /// Returns the document at this place of the pair, from 0.
     Document {

@@ -84,7 +84,7 @@ fn dimensions_in(alloc: Global, value: &Value) -> Result<Option<Vec<Dimension>>,
     }
 }
 
-// The config with these declarations, or None where two have one name.
+// The config with these declarations, or None if two have one name.
 fn declared(
     alloc: Global,
     keys: RandomState,
@@ -105,7 +105,7 @@ fn declared(
     Ok(Some(config))
 }
 
-// The config with the dimensions under the key, or None where two have one name.
+// The config with the dimensions under the key, or None if two have one name.
 fn config_at(
     alloc: Global,
     keys: RandomState,

@@ -1,8 +1,8 @@
 ghost use Rattle.std.specs.Prelude.{◌≡◌, ◌≢◌, IfOk, IfErr, Ok, Err, option_map};
 ghost use Rattle.serde_json.specs.View.{view};
 ghost use Rattle.facet_words.specs.CommandViews.{search_view, command_view, order_view};
-ghost use Rattle.facet_words.specs.CommandLines.{added_of, name_of, search_of, document_of, stats_of, command_named};
-ghost use Rattle.facet_words.specs.CommandLines.{command_of};
+ghost use Rattle.facet_words.specs.CommandLines.{added_of, name_of, search_of, ranges_of, sums_of, document_of};
+ghost use Rattle.facet_words.specs.CommandLines.{stats_of, command_named, command_of};
 ghost use Rattle.facet_words.specs.Commands.{add, hold, release, search};
 ghost use Rattle.facet_words.specs.Scripts.{order_of, ends_phase, line_of, line_at};
 ghost use Rattle.facet_words.specs.declared.fault.ScriptFault.TheVariants.{NoMemory as Memory};
@@ -11,9 +11,10 @@ use crate::command::{Command, Order};
 use crate::fault::ScriptFault;
 use crate::held_name::{name_in, on_at};
 use crate::lines::line_value;
-use crate::parts::{SearchLine, added_in, heading_in, place_in, plain_in, searched_in};
+use crate::parts::{SearchLine, added_in, counted_in, heading_in, place_in, plain_in, searched_in};
 use crate::quick::read_add;
-use crate::shape::keys_among;
+use crate::ranges::ranges_at;
+use crate::shape::{index_in, keys_among};
 use facet_model::Word;
 use facet_names::NoMemory;
 use json::Scratch;
@@ -74,6 +75,42 @@ fn search_in(alloc: Global, value: &Value) -> Result<Option<Command>, NoMemory>
     }
 }
 
+#[tactic(auto, unfolding(crate::specs::CommandLines::ranges_of))]
+fn ranges_in(alloc: Global, value: &Value) -> Result<Option<Command>, NoMemory>
+    ensures { IfOk result (λ o. option_map command_view o ≡ ranges_of (view value.now)) }
+{
+    let Some(on) = on_at(alloc, value)? else {
+        return Ok(None);
+    };
+    let keys = ["cmd", "s", "on", "query", "drill", "dim", "ranges"];
+    let Some(line) = counted_in(alloc, value, &keys)? else {
+        return Ok(None);
+    };
+    let Some(ranges) = ranges_at(alloc, value)? else {
+        return Ok(None);
+    };
+    let line = Box::new(alloc, line)?;
+    Ok(Some(Command::Ranges { on, line, ranges }))
+}
+
+#[tactic(auto, unfolding(crate::specs::CommandLines::sums_of))]
+fn sums_in(alloc: Global, value: &Value) -> Result<Option<Command>, NoMemory>
+    ensures { IfOk result (λ o. option_map command_view o ≡ sums_of (view value.now)) }
+{
+    let Some(on) = on_at(alloc, value)? else {
+        return Ok(None);
+    };
+    let keys = ["cmd", "s", "on", "query", "drill", "dim", "n"];
+    let Some(line) = counted_in(alloc, value, &keys)? else {
+        return Ok(None);
+    };
+    let Some(n) = value.get("n").and_then(index_in) else {
+        return Ok(None);
+    };
+    let line = Box::new(alloc, line)?;
+    Ok(Some(Command::Sums { on, line, n }))
+}
+
 #[tactic(auto, unfolding(crate::specs::CommandLines::document_of))]
 fn document_in(alloc: Global, value: &Value) -> Result<Option<Command>, NoMemory>
     ensures { IfOk result (λ o. option_map command_view o ≡ document_of (view value.now)) }
@@ -111,6 +148,8 @@ fn command_in(alloc: Global, name: &str, value: &Value) -> Result<Option<Command
         "hold" => hold_in(alloc, value),
         "release" => release_in(alloc, value),
         "search" => search_in(alloc, value),
+        "ranges" => ranges_in(alloc, value),
+        "sums" => sums_in(alloc, value),
         "document" => document_in(alloc, value),
         "stats" => stats_in(alloc, value),
         "commit" => Ok(plain_in(value, Command::Commit)),

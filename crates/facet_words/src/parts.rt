@@ -3,13 +3,14 @@ ghost use Rattle.std.specs.Prelude.{◌≡◌, ◌≤◌, [], IfOk, IsTrue, opti
 ghost use Rattle.serde_json.specs.View.{view};
 ghost use Rattle.facet_model.specs.Queries.{all};
 ghost use Rattle.facet_model.specs.QueryViews.{query_view};
-ghost use Rattle.facet_words.specs.CommandViews.{search_view};
-ghost use Rattle.facet_words.specs.CommandLines.{added_of, heading_of, place_with, plain_of, search_parts, search_with};
+ghost use Rattle.facet_words.specs.CommandViews.{counted_view, search_view};
+ghost use Rattle.facet_words.specs.CommandLines.{added_of, counted_with, heading_of, place_with, plain_of};
+ghost use Rattle.facet_words.specs.CommandLines.{search_parts, search_with};
 ghost use Rattle.facet_words.specs.Queries.{query_of};
-ghost use Rattle.facet_words.specs.Shapes.{key_or, is_within, list_within, path};
+ghost use Rattle.facet_words.specs.Shapes.{key, key_or, is_within, list_within, path, text_within};
 
 use crate::shape::{Shaped, flag_at, index_in, keys_among, list_or, text_in, whole_or};
-use facet_model::{Ask, DocShape, Document, Drill, Query};
+use facet_model::{Ask, DocShape, Document, Drill, Query, Word};
 use facet_names::{NoMemory, Path};
 use serde_json::Value;
 use std::alloc::Global;
@@ -27,6 +28,17 @@ pub struct SearchLine {
     pub asks: Vec<Ask>,
     /// How many hits to list, at most.
     pub hits: u32,
+}
+
+/// A dimension with numbers, and the documents over which they are counted or added up.
+#[derive(Debug, Drop)]
+pub struct CountedLine {
+    /// Which documents match.
+    pub query: Query,
+    /// The paths that the documents are drilled down to.
+    pub drill: Drill,
+    /// The dimension, a text of 1 to 1,024 bytes.
+    pub dim: Word,
 }
 
 pub(crate) fn new_document(
@@ -95,7 +107,7 @@ fn drill_at(alloc: Global, value: &Value) -> Result<Option<Drill>, NoMemory>
     }
 }
 
-// A search by its parts that take memory, beside the two that do not.
+// A search by its parts that take memory, given the two that do not.
 #[tactic(auto, unfolding(crate::specs::CommandLines::search_parts))]
 fn parts_in(
     alloc: Global,
@@ -143,6 +155,52 @@ pub fn searched_in(
         return Ok(None);
     };
     parts_in(alloc, value, sideways, hits as u32)
+}
+
+fn dim_in(alloc: Global, value: &Value) -> Result<Option<Word>, NoMemory>
+    ensures { IfOk result (λ o. o ≡ text_within 1 1024 (view value.now)) }
+{
+    let Some(text) = text_in(value, 1, 1024) else {
+        return Ok(None);
+    };
+    Word::new(alloc, text)
+}
+
+fn dim_at(alloc: Global, value: &Value) -> Result<Option<Word>, NoMemory>
+    ensures { IfOk result (λ o. o ≡ key (codes "dim") (text_within 1 1024) (view value.now)) }
+{
+    match value.get("dim") {
+        Some(found) => dim_in(alloc, found),
+        None => Ok(None),
+    }
+}
+
+/// Reads the dimension of `ranges` or `sums` and the documents over which they count, or returns `None` if the object
+/// does not have the form of these or has keys that are not in `keys`.
+///
+/// Errors: out of memory.
+#[tactic(auto, unfolding(crate::specs::CommandLines::counted_with))]
+pub fn counted_in(
+    alloc: Global,
+    value: &Value,
+    keys: &[&str],
+) -> Result<Option<CountedLine>, NoMemory>
+    ensures { IfOk result (λ o. option_map counted_view o ≡ counted_with (map (λ k. k.now) keys.now) (view value.now)) }
+{
+    let Some(query) = query_at(alloc, value)? else {
+        return Ok(None);
+    };
+    let Some(drill) = drill_at(alloc, value)? else {
+        return Ok(None);
+    };
+    let Some(dim) = dim_at(alloc, value)? else {
+        return Ok(None);
+    };
+    if keys_among(value, keys) {
+        Ok(Some(CountedLine { query, drill, dim }))
+    } else {
+        Ok(None)
+    }
 }
 
 /// Returns the place that a `document` asks for, or `None` if it is not a number of 32 bits or the object has keys that

@@ -53,7 +53,7 @@ fn leaf_in(alloc: Global, value: &Value) -> Result<Option<Query>, NoMemory>
     }
 }
 
-// The lists of a boolean query, where neither has other keys.
+// The lists of a boolean query, if neither the query nor the object of its lists has other keys.
 fn lists_at(value: &Value) -> Option<&Value>
     ensures { (inner : Data → Option QueryTree)
         → option_and_then (three_of inner) (option_map (λ v. view v.now) result) ≡ bool_query inner (view value.now) }
@@ -71,7 +71,7 @@ fn lists_at(value: &Value) -> Option<&Value>
     }
 }
 
-// The values of the list under a key, none where the key is not there.
+// The values of the list under a key, and none if there is no such key.
 fn list_at<'a>(value: &'a Value, name: &str) -> Option<&'a [Value]>
     ensures { (shape : Data → Option QueryTree)
         → option_and_then (λ vs. all_some (map (λ v. shape (view v)) vs)) (option_map (λ s. s.now) result)
@@ -156,7 +156,7 @@ fn each_query(alloc: Global, list: &[Value], levels: u32) -> Result<Option<Vec<Q
     Ok(Some(out))
 }
 
-// What a query leaves of so many nodes, or None where it has more.
+// What a query leaves of so many nodes, or None if it has more.
 #[cycle(node_count)]
 fn left_by(query: &Query, left: u32) -> Option<u32>
     ensures { SomeIff result (nodes (query_view query.now) ≤ left) (left - nodes (query_view query.now)) }

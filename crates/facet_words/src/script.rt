@@ -15,7 +15,7 @@ use std::alloc::Global;
 use std::hash::RandomState;
 use std::mem;
 
-// The phases of the lines behind the first one.
+// The phases of the lines after the first one.
 fn read_phases(alloc: Global, bytes: &[u8]) -> Result<Vec<Vec<Order>>, ScriptFault>
     ensures ok { IfOk result (λ v. phases_of (lines_of bytes.now)
         ≡ Ok (map (λ orders. map order_view orders.items) v.items)) }

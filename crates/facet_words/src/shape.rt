@@ -6,8 +6,8 @@ ghost use Rattle.serde_json.specs.Data.{Data};
 ghost use Rattle.serde_json.specs.Find.{as_bool, as_str};
 ghost use Rattle.serde_json.specs.View.{view};
 ghost use Rattle.facet_names.specs.Paths.{texts};
-ghost use Rattle.facet_words.specs.Shapes.{key, key_or, whole, whole_within, text_within, list_of, list_within};
-ghost use Rattle.facet_words.specs.Shapes.{all_some, path, path_from, keys_among as among};
+ghost use Rattle.facet_words.specs.Shapes.{key, key_or, whole, signed, whole_within, text_within, list_of};
+ghost use Rattle.facet_words.specs.Shapes.{list_within, all_some, path, path_from, keys_among as among};
 
 use facet_names::{NoMemory, Path, PathFault};
 use serde_json::{Map, Value};
@@ -43,6 +43,14 @@ pub fn whole_or(value: &Value, name: &str, default: u64, low: u64, high: u64) ->
     value
         .get(name)
         .map_or(Some(default), |found| whole_in(found, low, high))
+}
+
+/// Returns the whole number with a sign under a key. `None` if there is no such key, or the value is not a number of 64
+/// bits without a fraction and without an exponent.
+pub fn signed_at(value: &Value, name: &str) -> Option<i64>
+    ensures { result ≡ key name.now signed (view value.now) }
+{
+    value.get(name).and_then(Value::as_i64)
 }
 
 /// Returns a text of `low` to `high` bytes, or `None` if the value is not one. It copies nothing.

@@ -59,6 +59,12 @@ fn tally_of(reply: Reply) -> Tally
             labels,
             documents,
         } => tally.sizes = Some(Sizes { documents, labels }),
+        Reply::Ranged {
+            n: _,
+            counts: _,
+            valued: _,
+        } => {}
+        Reply::Summed { n: _, sums: _ } => {}
         Reply::Merged => {}
         Reply::Refused(refusal) => {
             tally.uncommitted = leaves_uncommitted(refusal);

@@ -1,3 +1,4 @@
 pub mod Found
 pub mod Searched
 pub mod Stored
+pub mod Numbered

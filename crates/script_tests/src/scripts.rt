@@ -1,13 +1,14 @@
 use crate::lines::are_written;
 use facet_model::Query;
 use facet_words::{Command, Order, Script, ScriptFault, Settings, read_script};
+use number_facets::Range;
 use std::alloc::Global;
 use std::test::Fail;
 use test_keys::fixed_keys;
 
 // A script with every setting.
 const SHOP: &[u8] =
-    b"{\"cmd\":\"config\",\"max_docs\":7,\"max_labels\":8,\"stripes\":9,\"cache\":10,\"auto_merge\":true,\"dims\":[{\"dim\":\"Tag\",\"multi_valued\":true}]}\n{\"s\":1,\"cmd\":\"search\",\"query\":{\"bool\":{\"must_not\":[{\"term\":\"a\"}]}},\"drill\":[[\"Tag\"]],\"sideways\":true,\"ask\":[{\"all\":3},{\"specific\":[\"Tag\",\"x\"]}]}\n{\"s\":1,\"cmd\":\"search\"}\n{\"cmd\":\"phase\"}\n{\"s\":1,\"cmd\":\"document\",\"at\":7}\n{\"s\":1,\"cmd\":\"stats\"}\n{\"s\":1,\"cmd\":\"commit\"}\n{\"s\":1,\"cmd\":\"merge\"}";
+    b"{\"cmd\":\"config\",\"max_docs\":7,\"max_labels\":8,\"stripes\":9,\"cache\":10,\"auto_merge\":true,\"dims\":[{\"dim\":\"Tag\",\"multi_valued\":true}]}\n{\"s\":1,\"cmd\":\"search\",\"query\":{\"bool\":{\"must_not\":[{\"term\":\"a\"}]}},\"drill\":[[\"Tag\"]],\"sideways\":true,\"ask\":[{\"all\":3},{\"specific\":[\"Tag\",\"x\"]}]}\n{\"s\":1,\"cmd\":\"search\"}\n{\"s\":1,\"cmd\":\"ranges\",\"dim\":\"price\",\"ranges\":[{\"name\":\"low\",\"min\":0,\"max\":10},{\"name\":\"mid\",\"min\":10,\"max\":20,\"min_open\":true}]}\n{\"s\":1,\"cmd\":\"sums\",\"query\":{\"bool\":{\"must\":[{\"term\":\"a\"}]}},\"drill\":[[\"Tag\",\"x\"],[\"Tag\",\"y\"]],\"dim\":\"genre\",\"n\":9}\n{\"cmd\":\"phase\"}\n{\"s\":1,\"cmd\":\"document\",\"at\":7}\n{\"s\":1,\"cmd\":\"stats\"}\n{\"s\":1,\"cmd\":\"commit\"}\n{\"s\":1,\"cmd\":\"merge\"}";
 
 // Returns how many queries each list of a boolean query has.
 fn lists(query: &Query) -> Option<(usize, usize, usize)> {
@@ -21,6 +22,11 @@ fn lists(query: &Query) -> Option<(usize, usize, usize)> {
     }
 }
 
+// Returns how many of the ranges have the number 10.
+fn with_ten(ranges: &[Range]) -> usize {
+    ranges.iter().filter(|range| range.contains(10)).count()
+}
+
 // A summary of a command.
 type Summary = (Option<(usize, usize, usize)>, usize, bool, usize, u32);
 
@@ -32,6 +38,24 @@ fn summary(command: &Command) -> Summary {
             line.sideways,
             line.asks.len(),
             line.hits,
+        ),
+        Command::Ranges {
+            on: _,
+            line,
+            ranges,
+        } => (
+            lists(&line.query),
+            line.drill.paths().len(),
+            line.dim.text() == "price",
+            with_ten(ranges),
+            0,
+        ),
+        Command::Sums { on: _, line, n } => (
+            lists(&line.query),
+            line.drill.paths().len(),
+            line.dim.text() == "genre",
+            0,
+            *n,
         ),
         Command::Document { on: _, at } => (None, 0, false, 0, *at),
         Command::Stats { on: _ } => (None, 1, false, 0, 0),
@@ -73,7 +97,12 @@ fn has_settings(script: &Script) -> bool {
 
 // The commands of the two phases.
 const SUMMARIES: &[&[Summary]] = &[
-    &[(Some((0, 0, 1)), 1, true, 2, 10), (None, 0, false, 0, 10)],
+    &[
+        (Some((0, 0, 1)), 1, true, 2, 10),
+        (None, 0, false, 0, 10),
+        (None, 0, true, 1, 0),
+        (Some((1, 0, 0)), 2, true, 0, 9),
+    ],
     &[
         (None, 0, false, 0, 7),
         (None, 1, false, 0, 0),

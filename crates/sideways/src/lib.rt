@@ -15,4 +15,5 @@ mod plan;
 
 pub use answer::SidewaysAnswer;
 pub use ask::{AskRefused, SearchAsk};
+pub use part::Part;
 pub use plan::DrillPlan;

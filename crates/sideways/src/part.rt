@@ -25,9 +25,10 @@ use std::alloc::Global;
 use std::marker::Model;
 use std::mem;
 
-/// The records of one segment that a pass has yet to visit.
+/// The records of one segment that a search has yet to visit: a plan that is walked, or, if the conditions match many
+/// documents, a set of one bit per record. It corresponds to the `DocIdSetIterator` of one leaf in Lucene.
 #[derive(Drop)]
-pub(crate) struct Part<'a> {
+pub struct Part<'a> {
     segment: &'a Segment,
     left: Left<'a>,
 }
@@ -71,8 +72,8 @@ fn count_left(segment: &Segment, left: Left<'_>, counter: &mut Counter<'_>) -> u
 
 impl<'a> Part<'a> {
     /// Returns the live records of the documents that match the query and all dimensions of the drill except the lifted
-    /// one. Errors: out of memory.
-    pub(crate) fn new(
+    /// one. It looks up the terms of the query and of the drill in the segment. Errors: out of memory.
+    pub fn new(
         alloc: Global,
         segment: &'a Segment,
         query: &Query,
@@ -140,8 +141,8 @@ impl<'a> Part<'a> {
         Part { segment, left }
     }
 
-    /// Takes the next record that is left, and returns its place.
-    pub(crate) fn take(&mut self) -> Option<u32>
+    /// Takes the next record that is left, and returns its place. It allocates nothing.
+    pub fn take(&mut self) -> Option<u32>
         ensures next { IsNext result self.old.left self.new.left }
         ensures segment { self.new.segment ≡ self.old.segment }
         ensures within { IfSome result (λ place. place < length self.old.segment.records) }

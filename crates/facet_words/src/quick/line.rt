@@ -13,7 +13,7 @@ use json::{Reader, Scratch, Token};
 use simdutf8::basic::from_utf8;
 use std::alloc::Global;
 
-// The members behind an opening brace, or None, which says nothing.
+// The members after an opening brace, or None, which says nothing.
 fn members_next<'a>(alloc: Global, reader: &mut Reader<'a>) -> Result<Option<Found<'a>>, NoMemory>
     ensures { IfOk result (λ o. IfSome o (λ f. AreMembers reader.old reader.new f)) }
 {
@@ -35,7 +35,7 @@ fn members_next<'a>(alloc: Global, reader: &mut Reader<'a>) -> Result<Option<Fou
     Ok(None)
 }
 
-// The order of the members in which this was found, where nothing is missing, or None, which says nothing.
+// The order of the members in which this was found, if nothing is missing; or None, which says nothing.
 fn order_with(alloc: Global, line: u64, found: Found<'_>) -> Result<Option<Order>, NoMemory>
     ensures { IfOk result (λ o. IfSome o
         (λ o. (ms : Members) → HasFound ms found.entry → line_of line (object ms) ≡ Ok (Some (order_view o)))) }

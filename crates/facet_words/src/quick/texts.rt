@@ -21,7 +21,7 @@ pub(crate) fn text_next<'a>(reader: &mut Reader<'a>) -> Option<&'a str>
     }
 }
 
-// The path that was made; None where its components are no path.
+// The path that was made; None if its components are no path.
 fn made(tried: Result<Path, PathFault>) -> Result<Option<Path>, NoMemory>
     ensures { IfOk result (λ o. MatchResult tried (λ p. o ≡ Some p) (λ _. o ≡ None)) }
 {

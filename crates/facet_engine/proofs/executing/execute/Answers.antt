@@ -1,17 +1,19 @@
 use Rattle.std.proofs.Common.{◌∙◌, Option, None, List, ℕ, option_map, refl, sym, ap, subst}
 use Rattle.pair_manager.specs.declared.pass.Pass.{Pass}
+use Rattle.facet_model.specs.QueryViews.{query_view}
 use Rattle.facet_replies.specs.ReplyViews.{reply_view}
-use Rattle.facet_words.specs.Commands.{Search, Command, add, refresh, hold, release, search, document, stats, commit, merge}
-use Rattle.facet_words.specs.CommandViews.{search_view as line_view, command_view}
+use Rattle.facet_words.specs.Commands.{Search, Command, add, refresh, hold, release, search, ranges, sums, Counted, document, stats, commit, merge}
+use Rattle.facet_words.specs.CommandViews.{counted_view, search_view as line_view, command_view}
+use Rattle.facet_words.specs.declared.parts.CountedLine.{CountedLine}
 use Rattle.facet_words.specs.declared.parts.SearchLine.{SearchLine}
 use Rattle.facet_engine.specs.Calls.{IsCall, IsCarriedOut}
 use Rattle.facet_names.specs.Texts.{text_in}
 use Rattle.pair_search.specs.Searches.{search_view}
 use Rattle.facet_engine.specs.Replies.{add_reply, refresh_reply, hold_reply, release_reply, stats_reply, commit_reply, merge_reply}
-use Rattle.pair_search.specs.Replies.{search_reply, document_reply}
+use Rattle.pair_search.specs.Replies.{search_reply, ranges_reply, sums_reply, document_reply}
 use Rattle.facet_engine.specs.Steps.{step_of, last_place, refresh_place, hold_took, pair_taken}
 use Rattle.facet_engine.proofs.Carried.{carried, holds_still}
-use Rattle.facet_engine.proofs.Spent.{spends_none, add_tells, refresh_tells, hold_tells, release_tells, search_tells, document_tells, stats_tells, merge_tells}
+use Rattle.facet_engine.proofs.Spent.{spends_none, add_tells, refresh_tells, hold_tells, release_tells, search_tells, ranges_tells, sums_tells, document_tells, stats_tells, merge_tells}
 use Rattle.facet_engine.proofs.executing.execute.Goals as goal
 
 pub returns-in-Add : goal.returns-in-Add
@@ -72,6 +74,40 @@ returns-in-Search g c =
     subst (λ (command : Command). IsCarriedOut engine old new command (reply_view c.found.result)) (ap (λ (name : Option (List ℕ)). search name s) c.text_of.ensures ∙ ap (search c.in-Search.on) c.ask_of-ask.ensures
     ∙ ap (λ (line : SearchLine). search c.in-Search.on (line_view line)) c.into_inner.ensures ∙ sym (ap command_view c.in-Search.is))
     (carried engine old new (search on s) took place reply (reply_view c.found.result) c.found.ensures e.same (holds_still engine old new (search on s) took place reply refl e.held) e.step (spends_none old.pass new.pass reply (search_tells c.search.result)))
+
+pub returns-in-Ranges : goal.returns-in-Ranges
+returns-in-Ranges g c =
+    let engine = c.args.system.now in
+    let old = c.args.session.now in
+    let new = c.ranges-in-Ranges.new.session in
+    let e = c.ranges-in-Ranges.ensures in
+    let on = text_in c.text_of-in-Ranges.result in
+    let line = c.into_inner-line.result in
+    let counted : Counted = record { query = query_view line.query; drill = line.drill; dim = c.text-in-Ranges.result.now } in
+    let reply = ranges_reply c.ranges-in-Ranges.result in
+    let took = pair_taken on reply new.pass in
+    let place = option_map (λ pair. last_place new.pass) took in
+    subst (λ (command : Command). IsCarriedOut engine old new command (reply_view c.ranged.result)) (ap (λ (name : Option (List ℕ)). ranges name counted c.deref.result.now) c.text_of-in-Ranges.ensures
+    ∙ (λ i. ranges c.in-Ranges.on (record { query = query_view line.query; drill = line.drill; dim = c.text-in-Ranges.ensures i }) (c.deref.ensures.value i))
+    ∙ ap (λ (line : CountedLine). ranges c.in-Ranges.on (counted_view line) c.in-Ranges.ranges.items) c.into_inner-line.ensures ∙ sym (ap command_view c.in-Ranges.is))
+    (carried engine old new (ranges on counted c.deref.result.now) took place reply (reply_view c.ranged.result) c.ranged.ensures e.same (holds_still engine old new (ranges on counted c.deref.result.now) took place reply refl e.held) e.step (spends_none old.pass new.pass reply (ranges_tells c.ranges-in-Ranges.result)))
+
+pub returns-in-Sums : goal.returns-in-Sums
+returns-in-Sums g c =
+    let engine = c.args.system.now in
+    let old = c.args.session.now in
+    let new = c.sums.new.session in
+    let e = c.sums.ensures in
+    let on = text_in c.text_of-in-Sums.result in
+    let line = c.into_inner-line-in-Sums.result in
+    let counted : Counted = record { query = query_view line.query; drill = line.drill; dim = c.text-in-Sums.result.now } in
+    let reply = sums_reply c.sums.result in
+    let took = pair_taken on reply new.pass in
+    let place = option_map (λ pair. last_place new.pass) took in
+    subst (λ (command : Command). IsCarriedOut engine old new command (reply_view c.summed.result)) (ap (λ (name : Option (List ℕ)). sums name counted c.in-Sums.n) c.text_of-in-Sums.ensures
+    ∙ (λ i. sums c.in-Sums.on (record { query = query_view line.query; drill = line.drill; dim = c.text-in-Sums.ensures i }) c.in-Sums.n)
+    ∙ ap (λ (line : CountedLine). sums c.in-Sums.on (counted_view line) c.in-Sums.n) c.into_inner-line-in-Sums.ensures ∙ sym (ap command_view c.in-Sums.is))
+    (carried engine old new (sums on counted c.in-Sums.n) took place reply (reply_view c.summed.result) c.summed.ensures e.same (holds_still engine old new (sums on counted c.in-Sums.n) took place reply refl e.held) e.step (spends_none old.pass new.pass reply (sums_tells c.sums.result)))
 
 pub returns-in-Document : goal.returns-in-Document
 returns-in-Document g c =

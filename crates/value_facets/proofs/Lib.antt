@@ -1,0 +1,12 @@
+pub mod Counted
+pub mod HitLeaves
+pub mod Noted
+pub mod Pushed
+pub mod Ranged
+pub mod Ranks
+pub mod Rows
+pub mod Slots
+pub mod SummedDocs
+pub mod SummedLabels
+pub mod SummedLists
+pub mod SummedTotals

@@ -1,0 +1,14 @@
+//! Counting ranges and adding up numbers over the hits of a search, from the labels that their records have.
+#![tactic(auto)]
+
+mod cuts;
+mod hits;
+mod marks;
+mod ranging;
+mod summing;
+mod tally;
+mod totals;
+mod weights;
+
+pub use ranging::RangeCounter;
+pub use summing::{SumFault, sums};

@@ -1,0 +1,143 @@
+//! The numbers of the labels of a dimension, and the counters that each of them counts for.
+ghost use Rattle.std.specs.Prelude.{◌≡◌, ◌==◌, ◌<◌, ◌≤◌, ◌^◌, length, slice_index_or, IfOk, IfSome};
+ghost use Rattle.value_facets.specs.Cuts.{AreRising};
+ghost use Rattle.value_facets.specs.Marking.{AreMarks, AreSlots, IsParentOfValues, IsSlot, counters_of};
+
+use crate::cuts::{cuts_of, rank_of, rows_of};
+use facet_names::{NoMemory, Path, PathFault};
+use number_facets::read_number;
+use std::alloc::Global;
+use std::marker::Model;
+use taxo_list::{Labelled, TaxoView};
+
+/// The counters that each label of a view counts for. Memory: 4 bytes per label, and 4 for each counter that has a cut.
+#[derive(Drop)]
+pub(crate) struct Marks {
+    slots: Vec<u32>,
+    rows: Vec<Vec<u32>>,
+}
+
+impl Model for Marks {
+    ghost use Rattle.std.specs.Prelude.{◌<◌, All, length};
+    ghost use Rattle.value_facets.specs.Marking.{Marked, marked_of};
+
+    ghost Value = { Marked };
+
+    ghost view = { λ m. marked_of m.slots.items m.rows.items };
+
+    ghost invariant = { λ m. (0 < length m.rows.items) × All (λ slot. slot < length m.rows.items) m.slots.items };
+}
+
+// Returns the ordinal of the dimension, which is the parent of each label with a value, or -1 if the view does not have
+// it. It returns `None` if no label can have the dimension. Errors: out of memory.
+fn parent_of_values(alloc: Global, view: &TaxoView, dim: &str) -> Result<Option<i32>, NoMemory>
+    requires { length view.now ≤ 1000000 }
+    ensures { IfOk result (λ o. IfSome o (IsParentOfValues view.now dim.now)) }
+{
+    match Path::of_dim(alloc, dim) {
+        Ok(path) => match view.ordinal_of(&path) {
+            Some(ord) => Ok(Some(ord as i32)),
+            None => Ok(Some(-1)),
+        },
+        Err(PathFault::NoMemory) => Err(NoMemory),
+        Err(_) => Ok(None),
+    }
+}
+
+fn has_two_components(path: &Path) -> bool
+    ensures { result ≡ (length path.now == 2) }
+{
+    path.len() == 2
+}
+
+// Returns the slot of a label, from its text.
+fn slot_of(view: &TaxoView, ord: u32, dim: &str, cuts: &[i64]) -> u32
+    requires some { 0 < ord }
+    requires label { ord < length view.now }
+    requires rising { AreRising cuts.now }
+    requires few { length cuts.now < 2 ^ 32 }
+    ensures slot { IsSlot view.now dim.now cuts.now ord result }
+    ensures within { result ≤ length cuts.now }
+{
+    let path = view.path_of(ord);
+    if !has_two_components(path) || path.dim() != dim {
+        return 0;
+    }
+    match read_number(path.part(1)) {
+        Some(number) => rank_of(cuts, number) as u32,
+        None => 0,
+    }
+}
+
+// Does the same, and reads the text only if the label's parent is the one of labels with a value.
+fn slot_below(view: &TaxoView, ord: u32, parent: Option<i32>, dim: &str, cuts: &[i64]) -> u32
+    requires some { 0 < ord }
+    requires label { ord < length view.now }
+    requires parent { IfSome parent (IsParentOfValues view.now dim.now) }
+    requires rising { AreRising cuts.now }
+    requires few { length cuts.now < 2 ^ 32 }
+    ensures slot { IsSlot view.now dim.now cuts.now ord result }
+    ensures within { result ≤ length cuts.now }
+{
+    if let Some(parent) = parent {
+        if view.arrays().parent(ord) != parent {
+            return 0;
+        }
+    }
+    slot_of(view, ord, dim, cuts)
+}
+
+// Returns the slot of each label of a view. It compares the parent of each label, and reads the texts of those below
+// the dimension. Errors: out of memory.
+fn slots_of(alloc: Global, view: &TaxoView, dim: &str, cuts: &[i64]) -> Result<Vec<u32>, NoMemory>
+    requires rising { AreRising cuts.now }
+    requires few { length cuts.now < 2 ^ 32 }
+    ensures { IfOk result (λ v. AreSlots view.now dim.now cuts.now v.items) }
+{
+    let size = view.size();
+    let parent = parent_of_values(alloc, view, dim)?;
+    let mut slots = Vec::with_capacity(alloc, size as usize)?;
+    slots.push(0)?;
+    for ord in 1..size {
+        slots.push(slot_below(view, ord, parent, dim, cuts))?;
+    }
+    Ok(slots)
+}
+
+impl Marks {
+    /// Returns the counters of each label of a view: those of the bounds that have the label's number in a dimension.
+    /// Errors: out of memory.
+    pub(crate) fn new(
+        alloc: Global,
+        view: &TaxoView,
+        dim: &str,
+        bounds: &[(i64, i64)],
+    ) -> Result<Marks, NoMemory>
+        requires { length bounds.now ≤ 2 ^ 30 }
+        ensures { IfOk result (λ m. AreMarks view.now dim.now bounds.now m) }
+    {
+        let cuts = cuts_of(alloc, bounds)?;
+        let rows = rows_of(alloc, bounds, &cuts)?;
+        let slots = slots_of(alloc, view, dim, &cuts)?;
+        Ok(Marks { slots, rows })
+    }
+
+    fn slot(&self, ord: u32) -> usize
+        ensures slot { result ≡ slice_index_or self.now.slots ord 0 }
+        ensures within { result < length self.now.rows }
+    {
+        let ord = ord as usize;
+        if ord < self.slots.len() {
+            self.slots[ord] as usize
+        } else {
+            0
+        }
+    }
+
+    /// Returns the counters that a label counts for, in constant time; none for an ordinal that the view does not have.
+    pub(crate) fn counters(&self, ord: u32) -> &[u32]
+        ensures { result.now ≡ counters_of self.now ord }
+    {
+        &self.rows[self.slot(ord)]
+    }
+}
