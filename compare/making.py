@@ -106,6 +106,7 @@ def search(random):
     keys = {
         **matching(random),
         "sideways": lambda: random.random() < 0.7,
+        "from": lambda: random.choice([0, 1, 2, 5, 1000000]),
         "hits": lambda: random.choice([0, 1, 3, 1000000]),
         "ask": lambda: some(random, 4, lambda: ask(random)),
     }
@@ -240,6 +241,7 @@ LIMITS = {
     "on": ["", "x" * 64, "x" * 65, "é" * 32, "é" * 33],
     "facets": [[], [["A", "a"]] * 256, [["A", "a"]] * 257],
     "at": [0, 2**32 - 1, 2**32],
+    "from": [0, 1000000, 1000001],
     "hits": [0, 1000000, 1000001],
     "drill": [[], [["A"]] * 256, [["A"]] * 257],
     "ask": [[], [{"all": 1}] * 64, [{"all": 1}] * 65],

@@ -336,6 +336,19 @@ def another_text(output: Output) -> bool:
     return True
 
 
+def another_page(output: Output) -> bool:
+    """The hits that are listed begin one hit later, or there is one on a page that has none."""
+    place = output.pick("search", "hits")
+    if place is None:
+        return False
+    hits = output.lines[place]["hits"]
+    if hits:
+        hits.pop(0)
+    else:
+        hits.append({"at": 0, "id": "nobody"})
+    return True
+
+
 def held_after_release(output: Output) -> bool:
     """A name that is held is said not to be, or the other way round."""
     places = output.refused("not_held") + output.refused("held_already") + output.all("release", "n")
@@ -425,6 +438,7 @@ MUTATIONS: list[tuple[Callable[[Output], bool], set[str]]] = [
     (another_range, {"replies"}),
     (another_sum, {"replies"}),
     (another_text, {"replies"}),
+    (another_page, {"replies"}),
     (held_after_release, {"replies"}),
     (too_few_labels, {"publications", "replies"}),
     (too_many_labels, {"publications", "replies"}),

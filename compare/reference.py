@@ -321,7 +321,7 @@ class Session:
 
         hits = [{"at": at, "id": document.id} for at, document in enumerate(seen) if passes(document)]
         results = [self.answer(ask, seen, documents_for) for ask in asks]
-        return {"n": self.taken, "hit_count": len(hits), "hits": hits[: order.get("hits", 10)], "results": results}
+        return {"n": self.taken, "hit_count": len(hits), "hits": hits[order.get("from", 0) :][: order.get("hits", 10)], "results": results}
 
     def ranges(self, order):
         found = [values(document, order["dim"]) for document in filter(self.passing(order), self.documents[: self.taken])]

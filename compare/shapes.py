@@ -128,6 +128,7 @@ COMMANDS = {
         {
             **MATCHING,
             "sideways": is_truth,
+            "from": lambda first: is_whole(first, 0, 1000000),
             "hits": lambda hits: is_whole(hits, 0, 1000000),
             "ask": lambda asks: is_list(asks, 64, is_ask),
         },

@@ -100,7 +100,7 @@ def eight_sessions() -> list[dict]:
                 values.append({"s": session, "cmd": "merge"})
     values.append({"cmd": "phase"})
     values += [{"s": session, "cmd": "refresh"} for session in range(1, 9)]
-    values += [{"s": session, "cmd": "search", "hits": 1, "ask": [{"top": ["Author"], "n": 3}, {"top": ["Date"], "n": 9}]} for session in range(1, 9)]
+    values += [{"s": session, "cmd": "search", "from": session, "hits": 1, "ask": [{"top": ["Author"], "n": 3}, {"top": ["Date"], "n": 9}]} for session in range(1, 9)]
     return [*values, {"s": 8, "cmd": "commit"}]
 
 

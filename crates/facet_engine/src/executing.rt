@@ -200,6 +200,7 @@ fn ask_of(line: SearchLine) -> SearchAsk
         query: line.query,
         drill: line.drill,
         asks: line.asks,
+        from: line.from,
         hits: line.hits,
         sideways: line.sideways,
     }

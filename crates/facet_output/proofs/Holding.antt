@@ -13,7 +13,7 @@ use Rattle.facet_output.proofs.Samples.{empty_store, plain_settings, order, answ
 use Rattle.facet_output.proofs.PairTests.{pairs_from, places_from}
 
 abbrev pub everything : Search
-everything = record { query = all; drill = []; sideways = false; asks = []; hits = 10 }
+everything = record { query = all; drill = []; sideways = false; asks = []; from = 0; hits = 10 }
 
 abbrev pub name : List ℕ
 name = codes "a"

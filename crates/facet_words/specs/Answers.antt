@@ -3,6 +3,7 @@ use Rattle.std.specs.Prelude.{◌≡◌, ◌≤◌, ◌⊎◌, ◌^◌, ℕ, zer
 use Rattle.std.specs.Prelude.{List, [], ◌∷◌, ◌++◌, length, take, map, filter, filter_map, flat_map, fold, slice_get}
 use Rattle.std.specs.Prelude.{Option, Some, None, is_none, option_map}
 use Rattle.std.specs.List.{AllZip, enumerate_from}
+use Rattle.std.specs.Prelude.{drop}
 use Rattle.facet_names.specs.Labels.{with_label, prefixes, place}
 use Rattle.facet_model.specs.Flags.{Config}
 use Rattle.facet_model.specs.Documents.{Doc}
@@ -70,10 +71,16 @@ LeavesSome settings shelf doc None next = (k : ℕ) × (length shelf.labels ≤ 
 abbrev pub hits_of : List Doc → Search → List Doc
 hits_of docs s = hits docs s.query s.drill
 
--- the first hits, each with its place among all the documents and its id
+-- The hits that a search lists: so many after those that it passes, each with its place among all the documents and its
+-- id.
 abbrev pub first_hits : List Doc → Search → List (ℕ × List ℕ)
 first_hits docs s = take s.hits
-    (map (λ e. (e.0, e.1.id)) (filter (λ e. is_hit s.query s.drill e.1) (enumerate_from 0 docs)))
+    (drop s.from (map (λ e. (e.0, e.1.id)) (filter (λ e. is_hit s.query s.drill e.1) (enumerate_from 0 docs))))
+
+-- a search that passes no hit lists the first ones
+abbrev pub PlainPages : Type 0
+PlainPages = (docs : List Doc) (s : Search) → 0 ≡ s.from → first_hits docs s
+    ≡ take s.hits (map (λ e. (e.0, e.1.id)) (filter (λ e. is_hit s.query s.drill e.1) (enumerate_from 0 docs)))
 
 -- why the ask at a place is refused
 abbrev pub ask_refusal : ℕ → AskFault → Refusal

@@ -17,6 +17,7 @@ search_view s = record {
   drill = s.drill;
   sideways = s.sideways;
   asks = map ask_view s.asks.items;
+  from = s.from;
   hits = s.hits;
 }
 

@@ -17,13 +17,14 @@ pub record Settings : Type 0 where
   -- whether a refresh and a commit first merge segments if there are too many
   pub auto_merge : Bool
 
--- What a search has to match and to be under, what it asks to be counted, and how many hits it lists. Sideways each
--- dimension is counted as if the drill did not name it.
+-- What a search has to match and to be under, what it asks to be counted, and the hits that it lists: at most so many,
+-- from one on. Sideways each dimension is counted as if the drill did not name it.
 pub record Search : Type 0 where
   pub query : QueryTree
   pub drill : List (List (List ℕ))
   pub sideways : Bool
   pub asks : List Asked
+  pub from : ℕ
   pub hits : ℕ
 
 -- What documents have to match and to be under whose numbers in a dimension are counted or added up.

@@ -26,6 +26,8 @@ pub struct SearchLine {
     pub sideways: bool,
     /// The counts that it asks for.
     pub asks: Vec<Ask>,
+    /// The first hit to list, counted from 0.
+    pub from: u32,
     /// How many hits to list, at most.
     pub hits: u32,
 }
@@ -107,15 +109,16 @@ fn drill_at(alloc: Global, value: &Value) -> Result<Option<Drill>, NoMemory>
     }
 }
 
-// A search by its parts that take memory, given the two that do not.
+// A search by its parts that take memory, given the three that do not.
 #[tactic(auto, unfolding(crate::specs::CommandLines::search_parts))]
 fn parts_in(
     alloc: Global,
     value: &Value,
     sideways: bool,
+    from: u32,
     hits: u32,
 ) -> Result<Option<SearchLine>, NoMemory>
-    ensures { IfOk result (λ o. option_map search_view o ≡ search_parts sideways hits (view value.now)) }
+    ensures { IfOk result (λ o. option_map search_view o ≡ search_parts sideways from hits (view value.now)) }
 {
     let Some(query) = query_at(alloc, value)? else {
         return Ok(None);
@@ -131,6 +134,7 @@ fn parts_in(
         drill,
         sideways,
         asks,
+        from,
         hits,
     }))
 }
@@ -151,10 +155,13 @@ pub fn searched_in(
     let Some(sideways) = flag_at(value, "sideways") else {
         return Ok(None);
     };
+    let Some(from) = whole_or(value, "from", 0, 0, 1_000_000) else {
+        return Ok(None);
+    };
     let Some(hits) = whole_or(value, "hits", 10, 0, 1_000_000) else {
         return Ok(None);
     };
-    parts_in(alloc, value, sideways, hits as u32)
+    parts_in(alloc, value, sideways, from as u32, hits as u32)
 }
 
 fn dim_in(alloc: Global, value: &Value) -> Result<Option<Word>, NoMemory>

@@ -55,6 +55,7 @@ fn search(alloc: Global) -> Result<Command, NoMemory>
         drill,
         sideways: true,
         asks,
+        from: 0,
         hits: 10,
     };
     Ok(Command::Search {

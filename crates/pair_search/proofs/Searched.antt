@@ -1,9 +1,9 @@
 -- The answers, the hits and the refusals of a search.
-use Rattle.std.proofs.Common.{◌≡◌, ℕ, suc, ◌+◌, ◌<◌, ◌≤◌, Bool, true, false, cond, List, [], ◌∷◌, ◌++◌, length, take, map, get_or, slice_get, Option, Some, None, option_map, Result, Ok, Err, refl, sym, ap, subst, ◌∙◌, arith}
+use Rattle.std.proofs.Common.{◌≡◌, ℕ, suc, ◌+◌, ◌<◌, ◌≤◌, Bool, true, false, cond, List, [], ◌∷◌, ◌++◌, length, take, drop, map, get_or, slice_get, Option, Some, None, option_map, Result, Ok, Err, refl, sym, ap, subst, ◌∙◌, arith}
 use Rattle.std.specs.Prelude.{filter, filter_map, All}
 use Rattle.std.specs.List.{AllZip, cons_option, enumerate_from}
-use Rattle.std.proofs.lemmas.List.{take-map, take_more, get_or-map, length-map}
-use Rattle.std.proofs.lemmas.List.Elements.{All-take, All-from_recursion}
+use Rattle.std.proofs.lemmas.List.{take-map, take_more, drop-map, get_or-map, length-map}
+use Rattle.std.proofs.lemmas.List.Elements.{All-take, All-drop, All-from_recursion}
 use Rattle.facet_model.specs.Asks.{Asked, AskFault, ask_fault, top_of_none, value_not_kept}
 use Rattle.facet_model.specs.CountedPaths.{places}
 use Rattle.facet_model.specs.Documents.{Doc}
@@ -38,8 +38,8 @@ asks_more R asks i d found now one lt pushed before here =
 -- ---- hits
 
 -- at each place there is a document
-pub places_within : (passes : Doc → Bool) (docs : List Doc) (limit n : ℕ) (found : List ℕ) → found ≡ take limit (places passes docs) → length docs ≡ n → All (λ at. at < n) found
-places_within passes docs limit n found is size = subst (All (λ at. at < n)) (sym is) (All-take (λ at. at < n) limit (places passes docs) (All-from_recursion (λ at. at < n) (places passes docs) (places_below passes docs 0 n (omega (arith, size)))))
+pub places_within : (passes : Doc → Bool) (docs : List Doc) (first limit n : ℕ) (found : List ℕ) → found ≡ take limit (drop first (places passes docs)) → length docs ≡ n → All (λ at. at < n) found
+places_within passes docs first limit n found is size = subst (All (λ at. at < n)) (sym is) (All-take (λ at. at < n) limit (drop first (places passes docs)) (All-drop (λ at. at < n) first (places passes docs) (All-from_recursion (λ at. at < n) (places passes docs) (places_below passes docs 0 n (omega (arith, size))))))
 
 map_twice : {A B C : Type 0} (f : B → C) (g : A → B) (xs : List A) → map f (map g xs) ≡ map (λ x. f (g x)) xs
 map_twice f g [] = refl
@@ -65,16 +65,16 @@ ids_from id_at passes m (x ∷ xs) is = by (passes x) (ids_from id_at passes (m 
     by true more = let zero_more : m ≡ m + 0 = omega arith in let own : id_at m ≡ x.id = ap id_at zero_more ∙ is 0 x (omega arith) in λ i. hit_of (λ at. own i) m ∷ more i
     by false more = more
 
--- the hits with their documents' ids
-pub hits_are : (known : List (List (List ℕ))) (segments : List Records) (passes : Doc → Bool) (limit : ℕ)
-    → map (hit_of (λ at. (record_at segments at).id)) (take limit (places passes (docs_in known segments))) ≡ take limit (map own_hit (filter (λ e. passes e.1) (enumerate_from 0 (docs_in known segments))))
-hits_are known segments passes limit =
+-- the hits that are listed, with their documents' ids
+pub hits_are : (known : List (List (List ℕ))) (segments : List Records) (passes : Doc → Bool) (first limit : ℕ)
+    → map (hit_of (λ at. (record_at segments at).id)) (take limit (drop first (places passes (docs_in known segments)))) ≡ take limit (drop first (map own_hit (filter (λ e. passes e.1) (enumerate_from 0 (docs_in known segments)))))
+hits_are known segments passes first limit =
     let none : Stored = record { id = []; text = []; leaves = []; counted = [] } in
     let id_at : ℕ → List ℕ = λ at. (record_at segments at).id in
     let each : (k : ℕ) (d : Doc) → k < length (docs_in known segments) → id_at (0 + k) ≡ (get_or (docs_in known segments) k d).id =
     λ k d lt. let e : 0 + k ≡ k = omega arith in ap id_at e ∙ ap (λ (x : Doc). x.id) (sym (get_or-map (doc_in known) (records_in segments) k none d (omega (arith, lt, length-map (records_in segments) (doc_in known))))) in
-    sym (take-map (hit_of id_at) limit (places passes (docs_in known segments)))
-    ∙ ap (take limit) (map_twice (hit_of id_at) (λ (e : ℕ × Doc). e.0) (filter (λ e. passes e.1) (enumerate_from 0 (docs_in known segments))) ∙ ids_from id_at passes 0 (docs_in known segments) each)
+    sym (take-map (hit_of id_at) limit (drop first (places passes (docs_in known segments)))) ∙ ap (take limit) (sym (drop-map (hit_of id_at) first (places passes (docs_in known segments))))
+    ∙ ap (λ (l : List (ℕ × List ℕ)). take limit (drop first l)) (map_twice (hit_of id_at) (λ (e : ℕ × Doc). e.0) (filter (λ e. passes e.1) (enumerate_from 0 (docs_in known segments))) ∙ ids_from id_at passes 0 (docs_in known segments) each)
 
 -- ---- refusals
 

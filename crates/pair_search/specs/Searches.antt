@@ -18,6 +18,7 @@ search_view ask = record {
   drill = ask.drill;
   sideways = ask.sideways;
   asks = map ask_view ask.asks.items;
+  from = ask.from;
   hits = ask.hits;
 }
 

@@ -34,7 +34,7 @@ pub struct SearchAnswer {
     pub operations: u64,
     /// How many documents the search found.
     pub hit_count: u64,
-    /// The first of these, with their places and ids, as many as the search asked for.
+    /// Those of them that the search lists, in order, with their places and ids.
     pub hits: Vec<HitLine>,
     /// The answer to each ask, in order.
     pub answers: Vec<FacetAnswer>,

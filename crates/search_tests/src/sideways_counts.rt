@@ -28,6 +28,7 @@ fn drilled(alloc: Global, sideways: bool) -> Result<SearchAsk, Fail> {
         query: Query::All,
         drill: Drill::new(alloc, paths)?,
         asks: Vec::new(alloc),
+        from: 0,
         hits: 10,
         sideways,
     })

@@ -1,5 +1,5 @@
 -- The plain data of a search over segments.
-use Rattle.std.specs.Prelude.{ℕ, List, map}
+use Rattle.std.specs.Prelude.{◌+◌, ℕ, List, map}
 use Rattle.std.specs.Arc.{arc_value}
 use Rattle.std.specs.declared.alloc.Global.{Global}
 use Rattle.std.specs.declared.sync.Arc.{Arc}
@@ -17,7 +17,7 @@ pub record Search : Type 0 where
   pub segments : List Records
   pub ask : SearchAsk
 
--- the question of the search
+-- The question of the search. The hits that are passed are found too.
 abbrev pub question : Search → Question
 question s = record {
   labels = s.labels;
@@ -26,7 +26,7 @@ question s = record {
   query = query_view s.ask.query;
   drill = s.ask.drill;
   asks = map ask_view s.ask.asks.items;
-  hits = s.ask.hits;
+  hits = s.ask.from + s.ask.hits;
   sideways = s.ask.sideways;
 }
 

@@ -1,5 +1,5 @@
 ghost use Rattle.std.specs.Prelude.{◌≡◌, ◌<◌, List, Some, None, true, IfOk, length, map, option_map, slice_get, take};
-ghost use Rattle.std.specs.Prelude.{nat_lt};
+ghost use Rattle.std.specs.Prelude.{drop, nat_lt};
 ghost use Rattle.facet_counts.specs.Dims.{AreDims};
 ghost use Rattle.facet_counts.specs.Tallies.{AreCounts};
 ghost use Rattle.facet_model.specs.Asks.{Asked, all_dims, ask_fault, one_value};
@@ -86,14 +86,16 @@ impl<'a> SidewaysAnswer<'a> {
         self.found.number
     }
 
-    /// Returns the places of the first hits, in order, at most as many as the ask lists. Places number the live
-    /// documents of all segments from 0. It takes constant time.
+    /// Returns the places of the hits that the ask lists, in order: after `from` hits, at most as many as it wants.
+    /// Places number the live documents of all segments from 0. It takes constant time.
     pub fn hits(&self) -> &[u32]
         ensures { (docs : List Doc) → HasDocs (question self.now) docs
-            → result.now ≡ take (question self.now).hits (places
-            (is_hit (question self.now).query (question self.now).drill) docs) }
+            → result.now ≡ take self.now.ask.hits (drop self.now.ask.from (places
+            (is_hit (question self.now).query (question self.now).drill) docs)) }
     {
-        &self.found.places
+        let places = self.found.places.as_slice();
+        let passed = (self.ask.from as usize).min(places.len());
+        &places[passed..]
     }
 
     /// Returns the counts of a dimension. If the search is sideways and the dimension is drilled, they cover the

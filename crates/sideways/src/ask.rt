@@ -18,7 +18,9 @@ pub struct SearchAsk {
     pub drill: Drill,
     /// The counts that it asks for. Each has an answer at the same place.
     pub asks: Vec<Ask>,
-    /// How many places of hits to return, at most. At most 1,000,000 are returned.
+    /// How many hits to pass before the first one whose place is returned.
+    pub from: u32,
+    /// How many places of hits to return, at most. None is returned of a hit after the first 1,000,000.
     pub hits: u32,
     /// Whether a drilled dimension is counted over the documents that match the query and all other drilled dimensions.
     /// If not, it is counted over the hits.

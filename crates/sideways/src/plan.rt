@@ -1,4 +1,4 @@
-ghost use Rattle.std.specs.Prelude.{◌≡◌, ◌≤◌, ◌&&◌, ℕ, [], List, Some, None, IfOk, IfErr, OnOk, length, map, min};
+ghost use Rattle.std.specs.Prelude.{◌≡◌, ◌≤◌, ◌+◌, ◌&&◌, ℕ, [], List, Some, None, IfOk, IfErr, OnOk, length, map, min};
 ghost use Rattle.std.specs.Vec.{vec_capacity};
 ghost use Rattle.std.specs.List.{AllByRecursion, AllZip, list_any};
 ghost use Rattle.std.specs.Str.{bytes_eq};
@@ -50,6 +50,7 @@ pub struct DrillPlan<'a> {
 }
 
 impl<'a> Model for DrillPlan<'a> {
+    ghost use Rattle.std.specs.Prelude.{◌+◌};
     ghost use Rattle.sideways.specs.Kept.{HasRoom, IsPlan};
     ghost use Rattle.sideways.specs.Searches.{Search, question_of, search_of};
     ghost use Rattle.sideways.specs.contracts.ask.SearchAsk as e;
@@ -62,15 +63,15 @@ impl<'a> Model for DrillPlan<'a> {
     ghost view = { λ p. search_of p.view.now p.config.now p.segments.now p.ask.now };
 
     ghost invariant = { λ p. IsPlan (question_of p.view.now p.config.now p.segments.now p.ask.now) p.hits p.lifted.items
-        × HasRoom p.ask.now.hits p.lifted.items p.places p.counted };
+        × HasRoom (p.ask.now.from + p.ask.now.hits) p.lifted.items p.places p.counted };
 }
 
-/// Returns how many places of hits are kept: as many as are wanted, and at most 1,000,000, the greatest number of
-/// documents.
+/// Returns how many places of hits are kept: as many as are passed and wanted, and at most 1,000,000, the greatest
+/// number of documents.
 pub(crate) fn limit_of(ask: &SearchAsk) -> u32
-    ensures { result ≡ min ask.now.hits 1000000 }
+    ensures { result ≡ min (ask.now.from + ask.now.hits) 1000000 }
 {
-    ask.hits.min(1_000_000)
+    ask.from.saturating_add(ask.hits).min(1_000_000)
 }
 
 // Returns a pass without a part for each dimension of the drill.
