@@ -163,12 +163,16 @@ def read_label_commit(data, number):
 # ---- documents
 
 
-def words(string):
+def word_list(string):
     """The pieces between blanks, with a to z for A to Z."""
     for blank in "\t\r\n":
         string = string.replace(blank, " ")
     lower = {upper: upper + 32 for upper in range(ord("A"), ord("Z") + 1)}
-    return {piece.translate(lower) for piece in string.split(" ") if piece}
+    return [piece.translate(lower) for piece in string.split(" ") if piece]
+
+
+def words(string):
+    return set(word_list(string))
 
 
 def term_text(path):

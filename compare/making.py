@@ -26,6 +26,11 @@ def path(random, deep):
     return [random.choice(dims)] + some(random, deep, lambda: random.choice(parts))
 
 
+def blanks_between(random, words):
+    blank = random.choice([" ", "\t", "\n", "\r", "  "])
+    return random.choice(["", blank]) + blank.join(words)
+
+
 def query(random, levels):
     kind = random.random()
     if kind < 0.2:
@@ -33,6 +38,8 @@ def query(random, levels):
     if kind < 0.6 or levels == 1:
         word = random.choice(WORDS)
         return {"term": word.lower() if random.random() < 0.7 else word}
+    if kind < 0.7:
+        return {"words": blanks_between(random, some(random, 3, lambda: random.choice(WORDS)))}
     clauses = [clause for clause in ("must", "should", "must_not") if random.random() < 0.5]
     return {"bool": {clause: some(random, 3, lambda: query(random, levels - 1)) for clause in clauses}}
 
@@ -71,8 +78,7 @@ def add(random, number):
         return {"s": 1, "cmd": "add", "id": "twin"}
     order = {"s": 1, "cmd": "add", "id": random.choice([f"b{number}", "é", "x", "k" * 256])}
     if random.random() < 0.7:
-        blank = random.choice([" ", "\t", "\n", "\r", "  "])
-        order["text"] = random.choice(["", blank]) + blank.join(some(random, 5, lambda: random.choice(WORDS)))
+        order["text"] = blanks_between(random, some(random, 5, lambda: random.choice(WORDS)))
     if random.random() < 0.9:
         order["facets"] = some(random, random.choice([0, 1, 2, 5]), lambda: path(random, random.choice([1, 1, 1, 2, 4])))
         for label in order["facets"]:
@@ -253,6 +259,7 @@ LIMITS = {
     "top": PATHS,
     "specific": PATHS,
     "term": ["", "x" * 65536, "x" * 65537],
+    "words": ["", " ", "x" * 65536, "x" * 65537, "a " * 255, "a " * 256, "a b"],
     "query": [chain(32, "must"), chain(33, "should"), chain(42, "must_not"), chain(43, "must"), {"bool": {}}, {"bool": {"must": {}}}]
     + [{"bool": {"must": [EVERY] * 255}}, {"bool": {"should": [EVERY] * 256}}, {"bool": {"must": [EVERY] * 127, "should": [EVERY] * 128}}],
     "dims": [[{"dim": "A"}, {"dim": "A"}], [{"dim": "A"}, {"dim": "a"}], [{"dim": "A", "hierarchical": None}]],
@@ -263,7 +270,7 @@ LIMITS = {
     "cache": [0, 1, 65536, 65537],
     "auto_merge": [True, False, None, 0, 1, "true", []],
 }
-WRONG = [None, True, False, 0, 1, -1, 1.5, 1e2, 2**64, 10**30, "", "a", [], {}, [[]], [["a"]], [None], {"a": 1}, EVERY, {"all": 1}, {"term": "a"}]
+WRONG = [None, True, False, 0, 1, -1, 1.5, 1e2, 2**64, 10**30, "", "a", [], {}, [[]], [["a"]], [None], {"a": 1}, EVERY, {"all": 1}, {"term": "a"}, {"words": "a"}]
 KEYS = list(LIMITS) + ["sideways", "must", "hierarchical", "min_open", "max_open", ""]
 
 # how a number is written that has a sign, and its value; those that are no whole number of 64 bits are any that is none

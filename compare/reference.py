@@ -43,6 +43,8 @@ def matches(query, document_words):
         return True
     if "term" in query:
         return query["term"] in document_words
+    if "words" in query:
+        return words(query["words"]) <= document_words
     must, should, must_not = (query["bool"].get(key, []) for key in ("must", "should", "must_not"))
     if any(matches(inside, document_words) for inside in must_not):
         return False

@@ -1,5 +1,7 @@
 """The first fault of a script, as docs/formats.md specifies it, given the value of each line."""
 
+from files import word_list
+
 MOST_SESSIONS = 64
 
 # the commands that look at a pair, which `on` may name
@@ -63,6 +65,9 @@ def size_of(value):
     """The levels of a query and the number of queries in it, or None."""
     if is_object(value, {"all": lambda is_all: is_all is True}) or is_object(value, {"term": lambda term: is_text(term, 1, 65536)}):
         return 1, 1
+    if is_object(value, {"words": lambda string: is_text(string, 0, 65536)}):
+        count = len(word_list(value["words"]))
+        return (2, 1 + count) if count else (1, 1)
     if not is_object(value, {"bool": lambda clauses: isinstance(clauses, dict)}):
         return None
     clauses = value["bool"]

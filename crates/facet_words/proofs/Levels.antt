@@ -5,32 +5,36 @@ use Rattle.std.specs.Option.{option_or}
 use Rattle.serde_json.specs.Data.{Data}
 use Rattle.serde_json.specs.Find.{get}
 use Rattle.facet_model.specs.Queries.{QueryTree, bool, queries}
-use Rattle.facet_words.specs.Queries.{all_query, term_query, lists_of, three_of, bool_query, query_within}
+use Rattle.facet_words.specs.Queries.{all_query, term_query, words_query, lists_of, three_of, bool_query, query_within}
 use Rattle.facet_words.specs.Shapes.{◌>>=◌, when, list_of, key_or, keys_among}
 
 pub no_level : (n : ℕ) (d : Data) → n ≡ 0 → None ≡ query_within n d
 unfolding query_within
 no_level n d e = rw e refl
 
-pub one_level : (n : ℕ) (d : Data) → n ≢ 0 → query_within n d ≡ option_or (all_query d) (option_or (term_query d) (bool_query (query_within (n - 1)) d))
+pub one_level : (n : ℕ) (d : Data) → n ≢ 0 → query_within n d ≡ option_or (all_query d) (option_or (term_query d) (option_or (words_query n d) (bool_query (query_within (n - 1)) d)))
 unfolding query_within
 one_level zero d ne = absurd (ne refl)
 one_level (suc n) d ne = let e : suc n - 1 ≡ n = omega arith in rw e refl
 
 -- ---- leaves first
 
-leaves_first : (a b c : Option QueryTree) → option_or a (option_or b c) ≡ option_or (option_or a b) c
-leaves_first None b c = refl
-leaves_first (Some q) b c = refl
+abbrev leaf : ℕ → Data → Option QueryTree
+leaf n d = option_or (all_query d) (option_or (term_query d) (words_query n d))
+
+leaves_first : (a b c e : Option QueryTree) → option_or a (option_or b (option_or c e)) ≡ option_or (option_or a (option_or b c)) e
+leaves_first None None c e = refl
+leaves_first None (Some q) c e = refl
+leaves_first (Some q) b c e = refl
 
 module _ (n : ℕ) (d : Data) (ne : n ≢ 0) where
-  by_leaves : query_within n d ≡ option_or (option_or (all_query d) (term_query d)) (bool_query (query_within (n - 1)) d)
-  by_leaves = one_level n d ne ∙ leaves_first (all_query d) (term_query d) (bool_query (query_within (n - 1)) d)
+  by_leaves : query_within n d ≡ option_or (leaf n d) (bool_query (query_within (n - 1)) d)
+  by_leaves = one_level n d ne ∙ leaves_first (all_query d) (term_query d) (words_query n d) (bool_query (query_within (n - 1)) d)
 
-  pub is_leaf : (q : QueryTree) → Some q ≡ option_or (all_query d) (term_query d) → Some q ≡ query_within n d
+  pub is_leaf : (q : QueryTree) → Some q ≡ leaf n d → Some q ≡ query_within n d
   is_leaf q e = sym (by_leaves ∙ ap (λ (o : Option QueryTree). option_or o (bool_query (query_within (n - 1)) d)) (sym e))
 
-  pub no_leaf : None ≡ option_or (all_query d) (term_query d) → bool_query (query_within (n - 1)) d ≡ query_within n d
+  pub no_leaf : None ≡ leaf n d → bool_query (query_within (n - 1)) d ≡ query_within n d
   no_leaf e = sym (by_leaves ∙ ap (λ (o : Option QueryTree). option_or o (bool_query (query_within (n - 1)) d)) (sym e))
 
 -- ---- the lists of a boolean query

@@ -16,3 +16,5 @@ mod Searches
 mod SettingsParts
 mod Limits
 mod Dimensions
+mod EachWord
+mod WordLengths

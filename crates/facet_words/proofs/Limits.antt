@@ -1,13 +1,16 @@
 -- A query is read with so many levels exactly where it has no more.
 use Rattle.std.proofs.Common.{◌≡◌, ◌≤◌, ◌∙◌, ℕ, zero, suc, Bool, true, false, List, [], ◌∷◌, map, Option, Some, None, option_map, inl, inr, refl, sym, ap, arith}
-use Rattle.std.specs.Prelude.{◌⊎◌, ◌&&◌, codes, if◌then◌else◌}
+use Rattle.std.specs.Prelude.{◌⊎◌, ◌&&◌, codes, if◌then◌else◌, nat_le}
 use Rattle.std.specs.Option.{option_or, option_map_or}
-use Rattle.serde_json.specs.Data.{Data}
-use Rattle.serde_json.specs.Find.{get, as_array, as_bool, as_str}
+use Rattle.std.specs.Str.{bytes_eq}
+use Rattle.std.proofs.lemmas.Bool.{le-leb, leb-true}
+use Rattle.std.proofs.lemmas.Slice.Eq.{bytes_eq-Decides}
+use Rattle.serde_json.specs.Data.{Data, Members, no_members, member, null, boolean, number, string, array, object}
+use Rattle.serde_json.specs.Find.{get, get_member, as_array, as_bool, as_str}
 use Rattle.facet_model.specs.Queries.{QueryTree, all, term, bool, queries, levels, list_levels}
-use Rattle.facet_model.specs.Words.{word_of}
-use Rattle.facet_words.specs.Queries.{all_query, term_query, lists_of, bool_query, query_within, LevelsAreCounted}
-use Rattle.facet_words.specs.Shapes.{◌>>=◌, when, all_some, items_list, list_of, key, key_or, keys_among}
+use Rattle.facet_model.specs.Words.{word_of, words}
+use Rattle.facet_words.specs.Queries.{all_query, term_query, all_words, words_query, lists_of, bool_query, query_within, LevelsAreCounted}
+use Rattle.facet_words.specs.Shapes.{◌>>=◌, when, all_some, items_list, text_within, list_of, key, key_or, members_among, keys_among}
 
 -- ---- what was read, step by step
 
@@ -43,6 +46,68 @@ term_is_one d q e =
     let u = first_then (word_of t.0) (λ word. when (keys_among (codes "term" ∷ []) d) (term word)) q t.2 in
     let w = passed (keys_among (codes "term" ∷ []) d) (term u.0) q u.2 in
     ap levels w.1
+
+-- ---- the words of a text
+
+both : (a b : Bool) → (a && b) ≡ true → (a ≡ true) × (b ≡ true)
+both true b e = (refl, e)
+both false b e = absurd cc
+
+abbrev of_words : Data → ℕ → List ℕ → Option QueryTree
+of_words d n text = when (keys_among (codes "words" ∷ []) d && nat_le (levels (all_words (words text))) n) (all_words (words text))
+
+record Worded (n : ℕ) (d : Data) (q : QueryTree) : Type 0 where
+  text : List ℕ
+  at : key (codes "words") (text_within 0 65536) d ≡ Some text
+  keys : keys_among (codes "words" ∷ []) d ≡ true
+  few : levels q ≤ n
+  is : q ≡ all_words (words text)
+
+words_some : (n : ℕ) (d : Data) (q : QueryTree) → words_query n d ≡ Some q → Worded n d q
+unfolding words_query
+words_some n d q e =
+    let t = first_then (key (codes "words") (text_within 0 65536) d) (of_words d n) q e in
+    let w = passed (keys_among (codes "words" ∷ []) d && nat_le (levels (all_words (words t.0))) n) (all_words (words t.0)) q t.2 in
+    let k = both (keys_among (codes "words" ∷ []) d) (nat_le (levels (all_words (words t.0))) n) w.0 in
+    record { text = t.0; at = t.1; keys = k.0; few = rw w.1 (leb-true (levels (all_words (words t.0))) n k.1); is = w.1 }
+
+words_follow : (m n : ℕ) (d : Data) (q : QueryTree) → words_query m d ≡ Some q → levels q ≤ n → words_query n d ≡ Some q
+unfolding words_query
+words_follow m n d q e le =
+    let w = words_some m d q e in
+    let few : nat_le (levels (all_words (words w.text))) n ≡ true = le-leb (levels (all_words (words w.text))) n (rw w.is at le) in
+    (λ i. w.at i >>= of_words d n) ∙ (λ i. when (w.keys i && few i) (all_words (words w.text))) ∙ ap (λ (x : QueryTree). Some x) (sym w.is)
+
+-- where there is another key, `words` is not the only one
+other_member : (ms : Members) (e : Data) → get_member (codes "bool") ms ≡ Some e → members_among (codes "words" ∷ []) ms ≡ false
+other_member no_members e found = absurd cc
+other_member (member k d ms) e found = by (bytes_eq k (codes "words")) refl (other_member ms e)
+  where
+    by : (same : Bool) → bytes_eq k (codes "words") ≡ same → (get_member (codes "bool") ms ≡ Some e → members_among (codes "words" ∷ []) ms ≡ false) → members_among (codes "words" ∷ []) (member k d ms) ≡ false
+    by false apart rest = rw apart refl
+    by true same rest =
+        let is : k ≡ codes "words" = (bytes_eq-Decides k (codes "words")).0 same in
+        let more : get_member (codes "bool") ms ≡ Some e = ap (λ (l : List ℕ). get_member (codes "bool") (member l d ms)) (sym is) ∙ found in
+        rw (same, rest more) refl
+
+other_key : (d e : Data) → get (codes "bool") d ≡ Some e → keys_among (codes "words" ∷ []) d ≡ false
+other_key null e found = absurd cc
+other_key (boolean b) e found = absurd cc
+other_key (number n) e found = absurd cc
+other_key (string s) e found = absurd cc
+other_key (array ds) e found = absurd cc
+other_key (object ms) e found = other_member ms e found
+
+never : {A B : Type 0} (o : Option A) (f : A → Bool) (g : A → B) → (o >>= (λ x. when (false && f x) (g x))) ≡ None
+never None f g = refl
+never (Some x) f g = refl
+
+no_words_query : (n : ℕ) (d e : Data) → get (codes "bool") d ≡ Some e → words_query n d ≡ None
+unfolding words_query
+no_words_query n d e found =
+    let other = other_key d e found in
+    (λ i. key (codes "words") (text_within 0 65536) d >>= (λ text. when (other i && nat_le (levels (all_words (words text))) n) (all_words (words text))))
+    ∙ never (key (codes "words") (text_within 0 65536) d) (λ text. nat_le (levels (all_words (words text))) n) (λ text. all_words (words text))
 
 -- ---- the lists of a boolean query
 
@@ -157,42 +222,58 @@ bool_follows n inner outer h d q e le =
     let t = first_then (get (codes "bool") d) (lists_of inner) q c.1 in
     (λ i. if c.0 i then (t.1 i >>= lists_of outer) else None) ∙ lists_follow n inner outer h t.0 q t.2 le
 
+not_words : (n : ℕ) (inner : Data → Option QueryTree) (d : Data) (q : QueryTree) → bool_query inner d ≡ Some q → words_query n d ≡ None
+unfolding bool_query
+not_words n inner d q e =
+    let c = chosen (is_bool d) (get (codes "bool") d >>= lists_of inner) q e in
+    let t = first_then (get (codes "bool") d) (lists_of inner) q c.1 in
+    no_words_query n d t.0 t.1
+
 -- ---- a query
 
-term_or_bool : (n : ℕ) (d : Data) (q : QueryTree) → Limits n (query_within n) → (term_query d ≡ Some q) ⊎ ((term_query d ≡ None) × (bool_query (query_within n) d ≡ Some q)) → levels q ≤ suc n
-term_or_bool n d q h (inl t) = omega (arith, term_is_one d q t)
-term_or_bool n d q h (inr b) = bool_limited n (query_within n) h d q b.1
+words_or_bool : (n : ℕ) (d : Data) (q : QueryTree) → Limits n (query_within n) → (words_query (suc n) d ≡ Some q) ⊎ ((words_query (suc n) d ≡ None) × (bool_query (query_within n) d ≡ Some q)) → levels q ≤ suc n
+words_or_bool n d q h (inl w) = (words_some (suc n) d q w).few
+words_or_bool n d q h (inr b) = bool_limited n (query_within n) h d q b.1
 
-all_or_more : (n : ℕ) (d : Data) (q : QueryTree) → Limits n (query_within n) → (all_query d ≡ Some q) ⊎ ((all_query d ≡ None) × (option_or (term_query d) (bool_query (query_within n) d) ≡ Some q)) → levels q ≤ suc n
+term_or_more : (n : ℕ) (d : Data) (q : QueryTree) → Limits n (query_within n) → (term_query d ≡ Some q) ⊎ ((term_query d ≡ None) × (option_or (words_query (suc n) d) (bool_query (query_within n) d) ≡ Some q)) → levels q ≤ suc n
+term_or_more n d q h (inl t) = omega (arith, term_is_one d q t)
+term_or_more n d q h (inr b) = words_or_bool n d q h (either (words_query (suc n) d) (bool_query (query_within n) d) q b.1)
+
+all_or_more : (n : ℕ) (d : Data) (q : QueryTree) → Limits n (query_within n) → (all_query d ≡ Some q) ⊎ ((all_query d ≡ None) × (option_or (term_query d) (option_or (words_query (suc n) d) (bool_query (query_within n) d)) ≡ Some q)) → levels q ≤ suc n
 all_or_more n d q h (inl a) = omega (arith, all_is_one d q a)
-all_or_more n d q h (inr b) = term_or_bool n d q h (either (term_query d) (bool_query (query_within n) d) q b.1)
+all_or_more n d q h (inr b) = term_or_more n d q h (either (term_query d) (option_or (words_query (suc n) d) (bool_query (query_within n) d)) q b.1)
 
 read_has : (n : ℕ) (d : Data) (q : QueryTree) → query_within n d ≡ Some q → levels q ≤ n
 unfolding query_within
 read_has zero d q e = absurd cc
-read_has (suc n) d q e = all_or_more n d q (read_has n) (either (all_query d) (option_or (term_query d) (bool_query (query_within n) d)) q e)
+read_has (suc n) d q e = all_or_more n d q (read_has n) (either (all_query d) (option_or (term_query d) (option_or (words_query (suc n) d) (bool_query (query_within n) d))) q e)
 
 one_or_more : (q : QueryTree) → 1 ≤ levels q
 one_or_more all = omega arith
 one_or_more (term word) = omega arith
 one_or_more (bool must should must_not) = omega arith
 
-term_or_bool_follows : (m n : ℕ) (d : Data) (q : QueryTree) → Follows n (query_within m) (query_within n) → (term_query d ≡ Some q) ⊎ ((term_query d ≡ None) × (bool_query (query_within m) d ≡ Some q)) → levels q ≤ suc n
-    → option_or (term_query d) (bool_query (query_within n) d) ≡ Some q
-term_or_bool_follows m n d q h (inl t) le = rw t refl
-term_or_bool_follows m n d q h (inr b) le = rw b.0 (bool_follows n (query_within m) (query_within n) h d q b.1 le)
+words_or_bool_follows : (m n : ℕ) (d : Data) (q : QueryTree) → Follows n (query_within m) (query_within n) → (words_query (suc m) d ≡ Some q) ⊎ ((words_query (suc m) d ≡ None) × (bool_query (query_within m) d ≡ Some q)) → levels q ≤ suc n
+    → option_or (words_query (suc n) d) (bool_query (query_within n) d) ≡ Some q
+words_or_bool_follows m n d q h (inl w) le = rw (words_follow (suc m) (suc n) d q w le) refl
+words_or_bool_follows m n d q h (inr b) le = rw (not_words (suc n) (query_within m) d q b.1) (bool_follows n (query_within m) (query_within n) h d q b.1 le)
+
+term_or_more_follows : (m n : ℕ) (d : Data) (q : QueryTree) → Follows n (query_within m) (query_within n) → (term_query d ≡ Some q) ⊎ ((term_query d ≡ None) × (option_or (words_query (suc m) d) (bool_query (query_within m) d) ≡ Some q)) → levels q ≤ suc n
+    → option_or (term_query d) (option_or (words_query (suc n) d) (bool_query (query_within n) d)) ≡ Some q
+term_or_more_follows m n d q h (inl t) le = rw t refl
+term_or_more_follows m n d q h (inr b) le = rw b.0 (words_or_bool_follows m n d q h (either (words_query (suc m) d) (bool_query (query_within m) d) q b.1) le)
 
 all_or_more_follows : (m n : ℕ) (d : Data) (q : QueryTree) → Follows n (query_within m) (query_within n)
-    → (all_query d ≡ Some q) ⊎ ((all_query d ≡ None) × (option_or (term_query d) (bool_query (query_within m) d) ≡ Some q)) → levels q ≤ suc n
-    → option_or (all_query d) (option_or (term_query d) (bool_query (query_within n) d)) ≡ Some q
+    → (all_query d ≡ Some q) ⊎ ((all_query d ≡ None) × (option_or (term_query d) (option_or (words_query (suc m) d) (bool_query (query_within m) d)) ≡ Some q)) → levels q ≤ suc n
+    → option_or (all_query d) (option_or (term_query d) (option_or (words_query (suc n) d) (bool_query (query_within n) d))) ≡ Some q
 all_or_more_follows m n d q h (inl a) le = rw a refl
-all_or_more_follows m n d q h (inr b) le = rw b.0 (term_or_bool_follows m n d q h (either (term_query d) (bool_query (query_within m) d) q b.1) le)
+all_or_more_follows m n d q h (inr b) le = rw b.0 (term_or_more_follows m n d q h (either (term_query d) (option_or (words_query (suc m) d) (bool_query (query_within m) d)) q b.1) le)
 
 read_again : (m n : ℕ) (d : Data) (q : QueryTree) → query_within m d ≡ Some q → levels q ≤ n → query_within n d ≡ Some q
 unfolding query_within
 read_again zero n d q e le = absurd cc
 read_again (suc m) zero d q e le = absurd (omega (arith, one_or_more q))
-read_again (suc m) (suc n) d q e le = all_or_more_follows m n d q (read_again m n) (either (all_query d) (option_or (term_query d) (bool_query (query_within m) d)) q e) le
+read_again (suc m) (suc n) d q e le = all_or_more_follows m n d q (read_again m n) (either (all_query d) (option_or (term_query d) (option_or (words_query (suc m) d) (bool_query (query_within m) d))) q e) le
 
 pub levels_counted : LevelsAreCounted
 levels_counted m n d q e = (read_has n d q, read_again m n d q e)

@@ -1,5 +1,5 @@
 ghost use Rattle.facet_words.specs.Answers.{PlainPages};
-ghost use Rattle.facet_words.specs.Queries.{LevelsAreCounted};
+ghost use Rattle.facet_words.specs.Queries.{LevelsAreCounted, MatchesEachWord};
 
 /// States that a query is read if and only if it has no more levels than are allowed. The call does nothing.
 pub fn levels_are_counted()
@@ -9,4 +9,10 @@ pub fn levels_are_counted()
 /// States that a search which passes no hit lists the first ones. The call does nothing.
 pub fn plain_pages()
     ensures { PlainPages }
+{}
+
+/// States that the query of a text matches exactly the documents that have every word of it. The call does nothing.
+#[tactic(auto, using(crate::proofs::EachWord::each_word))]
+pub fn words_match()
+    ensures { MatchesEachWord }
 {}

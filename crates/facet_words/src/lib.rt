@@ -20,7 +20,7 @@ mod shape;
 
 pub use command::{Command, Order, Script};
 pub use fault::{ScriptFault, write_fault};
-pub use laws::{levels_are_counted, plain_pages};
+pub use laws::{levels_are_counted, plain_pages, words_match};
 pub use parts::{CountedLine, SearchLine};
 pub use script::read_script;
 pub use settings::Settings;

@@ -1,14 +1,17 @@
-ghost use Rattle.std.specs.Prelude.{◌≡◌, ◌≤◌, ◌-◌, [], Option, SomeIff, IfOk, option_map, option_and_then, map};
+ghost use Rattle.std.specs.Prelude.{◌≡◌, ◌≤◌, ◌-◌, [], true, Option, SomeIff, IfOk, All, option_map, option_and_then};
+ghost use Rattle.std.specs.Prelude.{map};
 ghost use Rattle.std.specs.Option.{option_or};
 ghost use Rattle.serde_json.specs.Data.{Data};
 ghost use Rattle.serde_json.specs.View.{view};
-ghost use Rattle.facet_model.specs.Queries.{QueryTree, queries, nodes, list_nodes};
+ghost use Rattle.facet_model.specs.Queries.{QueryTree, term, queries, levels, nodes, list_nodes};
 ghost use Rattle.facet_model.specs.QueryViews.{query_view};
-ghost use Rattle.facet_words.specs.Queries.{all_query, term_query, three_of, bool_query, query_within, query_of};
+ghost use Rattle.facet_model.specs.Words.{is_word};
+ghost use Rattle.facet_words.specs.Queries.{all_query, term_query, all_words, words_query, three_of, bool_query};
+ghost use Rattle.facet_words.specs.Queries.{query_within, query_of};
 ghost use Rattle.facet_words.specs.Shapes.{all_some, key_or, list_of};
 
-use crate::shape::{Shaped, keys_among};
-use facet_model::{Query, Word};
+use crate::shape::{Shaped, keys_among, text_in};
+use facet_model::{Query, Word, WordList, words};
 use facet_names::NoMemory;
 use serde_json::Value;
 use std::alloc::Global;
@@ -42,14 +45,75 @@ fn term_in(alloc: Global, value: &Value) -> Result<Option<Query>, NoMemory>
     }
 }
 
-// A query that has no queries in it.
-fn leaf_in(alloc: Global, value: &Value) -> Result<Option<Query>, NoMemory>
-    ensures { IfOk result (λ o. option_map query_view o
-        ≡ option_or (all_query (view value.now)) (term_query (view value.now))) }
+// A term for each word.
+fn terms_of(alloc: Global, words: &WordList) -> Result<Vec<Query>, NoMemory>
+    requires { All (λ w. is_word w ≡ true) words.now }
+    ensures { IfOk result (λ v. map query_view v.items ≡ map term words.now) }
 {
-    match all_in(value) {
+    let mut terms = Vec::with_capacity(alloc, words.len())?;
+    for place in 0..words.len() {
+        match Word::new(alloc, words.at(place))? {
+            Some(word) => terms.push(Query::Term(word))?,
+            None => unreachable!(),
+        }
+    }
+    Ok(terms)
+}
+
+// The query that requires each of the words.
+fn all_of(alloc: Global, words: &WordList) -> Result<Query, NoMemory>
+    requires { All (λ w. is_word w ≡ true) words.now }
+    ensures { IfOk result (λ q. query_view q ≡ all_words words.now) }
+{
+    let must = terms_of(alloc, words)?;
+    if must.is_empty() {
+        return Ok(Query::All);
+    }
+    Ok(Query::Bool {
+        must,
+        should: Vec::new(alloc),
+        must_not: Vec::new(alloc),
+    })
+}
+
+// How many levels the query of words has.
+fn levels_of(words: &WordList) -> u32
+    ensures { result ≡ levels (all_words words.now) }
+{
+    if words.len() == 0 { 1 } else { 2 }
+}
+
+#[tactic(auto, unfolding(crate::specs::Queries::words_query))]
+fn words_in(alloc: Global, value: &Value, levels: u32) -> Result<Option<Query>, NoMemory>
+    ensures { IfOk result (λ o. option_map query_view o ≡ words_query levels (view value.now)) }
+{
+    let Some(found) = value.get("words") else {
+        return Ok(None);
+    };
+    let Some(text) = text_in(found, 0, 65536) else {
+        return Ok(None);
+    };
+    if !keys_among(value, &["words"]) {
+        return Ok(None);
+    }
+    let words = words(alloc, text)?;
+    if levels_of(&words) > levels {
+        return Ok(None);
+    }
+    Ok(Some(all_of(alloc, &words)?))
+}
+
+// A query whose value has no queries in it.
+fn leaf_in(alloc: Global, value: &Value, levels: u32) -> Result<Option<Query>, NoMemory>
+    ensures { IfOk result (λ o. option_map query_view o ≡ option_or (all_query (view value.now))
+        (option_or (term_query (view value.now)) (words_query levels (view value.now)))) }
+{
+    if let Some(query) = all_in(value) {
+        return Ok(Some(query));
+    }
+    match term_in(alloc, value)? {
         Some(query) => Ok(Some(query)),
-        None => term_in(alloc, value),
+        None => words_in(alloc, value, levels),
     }
 }
 
@@ -94,7 +158,7 @@ fn query_in(alloc: Global, value: &Value, levels: u32) -> Result<Option<Query>, 
     if levels == 0 {
         return Ok(None);
     }
-    if let Some(query) = leaf_in(alloc, value)? {
+    if let Some(query) = leaf_in(alloc, value, levels)? {
         return Ok(Some(query));
     }
     match lists_at(value) {
