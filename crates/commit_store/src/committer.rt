@@ -113,7 +113,9 @@ impl<D: Disk> Committer<D> {
         ensures committed { IfOk result (λ o. (s : Told) → D.told disk ≡ Some s → IsSettled D.Disk config s disk
             → IsHere D.Disk config o.committer o.labels (map arc_value o.segments.items)) }
     {
-        let read = match read_store(alloc, keys, &mut disk, &config) {
+        let read = read_store(alloc, keys, &mut disk, &config);
+        disk.rest();
+        let read = match read {
             Ok(read) => read,
             Err(fault) => return Err(NotOpened { fault, disk }),
         };
@@ -230,7 +232,9 @@ impl<D: Disk> Committer<D> {
             return Err(CommitFault::Closed { count });
         }
         let planned = plan_commit(self.alloc, &self.config, &self.state, view, segments)?;
-        if execute_plan(&mut self.disk, &planned.plan).is_err() {
+        let executed = execute_plan(&mut self.disk, &planned.plan);
+        self.disk.rest();
+        if executed.is_err() {
             let count = self.disk.fault_count();
             self.closed = Some(count);
             return Err(CommitFault::Disk { count });

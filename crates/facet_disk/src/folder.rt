@@ -19,8 +19,12 @@ use std::rt::Files;
 /// A folder of the operating system as a disk. Each directory is a folder in it. Contracts know nothing of its files.
 ///
 /// - **Lock.** The first call locks the folder, and the lock is held until the disk is dropped. While another process
-///   holds it, each call returns `Failed` and does nothing. The lock makes no file. It is advisory, and not every
-///   network file system supports it.
+///   holds it, each call returns `Failed` and does nothing. The locks make no file. They are advisory, and not every
+///   network file system supports them.
+/// - **Readers.** After [`only_read`](Disk::only_read) the folder is not locked, and each call that writes returns
+///   `Failed`. Instead, the first call waits while another process writes, and until [`rest`](Disk::rest) no other
+///   process writes. The first call that writes, and the first one after each `rest`, waits in the same way for such
+///   readers.
 /// - **Path.** The path is resolved once, when the folder is locked. After that, files are reached through the locked
 ///   folder, even if the folder is renamed or a link in its path moves. Without `/proc` the resolved path is used
 ///   instead, and each call fails once that path leads to another folder.
@@ -185,6 +189,14 @@ impl<R: Files<File = File> + Send + Drop> Disk for StdDisk<R> {
             Ok(()) => Ok(()),
             Err(e) => Err(absent_fault(&mut self.faults, &mut self.failures, e, name)),
         }
+    }
+
+    fn only_read(&self) {
+        self.folder.only_read();
+    }
+
+    fn rest(&self) {
+        self.folder.rest();
     }
 
     fn fault_count(&self) -> u64 {

@@ -1,7 +1,9 @@
 use crate::name::{Dir, FileName};
 use crate::names::Names;
+use crate::opening_lock::OpeningLock;
 use facet_io::read_retrying;
 use std::alloc::{AllocError, Global};
+use std::cell::Cell;
 use std::fs::{File, Metadata, OpenFile, OpenOptions};
 use std::io;
 use std::io::{ErrorKind, Read, Write};
@@ -10,9 +12,12 @@ use std::os::unix::fs::MetadataExt;
 use std::rt::Files;
 
 /// A folder of the operating system, with a folder in it for each directory. Each call locks the folder first, and no
-/// call unlocks it.
+/// call unlocks it. If it is only read, it is not locked.
 ///
-/// Only the locked folder is read and written. Its path is resolved once, when it is locked; where the path leads after
+/// Between the first call that writes and `rest` no other process opens the store to read it only, and while this one
+/// opens it to read it only, no other process writes it. For that the two directories' folders are locked.
+///
+/// Only the opened folder is read and written. Its path is resolved once, when it is locked; where the path leads after
 /// a rename or a moved link has no effect.
 ///
 /// Only plain files are read, synced and removed. A link to a plain file is read as that file.
@@ -23,17 +28,22 @@ pub(crate) struct HeldFolder<R: Files<File = File> + Drop> {
     alloc: Global,
     files: R,
     root: String,
-    // the folder, with its lock
-    lock: Option<File>,
-    // a path to the locked folder, the prefix of each file's path
+    // the folder, with its lock unless it is only read
+    folder: Option<File>,
+    // a path to the open folder, the prefix of each file's path
     base: String,
     // whether `base` may lead elsewhere later, so that each call checks it first
     may_move: bool,
     // whether a call found no folder, and this disk has not made it since
     was_absent: bool,
-    // whether this directory's folder was made or found by a call that makes it
-    has_taxonomy: bool,
-    has_index: bool,
+    // whether the folders of the two directories were made or found by a call that makes them
+    has_folders: bool,
+    // whether each call that writes is an error
+    is_only_read: Cell<bool>,
+    // whether a call that only reads found no folder of the index
+    had_no_index: bool,
+    // what keeps openings and commits apart, once a call has found the folder of the index
+    opening: Option<OpeningLock>,
 }
 
 impl<R: Files<File = File> + Drop> HeldFolder<R> {
@@ -44,18 +54,33 @@ impl<R: Files<File = File> + Drop> HeldFolder<R> {
             alloc,
             files,
             root,
-            lock: None,
+            folder: None,
             base: String::new(alloc),
             may_move: false,
             was_absent: false,
-            has_taxonomy: false,
-            has_index: false,
+            has_folders: false,
+            is_only_read: Cell::new(false),
+            had_no_index: false,
+            opening: None,
         })
     }
 
-    // Locks the folder, unless it is locked. If another process has locked it, the error is of the kind `WouldBlock`.
+    /// From now on each call that writes is an error. Call it before the first call that reads.
+    pub(crate) fn only_read(&self) {
+        self.is_only_read.set(true);
+    }
+
+    /// Lets other processes write the store, or open it to read it only.
+    pub(crate) fn rest(&self) {
+        if let Some(opening) = &self.opening {
+            opening.release();
+        }
+    }
+
+    // Opens the folder, unless it is open, and locks it, unless it is only read. If another process has locked it, the
+    // error is of the kind `WouldBlock`.
     fn take(&mut self) -> io::Result<()> {
-        if let Some(folder) = &self.lock {
+        if let Some(folder) = &self.folder {
             return if !self.may_move || leads_to(&self.files, &self.base, folder)? {
                 Ok(())
             } else {
@@ -63,20 +88,25 @@ impl<R: Files<File = File> + Drop> HeldFolder<R> {
             };
         }
         let folder = open_expected(&self.files, &self.root, Expected::Folder)?;
-        folder.try_lock()?;
+        if !self.is_only_read.get() {
+            folder.try_lock()?;
+        }
         let fd = folder.as_raw_fd();
         self.base = format!(in self.alloc; "/proc/self/fd/{fd}")?;
         self.may_move = !leads_to(&self.files, &self.base, &folder)?;
         if self.may_move {
             self.base = resolved_path(self.alloc, &self.files, &self.root, &folder)?;
         }
-        self.lock = Some(folder);
+        self.folder = Some(folder);
         Ok(())
     }
 
-    // Locks the folder, and returns whether it exists. If it did not exist before and another process made it since,
-    // that is an error: what this disk has reported of it is no longer true.
+    // Takes the folder, and returns whether it exists. If it did not exist before and another process made it since,
+    // that is an error: what this disk has reported of it is no longer true. If it is only read, it is then as it was.
     fn take_if_there(&mut self) -> io::Result<bool> {
+        if self.was_absent && self.is_only_read.get() {
+            return Ok(false);
+        }
         match self.take() {
             Ok(()) => if self.was_absent {
                 Err(ErrorKind::WouldBlock.into())
@@ -98,6 +128,66 @@ impl<R: Files<File = File> + Drop> HeldFolder<R> {
             Ok(())
         } else {
             Err(ErrorKind::NotFound.into())
+        }
+    }
+
+    // Opens the folders that are locked for an opening or a commit, unless they are open, and returns whether there is
+    // one of the index. The first call that writes makes it.
+    fn open_lock(&mut self) -> io::Result<bool> {
+        if self.opening.is_none() {
+            let Some(index) = self.open_folder(Dir::Index)? else {
+                return Ok(false);
+            };
+            let taxonomy = self.open_folder(Dir::Taxonomy)?;
+            self.opening = Some(OpeningLock::new(taxonomy, index));
+        }
+        Ok(true)
+    }
+
+    // Opens the folder of a directory's files, if it exists.
+    fn open_folder(&self, dir: Dir) -> io::Result<Option<File>> {
+        let path = self.folder_path(dir)?;
+        match open_expected(&self.files, &path, Expected::Folder) {
+            Ok(folder) => Ok(Some(folder)),
+            Err(e) => if e.kind() == ErrorKind::NotFound {
+                Ok(None)
+            } else {
+                Err(e)
+            },
+        }
+    }
+
+    // Takes the folder for a call that reads, and returns whether it exists. If it is only read, no other process
+    // writes it until `rest`. Without a folder of the index nothing was written that could change.
+    fn take_to_read(&mut self) -> io::Result<bool> {
+        if !self.take_if_there()? {
+            return Ok(false);
+        }
+        if self.is_only_read.get() && !self.had_no_index {
+            self.had_no_index = !self.open_lock()?;
+            if let Some(opening) = &self.opening {
+                opening.take_shared()?;
+            }
+        }
+        Ok(true)
+    }
+
+    fn check_writable(&self) -> io::Result<()> {
+        if self.is_only_read.get() {
+            Err(ErrorKind::ReadOnlyFilesystem.into())
+        } else {
+            Ok(())
+        }
+    }
+
+    // Takes the folder for a call that writes something in it. No other process opens it to read it only until `rest`.
+    fn take_to_write(&mut self) -> io::Result<()> {
+        self.check_writable()?;
+        self.take_there()?;
+        self.open_lock()?;
+        match &self.opening {
+            Some(opening) => opening.take_alone(),
+            None => Ok(()),
         }
     }
 
@@ -137,26 +227,21 @@ impl<R: Files<File = File> + Drop> HeldFolder<R> {
         self.take_there()
     }
 
-    // Makes the folders of a directory's files, if they do not exist, and syncs the folders that hold them, even if
+    // Makes the folders of the two directories, if they do not exist, and syncs the folders that hold them, even if
     // they existed: an interrupted process may have made them and not synced them, and without that a synced file is
     // not durable.
-    fn make_folders(&mut self, dir: Dir) -> io::Result<()> {
-        let is_done = match dir {
-            Dir::Taxonomy => self.has_taxonomy,
-            Dir::Index => self.has_index,
-        };
-        if is_done {
+    fn make_folders(&mut self) -> io::Result<()> {
+        if self.has_folders {
             return Ok(());
         }
-        let path = self.folder_path(dir)?;
-        self.make_folder(&path)?;
+        let taxonomy = self.folder_path(Dir::Taxonomy)?;
+        self.make_folder(&taxonomy)?;
+        let index = self.folder_path(Dir::Index)?;
+        self.make_folder(&index)?;
         let above = format!(in self.alloc; "{}/..", self.base)?;
         self.sync_path(&above, Expected::Folder)?;
         self.sync_path(&self.base, Expected::Folder)?;
-        match dir {
-            Dir::Taxonomy => self.has_taxonomy = true,
-            Dir::Index => self.has_index = true,
-        }
+        self.has_folders = true;
         Ok(())
     }
 
@@ -174,7 +259,7 @@ impl<R: Files<File = File> + Drop> HeldFolder<R> {
 
     /// Returns the names of store files in a directory's folder; none if the folder does not exist.
     pub(crate) fn list(&mut self, alloc: Global, dir: Dir) -> io::Result<Names> {
-        if !self.take_if_there()? {
+        if !self.take_to_read()? || (self.had_no_index && dir == Dir::Index) {
             return Ok(Names::new(Vec::new(alloc)));
         }
         let path = self.folder_path(dir)?;
@@ -192,7 +277,9 @@ impl<R: Files<File = File> + Drop> HeldFolder<R> {
     }
 
     pub(crate) fn read(&mut self, alloc: Global, name: FileName) -> io::Result<Vec<u8>> {
-        self.take_there()?;
+        if !self.take_to_read()? {
+            return Err(ErrorKind::NotFound.into());
+        }
         let path = self.file_path(name)?;
         let mut file = open_expected(&self.files, &path, Expected::PlainFile)?;
         let mut bytes = Vec::new(alloc);
@@ -201,10 +288,12 @@ impl<R: Files<File = File> + Drop> HeldFolder<R> {
     }
 
     pub(crate) fn put(&mut self, name: FileName, bytes: &[u8]) -> io::Result<()> {
+        self.check_writable()?;
         if !self.take_if_there()? {
             self.make_root()?;
         }
-        self.make_folders(name.dir)?;
+        self.make_folders()?;
+        self.take_to_write()?;
         let path = self.file_path(name)?;
         let mut how = OpenOptions::new();
         how.write(true);
@@ -214,7 +303,7 @@ impl<R: Files<File = File> + Drop> HeldFolder<R> {
 
     /// Syncs the file and its directory's folder.
     pub(crate) fn sync(&mut self, name: FileName) -> io::Result<()> {
-        self.take_there()?;
+        self.take_to_write()?;
         let path = self.file_path(name)?;
         self.sync_path(&path, Expected::PlainFile)?;
         let folder = self.folder_path(name.dir)?;
@@ -223,7 +312,7 @@ impl<R: Files<File = File> + Drop> HeldFolder<R> {
 
     /// Renames a file. The operating system would replace a file of the new name, so the call looks for one first.
     pub(crate) fn rename(&mut self, from: FileName, to: FileName) -> io::Result<()> {
-        self.take_there()?;
+        self.take_to_write()?;
         let old = self.file_path(from)?;
         let new = self.file_path(to)?;
         if !self.is_there(&old)? {
@@ -233,20 +322,20 @@ impl<R: Files<File = File> + Drop> HeldFolder<R> {
             return Err(ErrorKind::AlreadyExists.into());
         }
         if from.dir != to.dir {
-            self.make_folders(to.dir)?;
+            self.make_folders()?;
         }
         self.files.rename(&old, &new)
     }
 
     pub(crate) fn sync_names(&mut self, dir: Dir) -> io::Result<()> {
-        self.take_there()?;
+        self.take_to_write()?;
         let path = self.folder_path(dir)?;
         self.sync_path(&path, Expected::Folder)
     }
 
     /// Removes a plain file. It leaves any other entry in place, also a link to a plain file: no store made it.
     pub(crate) fn remove(&mut self, name: FileName) -> io::Result<()> {
-        self.take_there()?;
+        self.take_to_write()?;
         let path = self.file_path(name)?;
         if self.files.symlink_metadata(&path)?.is_file() {
             self.files.remove_file(&path)

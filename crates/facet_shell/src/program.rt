@@ -12,7 +12,7 @@ use facet_io::{ReadFault, Sink, Source, read_to_end};
 use facet_names::NoMemory;
 use facet_phases::Gate;
 use facet_serving::{Ended, Status, report_script_fault, report_status, run_generated, run_script};
-use facet_words::{ScriptFault, read_script};
+use facet_words::{Command, Order, ScriptFault, read_script};
 use std::alloc::Global;
 use std::hash::RandomState;
 use std::sync::Wait;
@@ -58,6 +58,21 @@ fn asked_by(alloc: Global, words: &[String]) -> Result<Option<Asked>, NoMemory>
     }
 }
 
+// Says to the disk that it is only read, if no command of the phases is a commit.
+fn prepare<D: Disk>(disk: &D, phases: &[Vec<Order>]) {
+    if !has_commit(phases) {
+        disk.only_read();
+    }
+}
+
+fn has_commit(phases: &[Vec<Order>]) -> bool {
+    phases.iter().any(|orders| {
+        orders
+            .iter()
+            .any(|order| matches!(order.command, Command::Commit))
+    })
+}
+
 // Reads a script from the source to its end, carries it out on the store of the disk, and writes the replies to the
 // sink. The bytes that were read are dropped before.
 fn run_read<R: Threads + Wait + Sync, S: Source, K: Sink, D: Disk, G: Gate + Sync>(
@@ -81,6 +96,7 @@ fn run_read<R: Threads + Wait + Sync, S: Source, K: Sink, D: Disk, G: Gate + Syn
             Err(fault) => report_script_fault(alloc, sink, fault, disk),
             Ok(script) => {
                 drop(input);
+                prepare(&disk, &script.phases);
                 run_script(rt, alloc, keys, sink, disk, gate, script)
             }
         },

@@ -1,6 +1,6 @@
 use crate::steps::{
-    COMMIT, Call, FAILED, HAS_COMMIT, HAS_PENDING, NO_COMMIT, NO_PENDING, OUTER, PENDING, SEGMENT,
-    Step, make_all,
+    COMMIT, Call, FAILED, HAS_COMMIT, HAS_PENDING, NO_COMMIT, NO_PENDING, NO_SEGMENT, OUTER,
+    PENDING, SEGMENT, Step, make_all,
 };
 use facet_disk::{Dir, Disk, FileName, Kind, Names, NoMemory, StdDisk};
 use std::alloc::Global;
@@ -57,6 +57,21 @@ const TAKEN: &[Call] = &[
     (Step::Remove(OUTER), Ok(0)),
 ];
 
+// What a disk returns that is only read, while another one has locked its folder.
+const READ: &[Call] = &[
+    (Step::List(Dir::Taxonomy), Ok(0)),
+    (Step::List(Dir::Index), Ok(1)),
+    (Step::Read(OUTER), Ok(3)),
+    (Step::Read(SEGMENT), NO_SEGMENT),
+    (Step::Put(SEGMENT, b"two"), FAILED),
+    (Step::Put(OUTER, b"two"), FAILED),
+    (Step::Sync(OUTER), FAILED),
+    (Step::Rename(OUTER, SEGMENT), FAILED),
+    (Step::SyncNames(Dir::Index), FAILED),
+    (Step::Remove(OUTER), FAILED),
+    (Step::Read(OUTER), Ok(3)),
+];
+
 // Returns whether each of these calls of a disk has this result, with this many faults counted.
 fn answers_all<D: Disk>(alloc: Global, disk: &mut D, calls: &[Call], faults: u64) -> bool {
     make_all(alloc, disk, calls) == calls.len() && disk.fault_count() == faults
@@ -71,6 +86,28 @@ fn is_refused<D: Disk>(alloc: Global, mut first: D, second: &mut D) -> Result<bo
 // Returns whether that is so, and the disk has the folder after the other one was dropped.
 fn waits_for<D: Disk>(alloc: Global, first: D, mut second: D) -> Result<bool, Fail> {
     Ok(is_refused(alloc, first, &mut second)? && make_all(alloc, &mut second, TAKEN) == TAKEN.len())
+}
+
+// Returns whether a disk reads, and fails each call that writes, while another one has locked its folder; and whether
+// the other one writes after this one rests. If it did not rest, the other one would wait for ever.
+fn reads_beside<D: Disk>(alloc: Global, mut first: D, mut second: D) -> Result<bool, Fail> {
+    first.put(OUTER, b"one")?;
+    first.rest();
+    second.only_read();
+    let has_read = answers_all(alloc, &mut second, READ, 7);
+    second.rest();
+    first.put(SEGMENT, b"two")?;
+    first.rest();
+    Ok(has_read && second.read(alloc, SEGMENT)?.len() == 3)
+}
+
+#[test]
+fn a_folder_that_is_only_read(rt: HostRuntime) -> Result<(), Fail> {
+    let alloc = rt.alloc();
+    let first = StdDisk::new(alloc, &rt, "read")?;
+    let second = StdDisk::new(alloc, &rt, "read")?;
+    assert!(rt; reads_beside(alloc, first, second)?);
+    Ok(())
 }
 
 // Tests a disk alone in its folder, and two in one, if there was memory to make them.

@@ -84,6 +84,9 @@ pub const NO_PENDING: Result<usize, DiskFault> = Err(DiskFault::Absent { name: P
 /// There is no commit file.
 pub const NO_COMMIT: Result<usize, DiskFault> = Err(DiskFault::Absent { name: COMMIT });
 
+/// There is no segment of labels.
+pub const NO_SEGMENT: Result<usize, DiskFault> = Err(DiskFault::Absent { name: SEGMENT });
+
 /// There is a pending commit file already.
 pub const HAS_PENDING: Result<usize, DiskFault> = Err(DiskFault::Present { name: PENDING });
 

@@ -25,60 +25,60 @@ returns-in_err-planned-clause-any_moment g c =
 pub returns-then-is_err-clause-any_moment : goal.returns-then-is_err-clause-any_moment
 returns-then-is_err-clause-any_moment g c =
     let laws = g.met.D.Disk g.world.𝓛 g.world.𝓜 g.world.𝓡 ((λ s x. x), (λ x. x), (λ x. x), λ x. x) in
-    subst (λ (old : CommitterView _). old.closed ≡ None → PassesThree g.D.Disk old (left c.self.inside.config c.in_ok-planned.planned.after c.execute_plan.new.disk) c.args.view.now (map arc_value c.args.segments.now)) c.self.view_is
-    (λ unclosed s labels segs told at on. passes g.D.Disk laws.own c.self.inside.config c.self.inside.state c.self.inside.disk c.args.view.now (map arc_value c.args.segments.now) c.in_ok-planned.planned.plan c.in_ok-planned.planned.after c.execute_plan.new.disk c.in_ok-planned.ensures.plan c.in_ok-planned.ensures.leads s labels segs told at on c.execute_plan.ensures.any_moment)
+    subst (λ (old : CommitterView _). old.closed ≡ None → PassesThree g.D.Disk old (left c.self.inside.config c.in_ok-planned.planned.after c.execute_plan-executed.new.disk) c.args.view.now (map arc_value c.args.segments.now)) c.self.view_is
+    (λ unclosed s labels segs told at on. passes g.D.Disk laws.own c.self.inside.config c.self.inside.state c.self.inside.disk c.args.view.now (map arc_value c.args.segments.now) c.in_ok-planned.planned.plan c.in_ok-planned.planned.after c.execute_plan-executed.new.disk c.in_ok-planned.ensures.plan c.in_ok-planned.ensures.leads s labels segs told at on c.execute_plan-executed.ensures.any_moment)
 
 pub returns-then-is_err-clause-now : goal.returns-then-is_err-clause-now
 returns-then-is_err-clause-now g c =
     let laws = g.met.D.Disk g.world.𝓛 g.world.𝓜 g.world.𝓡 ((λ s x. x), (λ x. x), (λ x. x), λ x. x) in
-    subst (λ (old : CommitterView _). old.closed ≡ None → LeavesThree g.D.Disk old (left c.self.inside.config c.in_ok-planned.planned.after c.execute_plan.new.disk) c.args.view.now (map arc_value c.args.segments.now)) c.self.view_is
-    (λ unclosed s labels segs told at on. ends g.D.Disk laws.own c.self.inside.config c.self.inside.state c.self.inside.disk c.args.view.now (map arc_value c.args.segments.now) c.in_ok-planned.planned.plan c.in_ok-planned.planned.after c.execute_plan.new.disk c.in_ok-planned.ensures.plan c.in_ok-planned.ensures.leads s labels segs told at on c.execute_plan.ensures.now)
+    subst (λ (old : CommitterView _). old.closed ≡ None → LeavesThree g.D.Disk old (left c.self.inside.config c.in_ok-planned.planned.after c.execute_plan-executed.new.disk) c.args.view.now (map arc_value c.args.segments.now)) c.self.view_is
+    (λ unclosed s labels segs told at on. ends g.D.Disk laws.own c.self.inside.config c.self.inside.state c.self.inside.disk c.args.view.now (map arc_value c.args.segments.now) c.in_ok-planned.planned.plan c.in_ok-planned.planned.after c.execute_plan-executed.new.disk c.in_ok-planned.ensures.plan c.in_ok-planned.ensures.leads s labels segs told at on c.execute_plan-executed.ensures.now)
 
 pub returns-clause-any_moment : goal.returns-clause-any_moment
 returns-clause-any_moment g c =
     let laws = g.met.D.Disk g.world.𝓛 g.world.𝓜 g.world.𝓡 ((λ s x. x), (λ x. x), (λ x. x), λ x. x) in
-    subst (λ (old : CommitterView _). old.closed ≡ None → PassesThree g.D.Disk old (left c.self.inside.config c.in_ok-planned.planned.after c.execute_plan.new.disk) c.args.view.now (map arc_value c.args.segments.now)) c.self.view_is
-    (λ unclosed s labels segs told at on. passes g.D.Disk laws.own c.self.inside.config c.self.inside.state c.self.inside.disk c.args.view.now (map arc_value c.args.segments.now) c.in_ok-planned.planned.plan c.in_ok-planned.planned.after c.execute_plan.new.disk c.in_ok-planned.ensures.plan c.in_ok-planned.ensures.leads s labels segs told at on c.execute_plan.ensures.any_moment)
+    subst (λ (old : CommitterView _). old.closed ≡ None → PassesThree g.D.Disk old (left c.self.inside.config c.in_ok-planned.planned.after c.execute_plan-executed.new.disk) c.args.view.now (map arc_value c.args.segments.now)) c.self.view_is
+    (λ unclosed s labels segs told at on. passes g.D.Disk laws.own c.self.inside.config c.self.inside.state c.self.inside.disk c.args.view.now (map arc_value c.args.segments.now) c.in_ok-planned.planned.plan c.in_ok-planned.planned.after c.execute_plan-executed.new.disk c.in_ok-planned.ensures.plan c.in_ok-planned.ensures.leads s labels segs told at on c.execute_plan-executed.ensures.any_moment)
 
 pub returns-clause-now : goal.returns-clause-now
 returns-clause-now g c =
     let laws = g.met.D.Disk g.world.𝓛 g.world.𝓜 g.world.𝓡 ((λ s x. x), (λ x. x), (λ x. x), λ x. x) in
-    subst (λ (old : CommitterView _). old.closed ≡ None → LeavesThree g.D.Disk old (left c.self.inside.config c.in_ok-planned.planned.after c.execute_plan.new.disk) c.args.view.now (map arc_value c.args.segments.now)) c.self.view_is
-    (λ unclosed s labels segs told at on. ends g.D.Disk laws.own c.self.inside.config c.self.inside.state c.self.inside.disk c.args.view.now (map arc_value c.args.segments.now) c.in_ok-planned.planned.plan c.in_ok-planned.planned.after c.execute_plan.new.disk c.in_ok-planned.ensures.plan c.in_ok-planned.ensures.leads s labels segs told at on c.execute_plan.ensures.now)
+    subst (λ (old : CommitterView _). old.closed ≡ None → LeavesThree g.D.Disk old (left c.self.inside.config c.in_ok-planned.planned.after c.execute_plan-executed.new.disk) c.args.view.now (map arc_value c.args.segments.now)) c.self.view_is
+    (λ unclosed s labels segs told at on. ends g.D.Disk laws.own c.self.inside.config c.self.inside.state c.self.inside.disk c.args.view.now (map arc_value c.args.segments.now) c.in_ok-planned.planned.plan c.in_ok-planned.planned.after c.execute_plan-executed.new.disk c.in_ok-planned.ensures.plan c.in_ok-planned.ensures.leads s labels segs told at on c.execute_plan-executed.ensures.now)
 
 pub returns-clause-acknowledged : goal.returns-clause-acknowledged
 returns-clause-acknowledged g c =
     let laws = g.met.D.Disk g.world.𝓛 g.world.𝓜 g.world.𝓡 ((λ s x. x), (λ x. x), (λ x. x), λ x. x) in
-    let fine : is_err c.execute_plan.result ≡ false = search rules in
-    subst (λ (old : CommitterView _). Acknowledges g.D.Disk old (left c.self.inside.config c.in_ok-planned.planned.after c.execute_plan.new.disk) c.args.view.now (map arc_value c.args.segments.now)) c.self.view_is
-    (λ s labels segs told at on. acknowledged g.D.Disk laws.own c.self.inside.config c.self.inside.state c.self.inside.disk c.args.view.now (map arc_value c.args.segments.now) c.in_ok-planned.planned.plan c.in_ok-planned.planned.after c.execute_plan.new.disk c.in_ok-planned.ensures.plan c.in_ok-planned.ensures.leads s labels segs told at on (on_ok c.execute_plan.result _ c.execute_plan.ensures.done fine))
+    let fine : is_err c.execute_plan-executed.result ≡ false = search rules in
+    subst (λ (old : CommitterView _). Acknowledges g.D.Disk old (left c.self.inside.config c.in_ok-planned.planned.after c.execute_plan-executed.new.disk) c.args.view.now (map arc_value c.args.segments.now)) c.self.view_is
+    (λ s labels segs told at on. acknowledged g.D.Disk laws.own c.self.inside.config c.self.inside.state c.self.inside.disk c.args.view.now (map arc_value c.args.segments.now) c.in_ok-planned.planned.plan c.in_ok-planned.planned.after c.execute_plan-executed.new.disk c.in_ok-planned.ensures.plan c.in_ok-planned.ensures.leads s labels segs told at on (on_ok c.execute_plan-executed.result _ c.execute_plan-executed.ensures.done fine))
 
 pub returns-clause-settled : goal.returns-clause-settled
 returns-clause-settled g c =
     let laws = g.met.D.Disk g.world.𝓛 g.world.𝓜 g.world.𝓡 ((λ s x. x), (λ x. x), (λ x. x), λ x. x) in
-    let fine : is_err c.execute_plan.result ≡ false = search rules in
-    subst (λ (old : CommitterView _). Settles g.D.Disk old (left c.self.inside.config c.in_ok-planned.planned.after c.execute_plan.new.disk) c.args.view.now (map arc_value c.args.segments.now)) c.self.view_is
-    (λ s u labels segs told then at on empty. settles g.D.Disk laws.own c.self.inside.config c.self.inside.state c.self.inside.disk c.args.view.now (map arc_value c.args.segments.now) c.in_ok-planned.planned.plan c.in_ok-planned.planned.after c.execute_plan.new.disk c.in_ok-planned.ensures.plan c.in_ok-planned.ensures.leads s labels segs told at on (on_ok c.execute_plan.result _ c.execute_plan.ensures.done fine) empty u then)
+    let fine : is_err c.execute_plan-executed.result ≡ false = search rules in
+    subst (λ (old : CommitterView _). Settles g.D.Disk old (left c.self.inside.config c.in_ok-planned.planned.after c.execute_plan-executed.new.disk) c.args.view.now (map arc_value c.args.segments.now)) c.self.view_is
+    (λ s u labels segs told then at on empty. settles g.D.Disk laws.own c.self.inside.config c.self.inside.state c.self.inside.disk c.args.view.now (map arc_value c.args.segments.now) c.in_ok-planned.planned.plan c.in_ok-planned.planned.after c.execute_plan-executed.new.disk c.in_ok-planned.ensures.plan c.in_ok-planned.ensures.leads s labels segs told at on (on_ok c.execute_plan-executed.result _ c.execute_plan-executed.ensures.done fine) empty u then)
 
 pub returns-clause-told : goal.returns-clause-told
 returns-clause-told g c =
     let laws = g.met.D.Disk g.world.𝓛 g.world.𝓜 g.world.𝓡 ((λ s x. x), (λ x. x), (λ x. x), λ x. x) in
-    let fine : is_err c.execute_plan.result ≡ false = search rules in
-    subst (λ (old : CommitterView _). TellsCommit g.D.Disk old (left c.self.inside.config c.in_ok-planned.planned.after c.execute_plan.new.disk) c.args.view.now (map arc_value c.args.segments.now)) c.self.view_is
-    (tells g.D.Disk laws.own c.self.inside.config c.self.inside.state c.self.inside.disk c.args.view.now (map arc_value c.args.segments.now) c.in_ok-planned.planned.plan c.in_ok-planned.planned.after c.execute_plan.new.disk c.in_ok-planned.ensures.plan c.in_ok-planned.ensures.leads (on_ok c.execute_plan.result _ c.execute_plan.ensures.told fine))
+    let fine : is_err c.execute_plan-executed.result ≡ false = search rules in
+    subst (λ (old : CommitterView _). TellsCommit g.D.Disk old (left c.self.inside.config c.in_ok-planned.planned.after c.execute_plan-executed.new.disk) c.args.view.now (map arc_value c.args.segments.now)) c.self.view_is
+    (tells g.D.Disk laws.own c.self.inside.config c.self.inside.state c.self.inside.disk c.args.view.now (map arc_value c.args.segments.now) c.in_ok-planned.planned.plan c.in_ok-planned.planned.after c.execute_plan-executed.new.disk c.in_ok-planned.ensures.plan c.in_ok-planned.ensures.leads (on_ok c.execute_plan-executed.result _ c.execute_plan-executed.ensures.told fine))
 
 pub returns-clause-tells : goal.returns-clause-tells
 returns-clause-tells g c =
-    let fine : is_err c.execute_plan.result ≡ false = search rules in
-    subst (λ (old : CommitterView _). (s : Told) → g.D.Disk.told old.disk ≡ Some s → (u : Told) × (g.D.Disk.told c.execute_plan.new.disk ≡ Some u)) c.self.view_is
-    (λ s told. (carried_told c.in_ok-planned.planned.plan s, on_ok c.execute_plan.result _ c.execute_plan.ensures.told fine s told))
+    let fine : is_err c.execute_plan-executed.result ≡ false = search rules in
+    subst (λ (old : CommitterView _). (s : Told) → g.D.Disk.told old.disk ≡ Some s → (u : Told) × (g.D.Disk.told c.execute_plan-executed.new.disk ≡ Some u)) c.self.view_is
+    (λ s told. (carried_told c.in_ok-planned.planned.plan s, on_ok c.execute_plan-executed.result _ c.execute_plan-executed.ensures.told fine s told))
 
 pub returns-then-is_err-clause-tells : goal.returns-then-is_err-clause-tells
 returns-then-is_err-clause-tells g c =
     let laws = g.met.D.Disk g.world.𝓛 g.world.𝓜 g.world.𝓡 ((λ s x. x), (λ x. x), (λ x. x), λ x. x) in
-    let fault : is_err c.execute_plan.result ≡ true = search rules in
-    subst (λ (old : CommitterView _). (s : Told) → g.D.Disk.told old.disk ≡ Some s → (u : Told) × (g.D.Disk.told c.execute_plan.new.disk ≡ Some u)) c.self.view_is
-    (tells_still g.D.Disk laws.own c.self.inside.config c.self.inside.state c.self.inside.disk c.args.view.now (map arc_value c.args.segments.now) c.in_ok-planned.planned.plan c.in_ok-planned.planned.after c.execute_plan.new.disk c.in_ok-planned.ensures.plan c.in_ok-planned.ensures.leads (on_fault c.execute_plan.result _ c.execute_plan.ensures.cut_short fault))
+    let fault : is_err c.execute_plan-executed.result ≡ true = search rules in
+    subst (λ (old : CommitterView _). (s : Told) → g.D.Disk.told old.disk ≡ Some s → (u : Told) × (g.D.Disk.told c.execute_plan-executed.new.disk ≡ Some u)) c.self.view_is
+    (tells_still g.D.Disk laws.own c.self.inside.config c.self.inside.state c.self.inside.disk c.args.view.now (map arc_value c.args.segments.now) c.in_ok-planned.planned.plan c.in_ok-planned.planned.after c.execute_plan-executed.new.disk c.in_ok-planned.ensures.plan c.in_ok-planned.ensures.leads (on_fault c.execute_plan-executed.result _ c.execute_plan-executed.ensures.cut_short fault))
 
 pub returns-in_err-planned-clause-tells : goal.returns-in_err-planned-clause-tells
 returns-in_err-planned-clause-tells g c =
@@ -87,36 +87,36 @@ returns-in_err-planned-clause-tells g c =
 pub returns-clause-cleaned : goal.returns-clause-cleaned
 returns-clause-cleaned g c =
     let laws = g.met.D.Disk g.world.𝓛 g.world.𝓜 g.world.𝓡 ((λ s x. x), (λ x. x), (λ x. x), λ x. x) in
-    let fine : is_err c.execute_plan.result ≡ false = search rules in
-    subst (λ (old : CommitterView _). OfBoth g.D.Disk old.disk c.execute_plan.new.disk (λ s u. AreAmong s.files old.state.listed → AreAmong u.files c.in_ok-planned.planned.after.listed)) c.self.view_is
-    (cleaned g.D.Disk laws.own c.self.inside.config c.self.inside.state c.self.inside.disk c.args.view.now (map arc_value c.args.segments.now) c.in_ok-planned.planned.plan c.in_ok-planned.planned.after c.execute_plan.new.disk c.in_ok-planned.ensures.plan c.in_ok-planned.ensures.leads (on_ok c.execute_plan.result _ c.execute_plan.ensures.told fine))
+    let fine : is_err c.execute_plan-executed.result ≡ false = search rules in
+    subst (λ (old : CommitterView _). OfBoth g.D.Disk old.disk c.execute_plan-executed.new.disk (λ s u. AreAmong s.files old.state.listed → AreAmong u.files c.in_ok-planned.planned.after.listed)) c.self.view_is
+    (cleaned g.D.Disk laws.own c.self.inside.config c.self.inside.state c.self.inside.disk c.args.view.now (map arc_value c.args.segments.now) c.in_ok-planned.planned.plan c.in_ok-planned.planned.after c.execute_plan-executed.new.disk c.in_ok-planned.ensures.plan c.in_ok-planned.ensures.leads (on_ok c.execute_plan-executed.result _ c.execute_plan-executed.ensures.told fine))
 
 pub returns-clause-listed : goal.returns-clause-listed
 returns-clause-listed g c =
     let laws = g.met.D.Disk g.world.𝓛 g.world.𝓜 g.world.𝓡 ((λ s x. x), (λ x. x), (λ x. x), λ x. x) in
-    let fine : is_err c.execute_plan.result ≡ false = search rules in
-    subst (λ (old : CommitterView _). StaysListed g.D.Disk old (left c.self.inside.config c.in_ok-planned.planned.after c.execute_plan.new.disk)) c.self.view_is
-    (stays_listed g.D.Disk laws.own c.self.inside.config c.self.inside.state c.self.inside.disk c.args.view.now (map arc_value c.args.segments.now) c.in_ok-planned.planned.plan c.in_ok-planned.planned.after c.execute_plan.new.disk c.in_ok-planned.ensures.plan c.in_ok-planned.ensures.leads (on_ok c.execute_plan.result _ c.execute_plan.ensures.told fine))
+    let fine : is_err c.execute_plan-executed.result ≡ false = search rules in
+    subst (λ (old : CommitterView _). StaysListed g.D.Disk old (left c.self.inside.config c.in_ok-planned.planned.after c.execute_plan-executed.new.disk)) c.self.view_is
+    (stays_listed g.D.Disk laws.own c.self.inside.config c.self.inside.state c.self.inside.disk c.args.view.now (map arc_value c.args.segments.now) c.in_ok-planned.planned.plan c.in_ok-planned.planned.after c.execute_plan-executed.new.disk c.in_ok-planned.ensures.plan c.in_ok-planned.ensures.leads (on_ok c.execute_plan-executed.result _ c.execute_plan-executed.ensures.told fine))
 
 pub returns-clause-named : goal.returns-clause-named
 returns-clause-named g c =
     let laws = g.met.D.Disk g.world.𝓛 g.world.𝓜 g.world.𝓡 ((λ s x. x), (λ x. x), (λ x. x), λ x. x) in
-    let fine : is_err c.execute_plan.result ≡ false = search rules in
-    subst (λ (old : CommitterView _). OfBoth g.D.Disk old.disk c.execute_plan.new.disk (λ s u. HasNamed s.files old.state → HasNamed u.files c.in_ok-planned.planned.after)) c.self.view_is
-    (named_still g.D.Disk laws.own c.self.inside.config c.self.inside.state c.self.inside.disk c.args.view.now (map arc_value c.args.segments.now) c.in_ok-planned.planned.plan c.in_ok-planned.planned.after c.execute_plan.new.disk c.in_ok-planned.ensures.plan c.in_ok-planned.ensures.leads (on_ok c.execute_plan.result _ c.execute_plan.ensures.told fine))
+    let fine : is_err c.execute_plan-executed.result ≡ false = search rules in
+    subst (λ (old : CommitterView _). OfBoth g.D.Disk old.disk c.execute_plan-executed.new.disk (λ s u. HasNamed s.files old.state → HasNamed u.files c.in_ok-planned.planned.after)) c.self.view_is
+    (named_still g.D.Disk laws.own c.self.inside.config c.self.inside.state c.self.inside.disk c.args.view.now (map arc_value c.args.segments.now) c.in_ok-planned.planned.plan c.in_ok-planned.planned.after c.execute_plan-executed.new.disk c.in_ok-planned.ensures.plan c.in_ok-planned.ensures.leads (on_ok c.execute_plan-executed.result _ c.execute_plan-executed.ensures.told fine))
 
 pub returns-then-is_err-clause-cut_short : goal.returns-then-is_err-clause-cut_short
 returns-then-is_err-clause-cut_short g c =
     let laws = g.met.D.Disk g.world.𝓛 g.world.𝓜 g.world.𝓡 ((λ s x. x), (λ x. x), (λ x. x), λ x. x) in
-    let fault : is_err c.execute_plan.result ≡ true = search rules in
-    λ count e. subst (λ (old : CommitterView _). CutsShort g.D.Disk old (left c.self.inside.config c.in_ok-planned.planned.after c.execute_plan.new.disk) c.args.view.now (map arc_value c.args.segments.now)) c.self.view_is
-    (cut_short g.D.Disk laws.own c.self.inside.config c.self.inside.state c.self.inside.disk c.args.view.now (map arc_value c.args.segments.now) c.in_ok-planned.planned.plan c.in_ok-planned.planned.after c.execute_plan.new.disk c.in_ok-planned.ensures.plan c.in_ok-planned.ensures.leads (on_fault c.execute_plan.result _ c.execute_plan.ensures.cut_short fault))
+    let fault : is_err c.execute_plan-executed.result ≡ true = search rules in
+    λ count e. subst (λ (old : CommitterView _). CutsShort g.D.Disk old (left c.self.inside.config c.in_ok-planned.planned.after c.execute_plan-executed.new.disk) c.args.view.now (map arc_value c.args.segments.now)) c.self.view_is
+    (cut_short g.D.Disk laws.own c.self.inside.config c.self.inside.state c.self.inside.disk c.args.view.now (map arc_value c.args.segments.now) c.in_ok-planned.planned.plan c.in_ok-planned.planned.after c.execute_plan-executed.new.disk c.in_ok-planned.ensures.plan c.in_ok-planned.ensures.leads (on_fault c.execute_plan-executed.result _ c.execute_plan-executed.ensures.cut_short fault))
 
 pub returns-then-is_err-clause-failed : goal.returns-then-is_err-clause-failed
 returns-then-is_err-clause-failed g c =
-    let fault : is_err c.execute_plan.result ≡ true = search rules in
-    λ count e. subst (λ (old : CommitterView _). FailsDevice g.D.Disk old (left c.self.inside.config c.in_ok-planned.planned.after c.execute_plan.new.disk)) c.self.view_is
-    (λ s told listed below. on_fault c.execute_plan.result _ (c.execute_plan.ensures.failed s told
+    let fault : is_err c.execute_plan-executed.result ≡ true = search rules in
+    λ count e. subst (λ (old : CommitterView _). FailsDevice g.D.Disk old (left c.self.inside.config c.in_ok-planned.planned.after c.execute_plan-executed.new.disk)) c.self.view_is
+    (λ s told listed below. on_fault c.execute_plan-executed.result _ (c.execute_plan-executed.ensures.failed s told
     (plan_fits c.self.inside.config c.self.inside.state c.args.view.now (map arc_value c.args.segments.now) c.in_ok-planned.planned.plan c.in_ok-planned.planned.after c.in_ok-planned.ensures.plan s.files listed below)) fault)
 
 pub returns-then-is_err-clause-refused : goal.returns-then-is_err-clause-refused
@@ -126,6 +126,6 @@ returns-then-is_err-clause-refused g c =
 pub returns-clause-fresh : goal.returns-clause-fresh
 returns-clause-fresh g c =
     let laws = g.met.D.Disk g.world.𝓛 g.world.𝓜 g.world.𝓡 ((λ s x. x), (λ x. x), (λ x. x), λ x. x) in
-    let fine : is_err c.execute_plan.result ≡ false = search rules in
-    subst (λ (old : CommitterView _). OfBoth g.D.Disk old.disk c.execute_plan.new.disk (λ s u. Below old.state.next s.files → Below c.in_ok-planned.planned.after.next u.files)) c.self.view_is
-    (fresh g.D.Disk laws.own c.self.inside.config c.self.inside.state c.self.inside.disk c.args.view.now (map arc_value c.args.segments.now) c.in_ok-planned.planned.plan c.in_ok-planned.planned.after c.execute_plan.new.disk c.in_ok-planned.ensures.plan c.in_ok-planned.ensures.leads (on_ok c.execute_plan.result _ c.execute_plan.ensures.names fine))
+    let fine : is_err c.execute_plan-executed.result ≡ false = search rules in
+    subst (λ (old : CommitterView _). OfBoth g.D.Disk old.disk c.execute_plan-executed.new.disk (λ s u. Below old.state.next s.files → Below c.in_ok-planned.planned.after.next u.files)) c.self.view_is
+    (fresh g.D.Disk laws.own c.self.inside.config c.self.inside.state c.self.inside.disk c.args.view.now (map arc_value c.args.segments.now) c.in_ok-planned.planned.plan c.in_ok-planned.planned.after c.execute_plan-executed.new.disk c.in_ok-planned.ensures.plan c.in_ok-planned.ensures.leads (on_ok c.execute_plan-executed.result _ c.execute_plan-executed.ensures.names fine))

@@ -21,8 +21,8 @@ returns-clause-committed g c = λ s is settled.
     let below : Below n.next s.files = λ name some. c.in-Ok.ensures.below name ((c.in-Ok.ensures.listed s is).all name some) in
     let laws = g.met.D.Disk g.world.𝓛 g.world.𝓜 g.world.𝓡 ((λ s x. x), (λ x. x), (λ x. x), λ x. x) in
     let at = settled_stands g.D.Disk c.args.disk (laws.numbered c.args.disk) config s (record { labels = labels; segments = ss }) n.next settled files_are below in
-    let after = at_unchanged g.D.Disk n.next (held_in Taxonomy s.files) (held_in Index s.files) c.args.disk c.read_store.new.disk c.in-Ok.ensures.read.quiet at in
-    subst (λ (st : Committed). IsCommittedAt g.D.Disk config st c.read_store.new.disk labels ss) (sym state)
+    let after = at_unchanged g.D.Disk n.next (held_in Taxonomy s.files) (held_in Index s.files) c.args.disk c.read_store-read.new.disk c.in-Ok.ensures.read.quiet at in
+    subst (λ (st : Committed). IsCommittedAt g.D.Disk config st c.read_store-read.new.disk labels ss) (sym state)
     (record { taxonomy = held_in Taxonomy s.files; index = held_in Index s.files; stands = after; known = known })
 
 pub returns-clause-named : goal.returns-clause-named
