@@ -1,6 +1,6 @@
 -- Which counters a label counts for.
-use Rattle.std.specs.Prelude.{◌≡◌, ◌<◌, ◌≤◌, ℕ, ℤ, negsuc, nat_eq, All, Bool, List, [], ◌∷◌}
-use Rattle.std.specs.Prelude.{length, map, slice_get, slice_index_or, Some, MatchOption}
+use Rattle.std.specs.Prelude.{◌≡◌, ◌<◌, ◌≤◌, ◌==◌, ◌||◌, if◌then◌else◌, ℕ, ℤ, negsuc, nat_eq, All, Bool, List, [], ◌∷◌}
+use Rattle.std.specs.Prelude.{length, map, slice_get, slice_index_or, Option, Some, None, MatchOption}
 use Rattle.std.specs.List.{list_any}
 use Rattle.std.specs.declared.alloc.Global.{Global}
 use Rattle.std.specs.declared.vec.Vec.{Vec}
@@ -18,6 +18,19 @@ counters_of marks ord = slice_index_or marks.rows (slice_index_or marks.slots or
 
 abbrev pub is_marked : Marked → ℕ → ℕ → Bool
 is_marked marks k ord = list_any (nat_eq k) (counters_of marks ord)
+
+-- a counter is in the row of a slot
+abbrev pub is_in_row : List (List ℕ) → ℕ → ℕ → Bool
+is_in_row rows k slot = list_any (nat_eq k) (slice_index_or rows slot [])
+
+-- the slot of both, if one of them is the first slot or they are equal
+abbrev pub joined_slot : ℕ → ℕ → Option ℕ
+joined_slot one other = if one == 0 || one == other then Some other else (if other == 0 then Some one else None)
+
+-- The row of the slot has the counters that one of these labels counts for.
+pub record IsSlotOfAll (marks : Marked) (leaves : List ℕ) (slot : ℕ) : Type 0 where
+  pub within : slot < length marks.rows
+  pub same : (k : ℕ) → list_any (is_marked marks k) leaves ≡ is_in_row marks.rows k slot
 
 abbrev pub marked_of : List ℕ → List (Vec ℕ Global) → Marked
 marked_of slots rows = record { slots = slots; rows = map (λ (row : Vec ℕ Global). row.items) rows }

@@ -30,4 +30,5 @@ pub record IsRangeCounter (q : RangeQuestion) (left : List PartLeft) (marked : M
   pub bounds : List (ℤ × ℤ)
   pub are_bounds : AreBounds q.ranges bounds
   pub marks : AreMarks q.labels q.dim bounds marked
-  pub fresh : tally ≡ record { counts = replicate (length q.ranges + 1) 0; hits = 0 }
+  pub fresh : tally
+      ≡ record { counts = replicate (length q.ranges + 1) 0; rows = replicate (length marked.rows) 0; hits = 0 }

@@ -1,11 +1,13 @@
 //! The numbers of the labels of a dimension, and the counters that each of them counts for.
-ghost use Rattle.std.specs.Prelude.{◌≡◌, ◌==◌, ◌<◌, ◌≤◌, ◌^◌, length, slice_index_or, IfOk, IfSome};
+ghost use Rattle.std.specs.Prelude.{◌≡◌, ◌==◌, ◌+◌, ◌<◌, ◌≤◌, ◌^◌, length, slice_index_or, [], IfOk, IfSome};
 ghost use Rattle.value_facets.specs.Cuts.{AreRising};
-ghost use Rattle.value_facets.specs.Marking.{AreMarks, AreSlots, IsParentOfValues, IsSlot, counters_of};
+ghost use Rattle.value_facets.specs.Marking.{AreMarks, AreSlots, IsParentOfValues, IsSlot, IsSlotOfAll, counters_of};
+ghost use Rattle.value_facets.specs.Marking.{joined_slot};
 
 use crate::cuts::{cuts_of, rank_of, rows_of};
 use facet_names::{NoMemory, Path, PathFault};
 use number_facets::read_number;
+use seg_postings::Ords;
 use std::alloc::Global;
 use std::marker::Model;
 use taxo_list::{Labelled, TaxoView};
@@ -18,14 +20,16 @@ pub(crate) struct Marks {
 }
 
 impl Model for Marks {
-    ghost use Rattle.std.specs.Prelude.{◌<◌, All, length};
+    ghost use Rattle.std.specs.Prelude.{◌≡◌, ◌+◌, ◌^◌, ◌<◌, ◌≤◌, All, [], length};
+    ghost use Rattle.value_facets.specs.Cuts.{row_at};
     ghost use Rattle.value_facets.specs.Marking.{Marked, marked_of};
 
     ghost Value = { Marked };
 
     ghost view = { λ m. marked_of m.slots.items m.rows.items };
 
-    ghost invariant = { λ m. (0 < length m.rows.items) × All (λ slot. slot < length m.rows.items) m.slots.items };
+    ghost invariant = { λ m. (0 < length m.rows.items) × All (λ slot. slot < length m.rows.items) m.slots.items
+        × (row_at m.rows.items 0 ≡ []) × (length m.rows.items ≤ 2 ^ 31 + 1) };
 }
 
 // Returns the ordinal of the dimension, which is the parent of each label with a value, or -1 if the view does not have
@@ -104,6 +108,19 @@ fn slots_of(alloc: Global, view: &TaxoView, dim: &str, cuts: &[i64]) -> Result<V
     Ok(slots)
 }
 
+// Returns the slot of both, if one of them is the first slot, which has no counter, or they are equal.
+fn joined(one: usize, other: usize) -> Option<usize>
+    ensures { result ≡ joined_slot one other }
+{
+    if one == 0 || one == other {
+        Some(other)
+    } else if other == 0 {
+        Some(one)
+    } else {
+        None
+    }
+}
+
 impl Marks {
     /// Returns the counters of each label of a view: those of the bounds that have the label's number in a dimension.
     /// Errors: out of memory.
@@ -139,5 +156,45 @@ impl Marks {
         ensures { result.now ≡ counters_of self.now ord }
     {
         &self.rows[self.slot(ord)]
+    }
+
+    // Returns the first slot, whose row has no counter.
+    fn none_slot(&self) -> usize
+        ensures zero { result ≡ 0 }
+        ensures some { 0 < length self.now.rows }
+        ensures none { slice_index_or self.now.rows 0 [] ≡ [] }
+    {
+        let _rows = &self.rows;
+        0
+    }
+
+    /// Returns how many rows of counters there are.
+    pub(crate) fn rows(&self) -> usize
+        ensures rows { result ≡ length self.now.rows }
+        ensures few { result ≤ 2 ^ 31 + 1 }
+    {
+        self.rows.len()
+    }
+
+    /// Returns the counters in a row.
+    pub(crate) fn row(&self, slot: usize) -> &[u32]
+        requires { slot < length self.now.rows }
+        ensures { result.now ≡ slice_index_or self.now.rows slot [] }
+    {
+        &self.rows[slot]
+    }
+
+    /// Returns the row of the counters that these labels count for, or `None` if their numbers have several rows.
+    pub(crate) fn slot_of_all(&self, leaves: &Ords<'_>) -> Option<usize>
+        ensures { IfSome result (IsSlotOfAll self.now leaves.now) }
+    {
+        let mut slot = self.none_slot();
+        for i in 0..leaves.len() {
+            match joined(slot, self.slot(leaves.at(i))) {
+                Some(both) => slot = both,
+                None => return None,
+            }
+        }
+        Some(slot)
     }
 }

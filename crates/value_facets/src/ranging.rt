@@ -35,7 +35,7 @@ use taxo_list::TaxoView;
 /// its numbers are in it. Ranges may overlap, be equal, have equal names, or be empty.
 ///
 /// Memory: 4 bytes per label of the view; for each segment the plan of the search, or a set of one bit per record; for
-/// n ranges 32 bytes for each of up to 2n + 1 cuts, and 4 for each range that has the cut.
+/// n ranges 36 bytes for each of up to 2n + 1 cuts, and 4 for each range that has the cut.
 #[derive(Drop)]
 pub struct RangeCounter<'a> {
     view: &'a TaxoView,
@@ -137,7 +137,7 @@ impl<'a> RangeCounter<'a> {
         let parts = parts_of(alloc, segments, query, drill)?;
         let bounds = bounds_of(alloc, ranges)?;
         let marks = Marks::new(alloc, view, dim, &bounds)?;
-        let tally = Tally::new(alloc, ranges.len() + 1)?;
+        let tally = Tally::new(alloc, ranges.len() + 1, marks.rows())?;
         Ok(RangeCounter {
             view,
             segments,
@@ -151,8 +151,10 @@ impl<'a> RangeCounter<'a> {
         })
     }
 
-    /// Counts the documents. It visits each hit once, and each label of a hit: one look-up in a table, and one step for
-    /// each range that the label's number is in. It allocates nothing and cannot fail.
+    /// Counts the documents. It visits each hit once, and each label of a hit: one look-up in a table. A hit whose
+    /// numbers have the same last cut up to them takes one step more, and any other one for each range that a label's
+    /// number is in. In the end it takes one step for each cut and each range that has it. It allocates nothing and
+    /// cannot fail.
     pub fn run(self) -> RangeCounts
         ensures { (config : Config) (docs : List Doc) → Decodes self.entry.labels config self.entry.segments docs
             → result ≡ record {
@@ -168,6 +170,6 @@ impl<'a> RangeCounter<'a> {
             ..
         } = self;
         count_parts(segments, &mut parts, &marks, &mut tally);
-        tally.into_counts()
+        tally.into_counts(&marks)
     }
 }
