@@ -37,7 +37,7 @@ fn shared(lease: &Lease) -> Result<Arc<Pair>, PairFault>
 impl<D: Disk, N: Name + Start> System<D, N> {
     /// Returns a shared reference to the pair that is held under the name `on`. Without a name, it is the pair that was
     /// published last. So it is the pair that [`search`](System::search) sees, and a reply to a command that looks at
-    /// it is one of the session. It stays in memory until the reference is dropped. Other threads may read it meanwhile.
+    /// it is one of the session. It stays in memory until the reference is dropped; other threads may read it too.
     ///
     /// Locks: without a name, that of the pairs. So it waits for a refresh in progress. It copies nothing.
     ///

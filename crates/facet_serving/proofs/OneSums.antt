@@ -1,6 +1,6 @@
 -- Sums are determined by the documents and the dimension.
-use Rattle.std.proofs.Common.{◌≡◌, ℕ, ℤ, suc, ◌+◌, ◌<◌, Bool, true, false, cond, List, [], ◌∷◌, length, take, refl, sym, ap, subst, ◌∙◌, arith, rules}
-use Rattle.std.specs.Prelude.{count_by, nat_lt, All}
+use Rattle.std.proofs.Common.{◌≡◌, ℕ, ℤ, suc, ◌+◌, ◌<◌, Bool, true, false, cond, List, [], ◌∷◌, take, refl, sym, ap, subst, ◌∙◌, arith, rules}
+use Rattle.std.specs.Prelude.{count_by, All}
 use Rattle.std.specs.Str.{bytes_eq}
 use Rattle.std.specs.List.Sorted.{IsSorted}
 use Rattle.std.specs.Ordering.{nat_cmp, int_cmp, is_lt}
@@ -11,7 +11,7 @@ use Rattle.std.proofs.lemmas.List.Sums.{sum_by-cons}
 use Rattle.std.proofs.lemmas.Map.Lookups.{exact_bytes}
 use Rattle.facet_names.proofs.Ordered.{neither_is_less, second_is_equal, tail_sorted, first_is_first}
 use Rattle.facet_model.specs.Documents.{Doc}
-use Rattle.number_facets.specs.Values.{PartSum, AreSums, IsSums, int_sum, sums_cmp, weights}
+use Rattle.number_facets.specs.Values.{PartSum, IsSums, int_sum, sums_cmp, weights}
 
 abbrev times : List ℕ → List PartSum → ℕ
 times q cs = count_by (λ c. bytes_eq q c.0) cs
