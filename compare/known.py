@@ -15,6 +15,10 @@ SUMS = '{"s":1,"cmd":"sums","dim":"genre","n":10}'
 BAD_SHAPE = {"fault": "bad_shape", "line": 2}
 
 
+def search(keys: str) -> str:
+    return '{"s":1,"cmd":"search",%s}' % keys
+
+
 def one_range(keys: str) -> str:
     return '{"s":1,"cmd":"ranges","dim":"price","ranges":[{%s}]}' % keys
 
@@ -65,6 +69,21 @@ READ: list[tuple[str, dict | None]] = [
     ('{"s":18446744073709551616,"cmd":"stats"}', {"fault": "bad_shape", "line": 2}),
     ('{"s":-1,"cmd":"stats"}', {"fault": "bad_shape", "line": 2}),
     ('{"s":65,"cmd":"hold","name":""}', {"fault": "bad_shape", "line": 2}),
+    (search('"newest":true,"show":true'), None),
+    (search('"newest":false,"show":false,"hits":1000000'), None),
+    (search('"newest":true,"from":1000000,"hits":1000000'), None),
+    (search('"show":true,"hits":1000'), None),
+    (search('"hits":1001,"show":true'), BAD_SHAPE),
+    (search('"hits":1001,"show":false'), None),
+    (search('"show":1'), BAD_SHAPE),
+    (search('"show":"true"'), BAD_SHAPE),
+    (search('"show":null'), BAD_SHAPE),
+    (search('"newest":0'), BAD_SHAPE),
+    (search('"newest":[]'), BAD_SHAPE),
+    (search('"newest":null'), BAD_SHAPE),
+    (search('"Newest":true'), BAD_SHAPE),
+    ('{"s":1,"cmd":"document","at":0,"show":true}', BAD_SHAPE),
+    ('{"s":1,"cmd":"stats","newest":true}', BAD_SHAPE),
     (RANGES, None),
     (SUMS, None),
     (RANGES.replace('"dim"', '"on":"a","query":{"term":"go"},"drill":[["Author"]],"dim"'), None),
@@ -78,6 +97,8 @@ READ: list[tuple[str, dict | None]] = [
     (SUMS.replace('"genre"', '""'), BAD_SHAPE),
     (SUMS.replace("dim", "dims"), BAD_SHAPE),
     (RANGES.replace('"dim"', '"sideways":true,"dim"'), BAD_SHAPE),
+    (RANGES.replace('"dim"', '"newest":true,"dim"'), BAD_SHAPE),
+    (SUMS.replace('"dim"', '"show":true,"dim"'), BAD_SHAPE),
     ('{"s":1,"cmd":"ranges","dim":"price","ranges":[]}', BAD_SHAPE),
     ('{"s":1,"cmd":"ranges","dim":"price"}', BAD_SHAPE),
     (one_range('"name":"","min":0,"max":1'), BAD_SHAPE),
@@ -235,6 +256,23 @@ ALONE: list[tuple[str, list[str], list[str]]] = [
             '{"line":5,"n":2,"s":1,"sums":[["b",7],["a",-1],["e",-1]]}',
             '{"line":6,"n":2,"s":1,"sums":[["b",7],["a",-1]]}',
             '{"labels":[[0,"genre"],[1,"b"],[2,"5"],[2,"1"],[1,"e"],[5,"-1"],[1,"c"],[7,"2147483648"],[1,"a"],[9,"-1"],[1,"4"]],"opened":[0,1],"order":[1,1]}',
+        ],
+    ),
+    (
+        CONFIG,
+        [BOB, REFRESH, LISA.replace('"facets"', '"text":"go","facets"'), REFRESH]
+        + [search('"newest":true'), search('"newest":true,"hits":1,"show":true'), search('"newest":true,"from":1,"hits":1'), search('"show":true')],
+        [
+            '{"at":0,"line":2,"s":1}',
+            '{"line":3,"n":1,"s":1}',
+            '{"at":1,"line":4,"s":1}',
+            '{"line":5,"n":2,"s":1}',
+            '{"hit_count":2,"hits":[{"at":1,"id":"b2"},{"at":0,"id":"b1"}],"line":6,"n":2,"results":[],"s":1}',
+            '{"hit_count":2,"hits":[{"at":1,"id":"b2","labels":[["Author","Lisa"]],"text":"go"}],"line":7,"n":2,"results":[],"s":1}',
+            '{"hit_count":2,"hits":[{"at":0,"id":"b1"}],"line":8,"n":2,"results":[],"s":1}',
+            '{"hit_count":2,"hits":[{"at":0,"id":"b1","labels":[["Author","Bob"]],"text":""},{"at":1,"id":"b2","labels":[["Author","Lisa"]],"text":"go"}]'
+            + ',"line":9,"n":2,"results":[],"s":1}',
+            '{"labels":[[0,"Author"],[1,"Bob"],[1,"Lisa"]],"opened":[0,1],"order":[1,1]}',
         ],
     ),
     (
@@ -399,6 +437,15 @@ def summed(last: str) -> list[str]:
     return [last, '{"labels":[],"opened":[0,1],"order":[]}']
 
 
+def found(hits: str) -> list[str]:
+    """A search lists these hits of two documents."""
+    last = '{"labels":[[0,"Author"],[1,"Bob"],[1,"Lisa"]],"opened":[0,1],"order":[1,1]}'
+    reply = '{"hit_count":2,"hits":%s,"line":5,"n":2,"results":[],"s":1}' % hits
+    return ['{"at":0,"line":2,"s":1}', '{"at":1,"line":3,"s":1}', '{"line":4,"n":2,"s":1}', reply, last]
+
+
+NEWEST = [BOB, LISA, REFRESH, search('"newest":true')]
+SHOWN = [BOB, LISA, REFRESH, search('"hits":1,"show":true')]
 RANGED = ['{"s":1,"cmd":"add","id":"b1","facets":[["price","10"]]}', REFRESH, RANGES]
 TOLD = [COMMIT, '{"s":2,"cmd":"commit"}', '{"s":2,"cmd":"commit"}']
 
@@ -444,6 +491,14 @@ JUDGED: list[tuple[str, list[str], list[str], str | None]] = [
     (CONFIG, [MERGE], ['{"line":2,"merged":true,"n":0,"s":1}', '{"labels":[],"opened":[0,1],"order":[]}'], "replies"),
     (CONFIG, [MERGE], ['{"line":2,"n":0,"s":1}', '{"labels":[],"opened":[0,1],"order":[]}'], "replies"),
     (CONFIG, [MERGE], ['{"count":1,"line":2,"refused":"closed","s":1}', '{"labels":[],"opened":[0,1],"order":[]}'], "replies"),
+    # hits are listed from the last document on if that is asked for, and have their content only then
+    (CONFIG, NEWEST, found('[{"at":1,"id":"b2"},{"at":0,"id":"b1"}]'), None),
+    (CONFIG, NEWEST, found('[{"at":0,"id":"b1"},{"at":1,"id":"b2"}]'), "replies"),
+    (CONFIG, NEWEST, found('[{"at":1,"id":"b2","labels":[["Author","Lisa"]],"text":""},{"at":0,"id":"b1"}]'), "replies"),
+    (CONFIG, SHOWN, found('[{"at":0,"id":"b1","labels":[["Author","Bob"]],"text":""}]'), None),
+    (CONFIG, SHOWN, found('[{"at":0,"id":"b1","text":"","labels":[["Author","Bob"]]}]'), "bytes"),
+    (CONFIG, SHOWN, found('[{"at":0,"id":"b1","labels":[["Author","Lisa"]],"text":""}]'), "replies"),
+    (CONFIG, SHOWN, found('[{"at":0,"id":"b1"}]'), "replies"),
     # ranges and sums are those of the pair whose number the reply tells, or there is no memory
     (CONFIG, RANGED, ranged('{"line":4,"n":1,"ranges":[["low",1],["mid",0]],"s":1,"valued":1}'), None),
     (CONFIG, RANGED, ranged('{"line":4,"n":0,"ranges":[["low",0],["mid",0]],"s":1,"valued":0}'), "pairs"),

@@ -114,9 +114,14 @@ def search(random):
         "sideways": lambda: random.random() < 0.7,
         "from": lambda: random.choice([0, 1, 2, 5, 1000000]),
         "hits": lambda: random.choice([0, 1, 3, 1000000]),
+        "newest": lambda: random.random() < 0.6,
+        "show": lambda: random.random() < 0.6,
         "ask": lambda: some(random, 4, lambda: ask(random)),
     }
-    return with_some(random, {"s": 1, "cmd": "search"}, keys)
+    order = with_some(random, {"s": 1, "cmd": "search"}, keys)
+    if order.get("show", False) and "hits" in order:
+        order["hits"] = min(order["hits"], 1000)
+    return order
 
 
 def bound(random):
@@ -248,7 +253,9 @@ LIMITS = {
     "facets": [[], [["A", "a"]] * 256, [["A", "a"]] * 257],
     "at": [0, 2**32 - 1, 2**32],
     "from": [0, 1000000, 1000001],
-    "hits": [0, 1000000, 1000001],
+    "hits": [0, 1000, 1001, 1000000, 1000001],
+    "newest": [True, False, None, 0, 1, "true", []],
+    "show": [True, False, None, 0, 1, "true", []],
     "drill": [[], [["A"]] * 256, [["A"]] * 257],
     "ask": [[], [{"all": 1}] * 64, [{"all": 1}] * 65],
     "n": [0, 2**32 - 1, 2**32],

@@ -349,6 +349,29 @@ def another_page(output: Output) -> bool:
     return True
 
 
+def hits_in_the_other_order(output: Output) -> bool:
+    places = [place for place in output.all("search", "hits") if len(output.lines[place]["hits"]) > 1]
+    if not places:
+        return False
+    output.lines[output.random.choice(places)]["hits"].reverse()
+    return True
+
+
+def another_content(output: Output) -> bool:
+    """A hit that is shown has another text or lacks its labels, or one that is not shown has both."""
+    places = [place for place in output.all("search", "hits") if output.lines[place]["hits"]]
+    if not places:
+        return False
+    hit = output.random.choice(output.lines[output.random.choice(places)]["hits"])
+    if "text" not in hit:
+        hit.update({"text": "", "labels": []})
+    elif output.random.random() < 0.5:
+        hit["text"] += "!"
+    else:
+        del hit["labels"]
+    return True
+
+
 def held_after_release(output: Output) -> bool:
     """A name that is held is said not to be, or the other way round."""
     places = output.refused("not_held") + output.refused("held_already") + output.all("release", "n")
@@ -439,6 +462,8 @@ MUTATIONS: list[tuple[Callable[[Output], bool], set[str]]] = [
     (another_sum, {"replies"}),
     (another_text, {"replies"}),
     (another_page, {"replies"}),
+    (hits_in_the_other_order, {"replies"}),
+    (another_content, {"replies"}),
     (held_after_release, {"replies"}),
     (too_few_labels, {"publications", "replies"}),
     (too_many_labels, {"publications", "replies"}),

@@ -321,9 +321,17 @@ class Session:
         def documents_for(dim):
             return [document for document in seen if passes(document, dim if order.get("sideways", False) else None)]
 
-        hits = [{"at": at, "id": document.id} for at, document in enumerate(seen) if passes(document)]
+        hits = [(at, document) for at, document in enumerate(seen) if passes(document)]
         results = [self.answer(ask, seen, documents_for) for ask in asks]
-        return {"n": self.taken, "hit_count": len(hits), "hits": hits[order.get("from", 0) :][: order.get("hits", 10)], "results": results}
+        return {"n": self.taken, "hit_count": len(hits), "hits": self.listed(order, hits), "results": results}
+
+    def listed(self, order, hits):
+        """The page of these hits that a search lists, each with its text and labels if the search shows them."""
+        in_order = hits[::-1] if order.get("newest", False) else hits
+        page = in_order[order.get("from", 0) :][: order.get("hits", 10)]
+        if not order.get("show", False):
+            return [{"at": at, "id": document.id} for at, document in page]
+        return [{"at": at, "id": document.id, "text": document.text, "labels": [list(label) for label in document.labels]} for at, document in page]
 
     def ranges(self, order):
         found = [values(document, order["dim"]) for document in filter(self.passing(order), self.documents[: self.taken])]

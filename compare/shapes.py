@@ -135,6 +135,8 @@ COMMANDS = {
             "sideways": is_truth,
             "from": lambda first: is_whole(first, 0, 1000000),
             "hits": lambda hits: is_whole(hits, 0, 1000000),
+            "newest": is_truth,
+            "show": is_truth,
             "ask": lambda asks: is_list(asks, 64, is_ask),
         },
     ),
@@ -142,7 +144,9 @@ COMMANDS = {
 
 
 def is_order(value):
-    return any(is_object(value, {"cmd": is_command(name), "s": is_whole, **due}, free) for name, (due, free) in COMMANDS.items())
+    if not any(is_object(value, {"cmd": is_command(name), "s": is_whole, **due}, free) for name, (due, free) in COMMANDS.items()):
+        return False
+    return not value.get("show", False) or value.get("hits", 10) <= 1000
 
 
 def is_phase(value):

@@ -200,6 +200,8 @@ fn ask_of(line: SearchLine) -> SearchAsk
         query: line.query,
         drill: line.drill,
         asks: line.asks,
+        newest: line.newest,
+        show: line.show,
         from: line.from,
         hits: line.hits,
         sideways: line.sideways,

@@ -9,11 +9,11 @@ use Rattle.facet_output.specs.Answered.{Answered, of_session}
 use Rattle.facet_output.specs.Replying.{RightReplies}
 use Rattle.facet_output.specs.Output.{IsOutput, pairs_of}
 use Rattle.facet_model.proofs.Samples.{author, bob, lisa}
-use Rattle.facet_output.proofs.Samples.{empty_store, plain_settings, order, answer, answer_at, by_one, each_session, one_hit}
+use Rattle.facet_output.proofs.Samples.{empty_store, plain_settings, order, answer, answer_at, by_one, each_session, hit, one_hit}
 use Rattle.facet_output.proofs.PairTests.{pairs_from, places_from}
 
 abbrev pub everything : Search
-everything = record { query = all; drill = []; sideways = false; asks = []; from = 0; hits = 10 }
+everything = record { query = all; drill = []; sideways = false; asks = []; newest = false; show = false; from = 0; hits = 10 }
 
 abbrev pub name : List ℕ
 name = codes "a"
@@ -32,7 +32,7 @@ abbrev published : List (ℕ × (ℕ × ℕ))
 published = (0, (0, 1)) ∷ (1, (1, 3)) ∷ (1, (2, 4)) ∷ []
 
 abbrev pub two_hits : Reply
-two_hits = found (record { operations = 2; hit_count = 2; hits = (0, codes "b1") ∷ (1, codes "b2") ∷ []; answers = [] })
+two_hits = found (record { operations = 2; hit_count = 2; hits = hit 0 (codes "b1") ∷ hit 1 (codes "b2") ∷ []; answers = [] })
 
 abbrev answered : List Answered
 answered = answer 2 (add bob) None (placed 0) ∷ answer_at 1 3 refresh None (numbered 1) ∷ answer_at 1 4 (hold name) (Some (1, 3)) (numbered 1)

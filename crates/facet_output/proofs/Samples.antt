@@ -6,7 +6,7 @@ use Rattle.facet_model.specs.Documents.{Doc}
 use Rattle.facet_model.specs.Histories.{Operation}
 use Rattle.facet_model.proofs.Samples.{author}
 use Rattle.facet_words.specs.Commands.{Settings, Order, Command}
-use Rattle.facet_replies.specs.Replies.{Reply, found}
+use Rattle.facet_replies.specs.Replies.{Hit, Reply, found}
 use Rattle.facet_output.specs.Answered.{Answered}
 use Rattle.facet_output.specs.Output.{Opened}
 
@@ -40,9 +40,13 @@ each_session P one others s = by_test s (eqb 1 s) refl
     by_test s true e = subst P (eqb-true 1 s e) one
     by_test s false e = others s e
 
+-- a hit that is listed without its content
+abbrev pub hit : ℕ → List ℕ → Hit
+hit at id = record { at = at; id = id; content = None }
+
 -- Bob's document is the one hit
 abbrev pub one_hit : Reply
-one_hit = found (record { operations = 1; hit_count = 1; hits = (0, codes "b1") ∷ []; answers = [] })
+one_hit = found (record { operations = 1; hit_count = 1; hits = hit 0 (codes "b1") ∷ []; answers = [] })
 
 abbrev pub bobs_labels : List (List (List ℕ))
 bobs_labels = [] ∷ (codes "Author" ∷ []) ∷ author (codes "Bob") ∷ []

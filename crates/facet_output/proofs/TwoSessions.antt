@@ -11,7 +11,7 @@ use Rattle.facet_output.specs.Output.{IsOutput, pairs_of}
 use Rattle.std.specs.List.{list_all}
 use Rattle.std.specs.Option.{option_map_or}
 use Rattle.facet_model.proofs.Samples.{author, bob, lisa}
-use Rattle.facet_output.proofs.Samples.{empty_store, plain_settings, by_one, bobs_labels}
+use Rattle.facet_output.proofs.Samples.{empty_store, plain_settings, by_one, bobs_labels, hit}
 use Rattle.facet_output.proofs.Holding.{everything}
 use Rattle.facet_output.proofs.Refuted.{three_labels, dated}
 use Rattle.facet_output.proofs.PairTests.{pairs_from, pairs_to, places_from, places_to, right_pair_test, at_test}
@@ -82,7 +82,7 @@ both = record { session = 2; doc = lisa } ∷ by_one bob ∷ []
 
 -- Lisa's document came first
 abbrev pub two_swapped : Reply
-two_swapped = found (record { operations = 2; hit_count = 2; hits = (0, codes "b2") ∷ (1, codes "b1") ∷ []; answers = [] })
+two_swapped = found (record { operations = 2; hit_count = 2; hits = hit 0 (codes "b2") ∷ hit 1 (codes "b1") ∷ []; answers = [] })
 
 abbrev pub none_found : Reply
 none_found = found (record { operations = 0; hit_count = 0; hits = []; answers = [] })

@@ -1,5 +1,5 @@
 -- No reply and no fault has a float.
-use Rattle.std.proofs.Common.{◌≡◌, ℕ, false, List, [], ◌∷◌, map, Some, None, refl}
+use Rattle.std.proofs.Common.{◌≡◌, ℕ, false, List, [], ◌∷◌, map, Option, Some, None, refl}
 use Rattle.std.specs.Borrow.{Bor}
 use Rattle.std.specs.Cmp.Lexicographic.{slice_cmp}
 use Rattle.std.proofs.Common.{Ordering, Less, Equal, Greater}
@@ -13,7 +13,7 @@ use Rattle.serde_json.specs.Written.{has_float, items_have_float, members_have_f
 use Rattle.facet_model.specs.Listing.{PartCount}
 use Rattle.facet_model.specs.Results.{Listed, Answer, top_answer, value_answer, dims_answer}
 use Rattle.facet_model.specs.Accepts.{no_component, not_hierarchical, not_multi_valued}
-use Rattle.facet_replies.specs.Replies.{broken, labels_full, docs_full, not_held, held_already, top_zero, dim_value_not_kept, no_such_document, disk_failed, closed, numbers_spent, no_memory, Reply, placed, numbered, found, shown, stats, ranged, summed, merged, refused}
+use Rattle.facet_replies.specs.Replies.{Content, Hit, broken, labels_full, docs_full, not_held, held_already, top_zero, dim_value_not_kept, no_such_document, disk_failed, closed, numbers_spent, no_memory, Reply, placed, numbered, found, shown, stats, ranged, summed, merged, refused}
 use Rattle.facet_replies.specs.ReplyLines.{with_fields, whole_data, path_data, child_data, listed_data, value_data, dims_data, answer_data, hit_data, range_data, sum_data, reply_data}
 use Rattle.facet_replies.specs.LastLine.{label_data, last_data}
 use Rattle.facet_replies.specs.NamedFaults.{detail_field, named_fault_data}
@@ -50,11 +50,6 @@ dims_plain : (rs : List Listed) → has_float (dims_data rs) ≡ false
 unfolding dims_data
 dims_plain rs = rw (all_plain rs) refl
 
-hits_plain : (hits : List (ℕ × List ℕ)) → items_have_float (items_of (map hit_data hits)) ≡ false
-unfolding hit_data
-hits_plain [] = refl
-hits_plain (hit ∷ hits) = hits_plain hits
-
 answers_plain : (answers : List Answer) → items_have_float (items_of (map answer_data answers)) ≡ false
 answers_plain [] = refl
 answers_plain (top_answer None ∷ answers) = answers_plain answers
@@ -65,6 +60,15 @@ answers_plain (dims_answer rs ∷ answers) = rw (dims_plain rs) (answers_plain a
 paths_plain : (paths : List (List (List ℕ))) → items_have_float (items_of (map path_data paths)) ≡ false
 paths_plain [] = refl
 paths_plain (p ∷ ps) = rw (path_plain p) (paths_plain ps)
+
+hit_plain : (at : ℕ) (id : List ℕ) (content : Option Content) → has_float (hit_data (record { at = at; id = id; content = content })) ≡ false
+unfolding hit_data
+hit_plain at id None = refl
+hit_plain at id (Some c) = rw (paths_plain c.labels) refl
+
+hits_plain : (hits : List Hit) → items_have_float (items_of (map hit_data hits)) ≡ false
+hits_plain [] = refl
+hits_plain (h ∷ hs) = rw (hit_plain h.at h.id h.content) (hits_plain hs)
 
 wholes_plain : (ns : List ℕ) → items_have_float (items_of (map whole_data ns)) ≡ false
 wholes_plain [] = refl

@@ -1,5 +1,5 @@
 -- Replies, as plain data.
-use Rattle.std.specs.Prelude.{ℕ, ℤ, List}
+use Rattle.std.specs.Prelude.{ℕ, ℤ, List, Option}
 use Rattle.facet_model.specs.Accepts.{Broken}
 use Rattle.facet_model.specs.Documents.{Doc}
 use Rattle.facet_model.specs.Results.{Answer}
@@ -22,12 +22,23 @@ pub data Refusal : Type 0 where
   numbers_spent : ℕ → Refusal
   no_memory : Refusal
 
--- the number of operations that a search saw, and what it found of them: how many hits, the first of them with their
--- places and ids, and the answers to the asks
+-- what a search shows of a document: its text and its labels
+pub record Content : Type 0 where
+  pub text : List ℕ
+  pub labels : List (List (List ℕ))
+
+-- a hit's place among all documents and its id, and if the search shows its hits, their content
+pub record Hit : Type 0 where
+  pub at : ℕ
+  pub id : List ℕ
+  pub content : Option Content
+
+-- the number of operations that a search saw, and what it found of them: how many hits, those that it lists, and the
+-- answers to the asks
 pub record Found : Type 0 where
   pub operations : ℕ
   pub hit_count : ℕ
-  pub hits : List (ℕ × List ℕ)
+  pub hits : List Hit
   pub answers : List Answer
 
 -- the number of operations that were seen, and the document at a place of them with the ordinals of its labels

@@ -1,5 +1,5 @@
 -- The lines that replies are written as.
-use Rattle.std.specs.Prelude.{ℕ, ℤ, true, List, [], ◌∷◌, ◌++◌, codes, map, Some, None}
+use Rattle.std.specs.Prelude.{ℕ, ℤ, true, List, [], ◌∷◌, ◌++◌, codes, map, Option, Some, None}
 use Rattle.serde_json.specs.Data.{Data, null, boolean, number, string, array, object, unsigned, no_items, item, Members}
 use Rattle.serde_json.specs.Data.{no_members, put}
 use Rattle.serde_json.specs.Find.{of_integer}
@@ -9,6 +9,7 @@ use Rattle.facet_model.specs.Accepts.{Broken, no_component, not_hierarchical, no
 use Rattle.facet_model.specs.Documents.{Doc}
 use Rattle.facet_model.specs.Listing.{PartCount}
 use Rattle.facet_model.specs.Results.{Listed, Answer, top_answer, value_answer, dims_answer}
+use Rattle.facet_replies.specs.Replies.{Content, Hit}
 use Rattle.facet_replies.specs.Replies.{Refusal, broken, labels_full, docs_full, not_held, held_already, top_zero}
 use Rattle.facet_replies.specs.Replies.{dim_value_not_kept, no_such_document, disk_failed, closed, numbers_spent}
 use Rattle.facet_replies.specs.Replies.{no_memory, Reply, placed, numbered, found, shown, stats, ranged, summed}
@@ -62,9 +63,15 @@ answer_data (top_answer (Some r)) = listed_data r
 answer_data (value_answer path value) = value_data path value
 answer_data (dims_answer rs) = dims_data rs
 
--- a hit's place and its id
-unfoldable pub hit_data : ℕ × List ℕ → Data
-hit_data hit = fields ((codes "at", whole_data hit.0) ∷ (codes "id", string hit.1) ∷ [])
+-- the content that is shown of a hit
+abbrev pub content_fields : Option Content → Fields
+content_fields None = []
+content_fields (Some c) = (codes "labels", list_data path_data c.labels) ∷ (codes "text", string c.text) ∷ []
+
+-- a hit's place and its id, and its content if that is shown
+unfoldable pub hit_data : Hit → Data
+hit_data hit =
+    fields ((codes "at", whole_data hit.at) ∷ (codes "id", string hit.id) ∷ content_fields hit.content)
 
 -- [the range's name, the number of documents in it]
 abbrev pub range_data : List ℕ × ℕ → Data

@@ -1,9 +1,10 @@
 -- The plain data of replies.
-use Rattle.std.specs.Prelude.{ℕ, List, map, string_bytes}
+use Rattle.std.specs.Prelude.{ℕ, List, map, option_map, string_bytes}
 use Rattle.facet_model.specs.Accepts.{no_component, not_hierarchical, not_multi_valued}
 use Rattle.facet_model.specs.ResultViews.{answer_view}
 use Rattle.number_facets.specs.SumViews.{sum_view}
 use Rattle.facet_replies.specs.Replies as plain
+use Rattle.facet_replies.specs.declared.reply.Content.{Content}
 use Rattle.facet_replies.specs.declared.reply.HitLine.{HitLine}
 use Rattle.facet_replies.specs.declared.reply.RangeLine.{RangeLine}
 use Rattle.facet_replies.specs.declared.reply.Refusal.{Refusal}
@@ -11,9 +12,11 @@ use Rattle.facet_replies.specs.declared.reply.Refusal.TheVariants as refusals
 use Rattle.facet_replies.specs.declared.reply.Reply.{Reply}
 use Rattle.facet_replies.specs.declared.reply.Reply.TheVariants as replies
 
--- a hit's place and its id
-abbrev pub hit_view : HitLine → ℕ × List ℕ
-hit_view h = (h.at, h.id)
+abbrev pub content_view : Content → plain.Content
+content_view c = record { text = string_bytes c.text; labels = c.labels.items }
+
+abbrev pub hit_view : HitLine → plain.Hit
+hit_view h = record { at = h.at; id = h.id; content = option_map content_view h.content }
 
 -- a range's name and the number of documents in it
 abbrev pub range_view : RangeLine → List ℕ × ℕ

@@ -12,6 +12,6 @@ mod writing;
 
 pub use last_line::write_last_line;
 pub use named_fault::{Detail, write_named_fault};
-pub use reply::{HitLine, RangeLine, Refusal, Reply};
+pub use reply::{Content, HitLine, RangeLine, Refusal, Reply};
 pub use summary::{Summary, write_summary};
 pub use writing::write_reply;

@@ -1,5 +1,15 @@
 use facet_model::{Document, FacetAnswer, Word};
+use facet_names::Path;
 use number_facets::Sum;
+
+/// What a search shows of a document.
+#[derive(Debug, Drop)]
+pub struct Content {
+    /// The document's text.
+    pub text: String,
+    /// The document's labels.
+    pub labels: Vec<Path>,
+}
 
 /// A hit of a search: the document's place in the snapshot, from 0, and its id.
 #[derive(Debug, Drop)]
@@ -8,6 +18,8 @@ pub struct HitLine {
     pub at: u32,
     /// The document's id.
     pub id: Word,
+    /// What the search shows of the document, if it does.
+    pub content: Option<Content>,
 }
 
 /// A range's name, and how many documents have a number in the range.

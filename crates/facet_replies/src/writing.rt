@@ -1,17 +1,17 @@
-ghost use Rattle.std.specs.Prelude.{◌≡◌, ◌++◌, IfOk, OnOk, OnErr, false, string_bytes, map};
+ghost use Rattle.std.specs.Prelude.{◌≡◌, ◌++◌, Some, IfOk, OnOk, OnErr, false, string_bytes, map};
 ghost use Rattle.serde_json.specs.View.{view, members_view};
 ghost use Rattle.serde_json.specs.Written.{has_float};
 ghost use Rattle.facet_model.specs.ResultViews.{answer_view};
 ghost use Rattle.number_facets.specs.SumViews.{sum_view};
 ghost use Rattle.facet_replies.specs.Replies.{placed, found, shown, stats, ranged, summed};
-ghost use Rattle.facet_replies.specs.ReplyLines.{with_fields, whole_data, list_data, hit_data, document_fields};
-ghost use Rattle.facet_replies.specs.ReplyLines.{range_data, sum_data};
+ghost use Rattle.facet_replies.specs.ReplyLines.{with_fields, whole_data, list_data, content_fields, hit_data};
+ghost use Rattle.facet_replies.specs.ReplyLines.{document_fields, range_data, sum_data};
 ghost use Rattle.facet_replies.specs.ReplyLines.{reply_fields as fields_of_reply, reply_data, json_line, reply_line};
-ghost use Rattle.facet_replies.specs.ReplyViews.{hit_view, range_view, reply_view};
+ghost use Rattle.facet_replies.specs.ReplyViews.{content_view, hit_view, range_view, reply_view};
 
 use crate::answers::{answers_value, paths_value};
 use crate::refusals::{put_refusal, put_text};
-use crate::reply::{HitLine, RangeLine, Reply};
+use crate::reply::{Content, HitLine, RangeLine, Reply};
 use crate::values::{ToValue, list_value};
 use facet_model::{Document, FacetAnswer};
 use facet_names::NoMemory;
@@ -20,19 +20,43 @@ use serde_json::{Map, Value, json, put};
 use std::alloc::{AllocError, Global};
 use std::fmt::Write;
 
+fn put_content(
+    alloc: Global,
+    fields: &mut Map<String, Value>,
+    content: &Content,
+) -> Result<(), NoMemory>
+    ensures { OnOk result (members_view fields.new.entries ≡ with_fields (members_view fields.old.entries)
+        (content_fields (Some (content_view content.now)))) }
+{
+    put(
+        fields,
+        alloc,
+        "labels",
+        paths_value(alloc, &content.labels)?,
+    )?;
+    put_text(alloc, fields, "text", &content.text)?;
+    Ok(())
+}
+
 #[tactic(auto, unfolding(crate::specs::ReplyLines::hit_data))]
 fn hit_value(alloc: Global, hit: &HitLine) -> Result<Value, NoMemory>
     ensures { IfOk result (λ v. view v ≡ hit_data (hit_view hit.now)) }
 {
-    Ok(json!(in alloc; {"at": hit.at, "id": hit.id.text()})?)
+    let mut fields = Map::new(alloc);
+    put(&mut fields, alloc, "at", Value::from(hit.at))?;
+    put_text(alloc, &mut fields, "id", hit.id.text())?;
+    if let Some(content) = &hit.content {
+        put_content(alloc, &mut fields, content)?;
+    }
+    Ok(Value::Object(fields))
 }
 
 impl ToValue for HitLine {
-    ghost use Rattle.std.specs.Prelude.{ℕ, List};
+    ghost use Rattle.facet_replies.specs.Replies.{Hit};
     ghost use Rattle.facet_replies.specs.ReplyLines.{hit_data};
     ghost use Rattle.facet_replies.specs.ReplyViews.{hit_view};
 
-    ghost Plain = { ℕ × List ℕ };
+    ghost Plain = { Hit };
 
     ghost plain = { hit_view };
 

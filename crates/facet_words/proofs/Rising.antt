@@ -24,9 +24,9 @@ pub of_ok : {A : Type 0} {a b : A} → ◌≡◌ {A = Result A ScriptFault} (Ok 
 of_ok e = cc
 
 -- the order is of this line, and its session is one
-record IsOrderOf (line : ℕ) (o : Order) : Type 0 where
-  at : o.line ≡ line
-  session : is_within 1 64 o.session ≡ true
+pub record IsOrderOf (line : ℕ) (o : Order) : Type 0 where
+  pub at : o.line ≡ line
+  pub session : is_within 1 64 o.session ≡ true
 
 session_order : (line : ℕ) (c : ℕ × Command) (o : Order) → in_session line c ≡ Ok o → IsOrderOf line o
 session_order line c o is = by (is_within 1 64 c.0) refl is
@@ -51,7 +51,7 @@ line_order line d o is = by (ends_phase d) is
         let t = first_then (order_of line d) (λ o. Ok (Some o)) (Some o) is in
         subst (IsOrderOf line) (same_Some _ _ (of_ok t.2)) (data_order line d t.0 t.1)
 
-bytes_order : (line : ℕ) (bytes : List ℕ) (o : Order) → line_at line bytes ≡ Ok (Some o) → IsOrderOf line o
+pub bytes_order : (line : ℕ) (bytes : List ℕ) (o : Order) → line_at line bytes ≡ Ok (Some o) → IsOrderOf line o
 unfolding line_at
 bytes_order line bytes o is =
     let t = first_then (or_fault (NotJson line) (line_data bytes)) (line_of line) (Some o) is in

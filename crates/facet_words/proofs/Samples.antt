@@ -1,12 +1,12 @@
--- Values of the commands `ranges` and `sums`, and some that have another form.
-use Rattle.std.proofs.Common.{◌≡◌, ℕ, ℤ, pos, neg_ℤ, true, false, List, [], ◌∷◌, ◌++◌, Option, Some, None, refl, codes}
+-- Values of the commands `ranges`, `sums` and `search`, and some that have another form.
+use Rattle.std.proofs.Common.{◌≡◌, ℕ, Bool, ℤ, pos, neg_ℤ, true, false, List, [], ◌∷◌, ◌++◌, Option, Some, None, refl, codes}
 use Rattle.std.specs.Prelude.{option_and_then}
 use Rattle.serde_json.specs.Read.{read}
 use Rattle.serde_json.proofs.OnLiterals.{serde_json_on_literals}
 use Rattle.facet_model.specs.Queries.{all, term}
 use Rattle.number_facets.specs.Values.{Range}
-use Rattle.facet_words.specs.Commands.{Command, ranges, sums}
-use Rattle.facet_words.specs.CommandLines.{counted_with, range_of, heading_of, ranges_of, sums_of, command_named, command_of}
+use Rattle.facet_words.specs.Commands.{Command, ranges, search, sums}
+use Rattle.facet_words.specs.CommandLines.{counted_with, range_of, search_with, heading_of, search_of, ranges_of, sums_of, command_named, command_of}
 use Rattle.facet_words.specs.Queries.{query_of, query_within, all_query, term_query}
 use Rattle.facet_words.specs.Shapes.{path}
 
@@ -116,3 +116,28 @@ no_number = refl
 sideways_too : command (codes "{\"s\":1,\"cmd\":\"sums\",\"dim\":\"genre\",\"n\":1,\"sideways\":true}") ≡ None
 unfolding counted_with heading_of sums_of command_named command_of serde_json_on_literals
 sideways_too = refl
+
+-- ---- the hits of a search
+
+abbrev listing : Bool → Bool → ℕ → Option (ℕ × Command)
+listing newest show hits = Some (1, search None (record { query = all; drill = []; sideways = false; asks = []; newest = newest; show = show; from = 0; hits = hits }))
+
+last_shown : command (codes "{\"s\":1,\"cmd\":\"search\",\"newest\":true,\"show\":true,\"hits\":1000}") ≡ listing true true 1000
+unfolding search_with heading_of search_of command_named command_of serde_json_on_literals
+last_shown = refl
+
+neither : command (codes "{\"s\":1,\"cmd\":\"search\",\"newest\":false,\"show\":false,\"hits\":1000000}") ≡ listing false false 1000000
+unfolding search_with heading_of search_of command_named command_of serde_json_on_literals
+neither = refl
+
+ten_last : command (codes "{\"s\":1,\"cmd\":\"search\",\"newest\":true}") ≡ listing true false 10
+unfolding search_with heading_of search_of command_named command_of serde_json_on_literals
+ten_last = refl
+
+too_many_shown : command (codes "{\"s\":1,\"cmd\":\"search\",\"show\":true,\"hits\":1001}") ≡ None
+unfolding search_with heading_of search_of command_named command_of serde_json_on_literals
+too_many_shown = refl
+
+no_flag : command (codes "{\"s\":1,\"cmd\":\"search\",\"newest\":1}") ≡ None
+unfolding search_with heading_of search_of command_named command_of serde_json_on_literals
+no_flag = refl

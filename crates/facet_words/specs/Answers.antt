@@ -1,6 +1,6 @@
 -- Which replies to a session that runs alone are right, and which lines they are.
 use Rattle.std.specs.Prelude.{◌≡◌, ◌≤◌, ◌⊎◌, ◌^◌, ℕ, zero, suc, max, nat_le, nat_lt, if◌then◌else◌, Bool, true, false}
-use Rattle.std.specs.Prelude.{List, [], ◌∷◌, ◌++◌, length, take, map, filter, filter_map, flat_map, fold, slice_get}
+use Rattle.std.specs.Prelude.{List, [], ◌∷◌, ◌++◌, length, take, map, filter, filter_map, flat_map, fold, reverse, slice_get}
 use Rattle.std.specs.Prelude.{Option, Some, None, is_none, option_map}
 use Rattle.std.specs.List.{AllZip, enumerate_from}
 use Rattle.std.specs.Prelude.{drop}
@@ -14,6 +14,7 @@ use Rattle.facet_model.specs.Hits.{hits, is_hit, docs_for}
 use Rattle.number_facets.specs.Values.{Range, PartSum, range_count, valued, IsSums}
 use Rattle.facet_words.specs.Commands.{Settings, Search, Counted, Command, add, refresh, hold, release, search, ranges}
 use Rattle.facet_words.specs.Commands.{sums, document, stats, commit, merge, Order}
+use Rattle.facet_replies.specs.Replies.{Content, Hit}
 use Rattle.facet_replies.specs.Replies.{Refusal, broken, labels_full, docs_full, top_zero, dim_value_not_kept}
 use Rattle.facet_replies.specs.Replies.{no_such_document, disk_failed, closed, numbers_spent, no_memory, Reply, placed}
 use Rattle.facet_replies.specs.Replies.{numbered, found, shown, stats as numbers, ranged, summed, merged, refused}
@@ -71,16 +72,29 @@ LeavesSome settings shelf doc None next = (k : ℕ) × (length shelf.labels ≤ 
 abbrev pub hits_of : List Doc → Search → List Doc
 hits_of docs s = hits docs s.query s.drill
 
--- The hits that a search lists: so many after those that it passes, each with its place among all the documents and its
--- id.
-abbrev pub first_hits : List Doc → Search → List (ℕ × List ℕ)
-first_hits docs s = take s.hits
-    (drop s.from (map (λ e. (e.0, e.1.id)) (filter (λ e. is_hit s.query s.drill e.1) (enumerate_from 0 docs))))
+-- what is shown of a document
+abbrev pub content_of : Doc → Content
+content_of doc = record { text = doc.text; labels = doc.labels }
 
--- a search that passes no hit lists the first ones
+-- the document at a place as a hit, with or without its content
+abbrev pub hit_of : Bool → ℕ × Doc → Hit
+hit_of show e = record { at = e.0; id = e.1.id; content = if show then Some (content_of e.1) else None }
+
+-- in order, or from the last one on
+abbrev pub in_order : {A : Type 0} → Bool → List A → List A
+in_order newest xs = if newest then reverse xs else xs
+
+-- the hits that a search lists: so many after those that it passes
+abbrev pub first_hits : List Doc → Search → List Hit
+first_hits docs s = take s.hits
+    (drop s.from (in_order s.newest
+    (map (hit_of s.show) (filter (λ e. is_hit s.query s.drill e.1) (enumerate_from 0 docs)))))
+
+-- A search that passes no hit lists the first ones, and without further keys their places and ids alone.
 abbrev pub PlainPages : Type 0
-PlainPages = (docs : List Doc) (s : Search) → 0 ≡ s.from → first_hits docs s
-    ≡ take s.hits (map (λ e. (e.0, e.1.id)) (filter (λ e. is_hit s.query s.drill e.1) (enumerate_from 0 docs)))
+PlainPages = (docs : List Doc) (s : Search) → 0 ≡ s.from → false ≡ s.newest → false ≡ s.show → first_hits docs s
+    ≡ take s.hits (map (λ e. record { at = e.0; id = e.1.id; content = None })
+    (filter (λ e. is_hit s.query s.drill e.1) (enumerate_from 0 docs)))
 
 -- why the ask at a place is refused
 abbrev pub ask_refusal : ℕ → AskFault → Refusal

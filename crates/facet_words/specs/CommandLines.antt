@@ -46,6 +46,10 @@ added_of d = do
   when (keys_among (codes "cmd" ∷ codes "s" ∷ codes "id" ∷ codes "text" ∷ codes "facets" ∷ []) d)
       (record { id = id; text = text; labels = facets })
 
+-- how many hits a search may list, fewer if it shows their content
+abbrev pub most_hits : Bool → ℕ
+most_hits show = if show then 1000 else 1000000
+
 -- a search that has no other keys than these
 unfoldable pub search_with : List (List ℕ) → Data → Option Search
 search_with keys d = do
@@ -53,18 +57,21 @@ search_with keys d = do
   drill ← key_or (codes "drill") [] (list_within 0 256 path) d
   sideways ← key_or (codes "sideways") false as_bool d
   asks ← key_or (codes "ask") [] (list_within 0 64 ask_of) d
+  newest ← key_or (codes "newest") false as_bool d
+  show ← key_or (codes "show") false as_bool d
   from ← key_or (codes "from") 0 (whole_within 0 1000000) d
-  hits ← key_or (codes "hits") 10 (whole_within 0 1000000) d
+  hits ← key_or (codes "hits") 10 (whole_within 0 (most_hits show)) d
   when (keys_among keys d)
-      (record { query = query; drill = drill; sideways = sideways; asks = asks; from = from; hits = hits })
-
--- the parts of a search that take memory, given the three that do not
-unfoldable pub search_parts : Bool → ℕ → ℕ → Data → Option Search
-search_parts sideways from hits d = do
-  query ← key_or (codes "query") all query_of d
-  drill ← key_or (codes "drill") [] (list_within 0 256 path) d
-  asks ← key_or (codes "ask") [] (list_within 0 64 ask_of) d
-  Some (record { query = query; drill = drill; sideways = sideways; asks = asks; from = from; hits = hits })
+      (record {
+        query = query;
+        drill = drill;
+        sideways = sideways;
+        asks = asks;
+        newest = newest;
+        show = show;
+        from = from;
+        hits = hits;
+      })
 
 -- what is counted or added up over which documents, with no other keys than these
 unfoldable pub counted_with : List (List ℕ) → Data → Option Counted
@@ -123,7 +130,7 @@ search_of d = do
   on ← on_of d
   option_map (search on)
       (search_with (codes "cmd" ∷ codes "s" ∷ codes "on" ∷ codes "query" ∷ codes "drill" ∷ codes "sideways"
-      ∷ codes "ask" ∷ codes "from" ∷ codes "hits" ∷ []) d)
+      ∷ codes "ask" ∷ codes "newest" ∷ codes "show" ∷ codes "from" ∷ codes "hits" ∷ []) d)
 
 unfoldable pub ranges_of : Data → Option Command
 ranges_of d = do

@@ -17,6 +17,8 @@ search_view s = record {
   drill = s.drill;
   sideways = s.sideways;
   asks = map ask_view s.asks.items;
+  newest = s.newest;
+  show = s.show;
   from = s.from;
   hits = s.hits;
 }

@@ -18,12 +18,15 @@ pub record Settings : Type 0 where
   pub auto_merge : Bool
 
 -- What a search has to match and to be under, what it asks to be counted, and the hits that it lists: at most so many,
--- from one on. Sideways each dimension is counted as if the drill did not name it.
+-- from one on, in order or from the last document on, with or without their content. Sideways each dimension is counted
+-- as if the drill did not name it.
 pub record Search : Type 0 where
   pub query : QueryTree
   pub drill : List (List (List ℕ))
   pub sideways : Bool
   pub asks : List Asked
+  pub newest : Bool
+  pub show : Bool
   pub from : ℕ
   pub hits : ℕ
 

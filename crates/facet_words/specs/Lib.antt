@@ -10,3 +10,4 @@ pub mod ScriptOrder
 pub mod FaultLines
 pub mod Answers
 pub mod Quick
+pub mod SearchParts

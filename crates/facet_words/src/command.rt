@@ -21,8 +21,8 @@ pub enum Command {
     Release {
         name: Word,
     },
-    /// Answers the asks over the documents of the pair that match the query and pass the drill-down, and lists the
-    /// first `hits` of them. With `sideways`, each dimension is counted as if the drill-down did not name it, as in
+    /// Answers the asks over the documents of the pair that match the query and pass the drill-down, and lists at most
+    /// `hits` of them, in order or with `newest` from the last one on. With `sideways`, each dimension is counted as if the drill-down did not name it, as in
     /// Lucene's `DrillSideways`.
     Search {
         on: Option<Word>,

@@ -19,8 +19,12 @@ mod settings;
 mod shape;
 
 pub use command::{Command, Order, Script};
+pub use config_line::read_settings;
 pub use fault::{ScriptFault, write_fault};
 pub use laws::{levels_are_counted, plain_pages, words_match};
+pub use lines::line_value;
+pub use order::read_line;
 pub use parts::{CountedLine, SearchLine};
 pub use script::read_script;
 pub use settings::Settings;
+pub use shape::keys_among;

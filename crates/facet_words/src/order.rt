@@ -66,7 +66,7 @@ fn search_in(alloc: Global, value: &Value) -> Result<Option<Command>, NoMemory>
         alloc,
         value,
         &[
-            "cmd", "s", "on", "query", "drill", "sideways", "ask", "from", "hits",
+            "cmd", "s", "on", "query", "drill", "sideways", "ask", "newest", "show", "from", "hits",
         ],
     )?;
     match found {

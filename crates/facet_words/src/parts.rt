@@ -4,9 +4,10 @@ ghost use Rattle.serde_json.specs.View.{view};
 ghost use Rattle.facet_model.specs.Queries.{all};
 ghost use Rattle.facet_model.specs.QueryViews.{query_view};
 ghost use Rattle.facet_words.specs.CommandViews.{counted_view, search_view};
-ghost use Rattle.facet_words.specs.CommandLines.{added_of, counted_with, heading_of, place_with, plain_of};
-ghost use Rattle.facet_words.specs.CommandLines.{search_parts, search_with};
+ghost use Rattle.facet_words.specs.CommandLines.{added_of, counted_with, heading_of, most_hits as most, place_with};
+ghost use Rattle.facet_words.specs.CommandLines.{plain_of, search_with};
 ghost use Rattle.facet_words.specs.Queries.{query_of};
+ghost use Rattle.facet_words.specs.SearchParts.{search_settings, settled_search};
 ghost use Rattle.facet_words.specs.Shapes.{key, key_or, is_within, list_within, path, text_within};
 
 use crate::shape::{Shaped, flag_at, index_in, keys_among, list_or, text_in, whole_or};
@@ -26,6 +27,25 @@ pub struct SearchLine {
     pub sideways: bool,
     /// The counts that it asks for.
     pub asks: Vec<Ask>,
+    /// Whether hits are listed from the last document on.
+    pub newest: bool,
+    /// Whether each listed hit is shown with its text and labels.
+    pub show: bool,
+    /// The first hit to list, counted from 0.
+    pub from: u32,
+    /// How many hits to list, at most.
+    pub hits: u32,
+}
+
+/// The parts of a search that take no memory.
+#[derive(Clone, Copy)]
+pub(crate) struct SearchSettings {
+    /// Whether a drilled dimension is counted as if it were not drilled.
+    pub sideways: bool,
+    /// Whether hits are listed from the last document on.
+    pub newest: bool,
+    /// Whether each listed hit is shown with its text and labels.
+    pub show: bool,
     /// The first hit to list, counted from 0.
     pub from: u32,
     /// How many hits to list, at most.
@@ -109,16 +129,40 @@ fn drill_at(alloc: Global, value: &Value) -> Result<Option<Drill>, NoMemory>
     }
 }
 
-// A search by its parts that take memory, given the three that do not.
-#[tactic(auto, unfolding(crate::specs::CommandLines::search_parts))]
+fn most_hits(show: bool) -> u64
+    ensures most { result ≡ most show }
+    ensures enough { 10 ≤ result }
+    ensures few { result ≤ 1000000 }
+{
+    if show { 1_000 } else { 1_000_000 }
+}
+
+#[tactic(auto, unfolding(crate::specs::SearchParts::search_settings))]
+fn settings_in(value: &Value) -> Option<SearchSettings>
+    ensures { result ≡ search_settings (view value.now) }
+{
+    let sideways = flag_at(value, "sideways")?;
+    let newest = flag_at(value, "newest")?;
+    let show = flag_at(value, "show")?;
+    let from = whole_or(value, "from", 0, 0, 1_000_000)?;
+    let hits = whole_or(value, "hits", 10, 0, most_hits(show))?;
+    Some(SearchSettings {
+        sideways,
+        newest,
+        show,
+        from: from as u32,
+        hits: hits as u32,
+    })
+}
+
+// A search by its parts that take memory, given those that do not.
+#[tactic(auto, unfolding(crate::specs::SearchParts::settled_search))]
 fn parts_in(
     alloc: Global,
     value: &Value,
-    sideways: bool,
-    from: u32,
-    hits: u32,
+    settings: SearchSettings,
 ) -> Result<Option<SearchLine>, NoMemory>
-    ensures { IfOk result (λ o. option_map search_view o ≡ search_parts sideways from hits (view value.now)) }
+    ensures { IfOk result (λ o. option_map search_view o ≡ settled_search settings (view value.now)) }
 {
     let Some(query) = query_at(alloc, value)? else {
         return Ok(None);
@@ -132,10 +176,12 @@ fn parts_in(
     Ok(Some(SearchLine {
         query,
         drill,
-        sideways,
+        sideways: settings.sideways,
         asks,
-        from,
-        hits,
+        newest: settings.newest,
+        show: settings.show,
+        from: settings.from,
+        hits: settings.hits,
     }))
 }
 
@@ -152,16 +198,10 @@ pub fn searched_in(
     if !keys_among(value, keys) {
         return Ok(None);
     }
-    let Some(sideways) = flag_at(value, "sideways") else {
-        return Ok(None);
-    };
-    let Some(from) = whole_or(value, "from", 0, 0, 1_000_000) else {
-        return Ok(None);
-    };
-    let Some(hits) = whole_or(value, "hits", 10, 0, 1_000_000) else {
-        return Ok(None);
-    };
-    parts_in(alloc, value, sideways, from as u32, hits as u32)
+    match settings_in(value) {
+        Some(settings) => parts_in(alloc, value, settings),
+        None => Ok(None),
+    }
 }
 
 fn dim_in(alloc: Global, value: &Value) -> Result<Option<Word>, NoMemory>

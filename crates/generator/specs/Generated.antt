@@ -68,6 +68,8 @@ generated_search = record {
   drill = (codes "Date" ∷ codes "2000" ∷ []) ∷ [];
   sideways = true;
   asks = first_ten (codes "Shelf") ∷ first_ten (codes "Date") ∷ first_ten (codes "Tag") ∷ [];
+  newest = false;
+  show = false;
   from = 0;
   hits = 10;
 }

@@ -55,6 +55,8 @@ fn search(alloc: Global) -> Result<Command, NoMemory>
         drill,
         sideways: true,
         asks,
+        newest: false,
+        show: false,
         from: 0,
         hits: 10,
     };

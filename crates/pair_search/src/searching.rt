@@ -1,11 +1,15 @@
-ghost use Rattle.std.specs.Prelude.{◌≡◌, ◌≢◌, ◌<◌, ℕ, List, None, Err, All, IfOk, length, map};
+ghost use Rattle.std.specs.Prelude.{◌≡◌, ◌≢◌, ◌<◌, List, None, Some, Err, All, IfOk, if◌then◌else◌, length, map};
+ghost use Rattle.std.specs.Prelude.{option_map};
 ghost use Rattle.std.specs.Arc.{arc_value};
 ghost use Rattle.std.specs.List.{AllZip};
+ghost use Rattle.facet_names.specs.Labels.{IsLabelList};
 ghost use Rattle.facet_model.specs.Documents.{Doc};
 ghost use Rattle.facet_model.specs.ResultViews.{answer_view};
 ghost use Rattle.facet_model.specs.Results.{IsAnswer};
-ghost use Rattle.facet_replies.specs.ReplyViews.{hit_view};
-ghost use Rattle.seg_documents.specs.Decoding.{docs_in, records_in, record_at};
+ghost use Rattle.facet_replies.specs.ReplyViews.{content_view, hit_view};
+ghost use Rattle.facet_words.specs.Answers.{content_of, first_hits, hit_of};
+ghost use Rattle.seg_documents.specs.Decoding.{doc_in, docs_in, record_at};
+ghost use Rattle.seg_grammar.specs.Lookups.{record_of};
 ghost use Rattle.sideways.specs.Questions.{HasDocs, docs_of};
 ghost use Rattle.sideways.specs.Searches.{question};
 ghost use Rattle.sideways.specs.declared.ask.AskRefused.TheVariants.{NoMemory as Memory};
@@ -13,19 +17,21 @@ ghost use Rattle.facet_output.specs.Replies.{found as found_reply, refused as re
 ghost use Rattle.facet_output.specs.Replying.{IsFound};
 ghost use Rattle.pair_manager.specs.Kept.{IsPair};
 ghost use Rattle.pair_search.specs.Replies.{found_view, search_reply};
-ghost use Rattle.pair_search.specs.Searches.{IsFoundIn, refusal_as, search_view};
+ghost use Rattle.pair_search.specs.Searches.{IsFoundIn, IsShowable, refusal_as, search_view};
 ghost use Rattle.pair_search.specs.declared.searching.SearchFault.TheVariants.{NoMemory as NoRoom};
 
 use crate::showing::find;
 use facet_config::FacetsConfig;
-use facet_model::{FacetAnswer, Word};
+use facet_model::{FacetAnswer, Word, dup_paths};
 use facet_names::NoMemory;
-use facet_replies::HitLine;
+use facet_replies::{Content, HitLine};
 use pair_manager::Pair;
+use seg_decoding::{document_of, ordinals_of};
 use seg_file::Segment;
 use sideways::{AskRefused, DrillPlan, SearchAsk, SidewaysAnswer};
 use std::alloc::Global;
 use std::sync::Arc;
+use taxo_list::TaxoView;
 
 /// The result of a search.
 #[derive(Debug, Drop)]
@@ -34,7 +40,7 @@ pub struct SearchAnswer {
     pub operations: u64,
     /// How many documents the search found.
     pub hit_count: u64,
-    /// Those of them that the search lists, in order, with their places and ids.
+    /// Those of them that the search lists, in the order in which it lists them.
     pub hits: Vec<HitLine>,
     /// The answer to each ask, in order.
     pub answers: Vec<FacetAnswer>,
@@ -83,53 +89,113 @@ fn answers(
     Ok(found)
 }
 
-fn hit_line(alloc: Global, segments: &[Arc<Segment>], at: u32) -> Result<HitLine, NoMemory>
-    requires { at < length (records_in (map arc_value segments.now)) }
-    ensures { IfOk result (λ h. hit_view h ≡ (at, (record_at (map arc_value segments.now) at).id)) }
+// Copies the text and the labels of a segment's document at a place, if they are to be shown.
+fn content_at(
+    alloc: Global,
+    view: &TaxoView,
+    segment: &Segment,
+    place: u32,
+    show: bool,
+) -> Result<Option<Content>, NoMemory>
+    requires place { place < length segment.now.records }
+    requires leaves { All (λ ord. (0 < ord) × (ord < length view.now)) (record_of segment.now place).leaves }
+    ensures { IfOk result (λ c. option_map content_view c
+        ≡ (if show then Some (content_of (doc_in view.now (record_of segment.now place))) else None)) }
+{
+    if !show {
+        return Ok(None);
+    }
+    let ordinals = ordinals_of(alloc, segment.leaves(place))?;
+    let doc = document_of(alloc, view, segment, place, &ordinals)?;
+    let text = String::from_str(alloc, doc.text())?;
+    let labels = dup_paths(alloc, doc.facets())?;
+    Ok(Some(Content { text, labels }))
+}
+
+// Returns the hit at a place, with its document's content if it is to be shown.
+fn hit_line(
+    alloc: Global,
+    view: &TaxoView,
+    segments: &[Arc<Segment>],
+    show: bool,
+    at: u32,
+) -> Result<HitLine, NoMemory>
+    requires { IsShowable view.now (map arc_value segments.now) at }
+    ensures { IfOk result (λ h. hit_view h
+        ≡ hit_of show (at, doc_in view.now (record_at (map arc_value segments.now) at))) }
 {
     match find(segments, at as usize) {
-        Some((segment, doc)) => {
-            let id = Word::new(alloc, segment.id(doc))?.unwrap();
-            Ok(HitLine { at, id })
+        Some((segment, place)) => {
+            let id = Word::new(alloc, segment.id(place))?.unwrap();
+            let content = content_at(alloc, view, segment, place, show)?;
+            Ok(HitLine { at, id, content })
         }
         None => unreachable!(),
     }
 }
 
-// Returns the hits at these places, each with its document's id.
+// Returns the hits at these places, each with its document's content if it is to be shown.
 fn hit_lines(
     alloc: Global,
+    view: &TaxoView,
     segments: &[Arc<Segment>],
+    show: bool,
     places: &[u32],
 ) -> Result<Vec<HitLine>, NoMemory>
-    requires { All (λ at. at < length (records_in (map arc_value segments.now))) places.now }
+    requires { All (IsShowable view.now (map arc_value segments.now)) places.now }
     ensures { IfOk result (λ v. map hit_view v.items
-        ≡ map (λ at. (at, (record_at (map arc_value segments.now) at).id)) places.now) }
+        ≡ map (λ at. hit_of show (at, doc_in view.now (record_at (map arc_value segments.now) at))) places.now) }
 {
     let mut lines = Vec::with_capacity(alloc, places.len())?;
     for place in places {
-        let line = hit_line(alloc, segments, *place)?;
+        let line = hit_line(alloc, view, segments, show, *place)?;
         lines.push(line)?;
     }
     Ok(lines)
 }
 
+// Returns the hits that the ask lists.
+fn listed(
+    alloc: Global,
+    view: &TaxoView,
+    segments: &[Arc<Segment>],
+    ask: &SearchAsk,
+    answer: &SidewaysAnswer<'_>,
+) -> Result<Vec<HitLine>, NoMemory>
+    requires ask { answer.now.ask ≡ ask.now }
+    requires segments { answer.now.segments ≡ map arc_value segments.now }
+    requires labels { answer.now.labels ≡ view.now }
+    requires list { IsLabelList view.now }
+    requires docs { HasDocs (question answer.now) (docs_in answer.now.labels answer.now.segments) }
+    ensures { IfOk result (λ v. map hit_view v.items
+        ≡ first_hits (docs_in answer.now.labels answer.now.segments) (search_view answer.now.ask)) }
+{
+    if ask.newest {
+        let places = answer.last_hits(alloc)?;
+        return hit_lines(alloc, view, segments, ask.show, &places);
+    }
+    hit_lines(alloc, view, segments, ask.show, answer.hits())
+}
+
 // Returns what a search found in segments whose documents come from `operations` operations.
 fn found(
     alloc: Global,
+    view: &TaxoView,
     segments: &[Arc<Segment>],
     operations: u64,
-    asks: usize,
+    ask: &SearchAsk,
     answer: &SidewaysAnswer<'_>,
 ) -> Result<SearchAnswer, NoMemory>
-    requires asks { asks ≡ length answer.now.ask.asks.items }
+    requires ask { answer.now.ask ≡ ask.now }
     requires segments { answer.now.segments ≡ map arc_value segments.now }
+    requires labels { answer.now.labels ≡ view.now }
+    requires list { IsLabelList view.now }
     requires docs { HasDocs (question answer.now) (docs_in answer.now.labels answer.now.segments) }
     ensures { IfOk result (λ a. IsFound answer.now.config (search_view answer.now.ask) None operations
         (docs_in answer.now.labels answer.now.segments) (found_reply (found_view a))) }
 {
-    let answers = answers(alloc, answer, asks)?;
-    let hits = hit_lines(alloc, segments, answer.hits())?;
+    let answers = answers(alloc, answer, ask.asks.len())?;
+    let hits = listed(alloc, view, segments, ask, answer)?;
     Ok(SearchAnswer {
         operations,
         hit_count: answer.hit_count(),
@@ -156,7 +222,14 @@ fn search_in(
         Err(refused) => return Err(fault_of(refused)),
     };
     let answer = plan.run();
-    match found(alloc, segments, pair.operations(), ask.asks.len(), &answer) {
+    match found(
+        alloc,
+        pair.view(),
+        segments,
+        pair.operations(),
+        ask,
+        &answer,
+    ) {
         Ok(found) => Ok(found),
         Err(NoMemory) => Err(SearchFault::NoMemory),
     }
@@ -164,8 +237,9 @@ fn search_in(
 
 /// Searches the documents of a pair. It takes no lock.
 ///
-/// Costs: those of `sideways::DrillPlan`, a copy of the id of each listed hit, and eight bytes per segment if there are
-/// 256 segments or more.
+/// Costs: those of `sideways::DrillPlan`; if hits are listed from the last document on, those of
+/// `SidewaysAnswer::last_hits`; for each listed hit a visit of the segments before it and a copy of its id, and if it is
+/// shown, of the document and of its text and labels; and eight bytes per segment if there are 256 segments or more.
 ///
 /// Errors: the first ask that is rejected, before anything is allocated for the search; out of memory.
 pub fn search_pair(

@@ -140,6 +140,8 @@ fn ask(alloc: Global, draws: &mut Draws) -> Result<SearchAsk, Fail> {
         query: query(alloc, draws)?,
         drill: drill(alloc, draws)?,
         asks: Vec::new(alloc),
+        newest: false,
+        show: false,
         from: draws.digit() as u32,
         hits: draws.digit() as u32 * 2,
         sideways: draws.one_in_two(),

@@ -28,6 +28,8 @@ fn drilled(alloc: Global, sideways: bool) -> Result<SearchAsk, Fail> {
         query: Query::All,
         drill: Drill::new(alloc, paths)?,
         asks: Vec::new(alloc),
+        newest: false,
+        show: false,
         from: 0,
         hits: 10,
         sideways,

@@ -139,7 +139,7 @@ module _ (known : List (List (List ℕ))) (config : Config) (test : Doc → Bool
       by true rest = ap (λ l. (base + k) ∷ l) rest
       by false rest = rest
 
-  from_join : (k : ℕ) (xs ys : List Doc) → places_from k test (xs ++ ys) ≡ places_from k test xs ++ places_from (k + length xs) test ys
+  pub from_join : (k : ℕ) (xs ys : List Doc) → places_from k test (xs ++ ys) ≡ places_from k test xs ++ places_from (k + length xs) test ys
   from_join k [] ys = let e : k ≡ k + 0 = omega arith in ap (λ n. places_from n test ys) e
   from_join k (x ∷ xs) ys = by (test x) (from_join (k + 1) xs ys ∙ (let e : (k + 1) + length xs ≡ k + suc (length xs) = omega arith in ap (λ n. places_from (k + 1) test xs ++ places_from n test ys) e))
     where

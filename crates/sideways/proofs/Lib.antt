@@ -6,6 +6,7 @@ pub mod Decoded
 pub mod Ready
 pub mod Gathered
 pub mod Answered
+pub mod LastHits
 pub mod Shared
 pub mod Misses
 pub mod Sets

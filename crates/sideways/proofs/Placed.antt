@@ -18,7 +18,7 @@ sum_to f [] i d lt = absurd (omega arith)
 sum_to f (x ∷ xs) zero d lt = omega (arith, sum_by-cons f x xs)
 sum_to f (x ∷ xs) (suc i) d lt = omega (arith, sum_by-cons f x (take i xs), sum_by-cons f x xs, sum_to f xs i d (omega arith))
 
-sum_push : {A : Type 0} (f : A → ℕ) (xs : List A) (y : A) → sum_by f (xs ++ y ∷ []) ≡ sum_by f xs + f y
+pub sum_push : {A : Type 0} (f : A → ℕ) (xs : List A) (y : A) → sum_by f (xs ++ y ∷ []) ≡ sum_by f xs + f y
 sum_push f [] y = sum_by-cons f y [] ∙ omega arith
 sum_push f (x ∷ xs) y = omega (arith, sum_by-cons f x (xs ++ y ∷ []), sum_by-cons f x xs, sum_push f xs y)
 

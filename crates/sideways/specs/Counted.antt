@@ -1,6 +1,6 @@
 -- What a pass finds and counts, segment by segment.
 use Rattle.std.specs.Prelude.{◌≡◌, ℕ, ◌+◌, ◌<◌, ◌≤◌, ◌++◌, ◌/◌, ◌&&◌, Bool, nat_le, filter, true, not, List, [], ◌∷◌}
-use Rattle.std.specs.Prelude.{length, take, map, flat_map, Some, sum_by}
+use Rattle.std.specs.Prelude.{length, take, map, reverse, flat_map, Some, sum_by}
 use Rattle.std.specs.List.{list_any, AllZip, AllByRecursion}
 use Rattle.std.specs.Str.{bytes_eq}
 use Rattle.facet_model.specs.CountedPaths.{places}
@@ -89,6 +89,10 @@ pub record IsTaking (old new : PartLeft) (before after : Tally) (base limit : �
 abbrev pub IsNoting : PartLeft → ℕ → ℕ → List ℕ → List ℕ → Type 0
 IsNoting part base limit hits more = (before : List ℕ) → hits ≡ take limit before
     → more ≡ take limit (before ++ ranks_from base part.segment part.left)
+
+-- the last of these places, at most so many, in order
+abbrev pub AreLast : ℕ → List ℕ → List ℕ → Type 0
+AreLast most places last = reverse last ≡ take most (reverse places)
 
 -- ---- one pass over all segments
 

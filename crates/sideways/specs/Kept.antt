@@ -111,8 +111,10 @@ pub record AreCountsOf (q : Question) (lift : Option (List ℕ)) (counts : Total
 abbrev pub AreHitsIn : Question → Tally → Type 0
 AreHitsIn q tally = (docs : List Doc) → HasDocs q docs → HasAdded tally (counted_of q (hits docs q.query q.drill))
 
--- No ask is rejected; the counts are those of the hits and, if sideways, of each drilled dimension; these are the hits.
+-- The segments have documents, and no ask is rejected; the counts are those of the hits and, if sideways, of each
+-- drilled dimension; these are the hits.
 pub record IsAnswered (q : Question) (found : Found) (lifted : List LiftedCounts) : Type 0 where
+  pub docs : (docs : List Doc) × HasDocs q docs × (length docs ≤ 1000000)
   pub list : IsLabelList q.labels
   pub fit : first_refused q.config q.asks ≡ None
   pub counts : AreCountsOf q None found.counts

@@ -1,5 +1,5 @@
 -- The plain data of a search over segments.
-use Rattle.std.specs.Prelude.{◌+◌, ℕ, List, map}
+use Rattle.std.specs.Prelude.{◌+◌, ℕ, if◌then◌else◌, List, map}
 use Rattle.std.specs.Arc.{arc_value}
 use Rattle.std.specs.declared.alloc.Global.{Global}
 use Rattle.std.specs.declared.sync.Arc.{Arc}
@@ -17,7 +17,12 @@ pub record Search : Type 0 where
   pub segments : List Records
   pub ask : SearchAsk
 
--- The question of the search. The hits that are passed are found too.
+-- How many places of hits are found with the counts: those that are passed, too. None is if the hits are listed from
+-- the last one on.
+abbrev pub wanted : SearchAsk → ℕ
+wanted ask = if ask.newest then 0 else ask.from + ask.hits
+
+-- the question of the search
 abbrev pub question : Search → Question
 question s = record {
   labels = s.labels;
@@ -26,7 +31,7 @@ question s = record {
   query = query_view s.ask.query;
   drill = s.ask.drill;
   asks = map ask_view s.ask.asks.items;
-  hits = s.ask.from + s.ask.hits;
+  hits = wanted s.ask;
   sideways = s.ask.sideways;
 }
 

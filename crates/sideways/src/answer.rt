@@ -1,5 +1,5 @@
 ghost use Rattle.std.specs.Prelude.{◌≡◌, ◌<◌, List, Some, None, true, IfOk, length, map, option_map, slice_get, take};
-ghost use Rattle.std.specs.Prelude.{drop, nat_lt};
+ghost use Rattle.std.specs.Prelude.{drop, false, nat_lt, reverse};
 ghost use Rattle.facet_counts.specs.Dims.{AreDims};
 ghost use Rattle.facet_counts.specs.Tallies.{AreCounts};
 ghost use Rattle.facet_model.specs.Asks.{Asked, all_dims, ask_fault, one_value};
@@ -13,7 +13,9 @@ ghost use Rattle.sideways.specs.Questions.{HasDocs, counted_of, docs_of};
 ghost use Rattle.sideways.specs.Searches.{question};
 
 use crate::ask::SearchAsk;
+use crate::newest::{last_of, without_first};
 use crate::pass::{Found, LiftedCounts};
+use crate::plan::reach_of;
 use facet_config::FacetsConfig;
 use facet_counts::{Counts, child_of, note_dim, order_dims, sibling_of};
 use facet_model::{Ask, FacetAnswer, FacetResult, path_term};
@@ -86,16 +88,47 @@ impl<'a> SidewaysAnswer<'a> {
         self.found.number
     }
 
-    /// Returns the places of the hits that the ask lists, in order: after `from` hits, at most as many as it wants.
-    /// Places number the live documents of all segments from 0. It takes constant time.
+    /// Returns the places of the hits that the ask lists, in order: after `from` hits, at most as many as it wants;
+    /// none if it lists them from the last document on. Places number the live documents of all segments from 0. It
+    /// takes constant time.
     pub fn hits(&self) -> &[u32]
-        ensures { (docs : List Doc) → HasDocs (question self.now) docs
+        ensures { (docs : List Doc) → HasDocs (question self.now) docs → self.now.ask.newest ≡ false
             → result.now ≡ take self.now.ask.hits (drop self.now.ask.from (places
             (is_hit (question self.now).query (question self.now).drill) docs)) }
     {
         let places = self.found.places.as_slice();
         let passed = (self.ask.from as usize).min(places.len());
         &places[passed..]
+    }
+
+    /// Returns the places of the hits that the ask lists if it lists them from the last document on: after the last
+    /// `from` hits, at most as many as it wants, the last one first. Places number the live documents of all segments
+    /// from 0.
+    ///
+    /// Costs: it looks the query and the drill up again in the last segments, one after the other, until there are
+    /// `from + hits` hits, and visits the hits of these segments. It visits no other segment.
+    ///
+    /// Memory: that of a [`Part`](crate::Part) for each of these segments in turn, and 4 bytes for each hit that is
+    /// passed or listed, twice while a segment is visited. It allocates nothing if no hit is wanted.
+    ///
+    /// Errors: out of memory.
+    pub fn last_hits(&self, alloc: Global) -> Result<Vec<u32>, NoMemory>
+        ensures { IfOk result (λ v. (docs : List Doc) → HasDocs (question self.now) docs
+            → v.items ≡ take self.now.ask.hits (drop self.now.ask.from (reverse (places
+            (is_hit (question self.now).query (question self.now).drill) docs)))) }
+    {
+        if self.ask.hits == 0 {
+            return Ok(Vec::new(alloc));
+        }
+        let limit = reach_of(self.ask) as usize;
+        let last = last_of(
+            alloc,
+            self.segments,
+            &self.ask.query,
+            &self.ask.drill,
+            limit,
+        )?;
+        Ok(without_first(last, self.ask.from))
     }
 
     /// Returns the counts of a dimension. If the search is sideways and the dimension is drilled, they cover the

@@ -18,6 +18,10 @@ pub struct SearchAsk {
     pub drill: Drill,
     /// The counts that it asks for. Each has an answer at the same place.
     pub asks: Vec<Ask>,
+    /// Whether hits are listed from the last document on.
+    pub newest: bool,
+    /// Whether whoever lists the hits shows their documents. No answer depends on it.
+    pub show: bool,
     /// How many hits to pass before the first one whose place is returned.
     pub from: u32,
     /// How many places of hits to return, at most. None is returned of a hit after the first 1,000,000.

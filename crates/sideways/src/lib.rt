@@ -9,6 +9,7 @@ mod common;
 mod costs;
 pub mod laws;
 mod near;
+mod newest;
 mod part;
 mod pass;
 mod plan;

@@ -12,7 +12,7 @@ ghost use Rattle.sideways.specs.Counted.{HasRoomFor, IsReady, is_drilled};
 ghost use Rattle.sideways.specs.Kept.{AreCountsOf, AreDistinct, AreHitsIn, HasNears, HasParts, IsLiftedOf, dim_in};
 ghost use Rattle.sideways.specs.Questions.{Question};
 ghost use Rattle.sideways.specs.Refusals.{first_refused};
-ghost use Rattle.sideways.specs.Searches.{question_of, records_of, search_of};
+ghost use Rattle.sideways.specs.Searches.{question_of, records_of, search_of, wanted};
 ghost use Rattle.sideways.specs.declared.ask.AskRefused.{AskRefused};
 ghost use Rattle.sideways.specs.declared.ask.AskRefused.TheVariants.{NoMemory as Memory};
 
@@ -35,7 +35,7 @@ use taxo_list::{Labelled, TaxoView};
 ///
 /// Memory: for each pass, 4 bytes per label of the view. For each pass and segment, a plan; or, if the conditions match
 /// many documents, a set of one bit per record. While the sets of a segment are made, one bit per record twice more.
-/// For each hit that is wanted, 4 bytes.
+/// For each hit that is passed or listed, 4 bytes, unless hits are listed from the last document on.
 #[derive(Drop)]
 pub struct DrillPlan<'a> {
     view: &'a TaxoView,
@@ -50,9 +50,8 @@ pub struct DrillPlan<'a> {
 }
 
 impl<'a> Model for DrillPlan<'a> {
-    ghost use Rattle.std.specs.Prelude.{◌+◌};
     ghost use Rattle.sideways.specs.Kept.{HasRoom, IsPlan};
-    ghost use Rattle.sideways.specs.Searches.{Search, question_of, search_of};
+    ghost use Rattle.sideways.specs.Searches.{Search, question_of, search_of, wanted};
     ghost use Rattle.sideways.specs.contracts.ask.SearchAsk as e;
     ghost use Rattle.std.specs.Coded.{codes};
 
@@ -63,15 +62,22 @@ impl<'a> Model for DrillPlan<'a> {
     ghost view = { λ p. search_of p.view.now p.config.now p.segments.now p.ask.now };
 
     ghost invariant = { λ p. IsPlan (question_of p.view.now p.config.now p.segments.now p.ask.now) p.hits p.lifted.items
-        × HasRoom (p.ask.now.from + p.ask.now.hits) p.lifted.items p.places p.counted };
+        × HasRoom (wanted p.ask.now) p.lifted.items p.places p.counted };
 }
 
-/// Returns how many places of hits are kept: as many as are passed and wanted, and at most 1,000,000, the greatest
-/// number of documents.
-pub(crate) fn limit_of(ask: &SearchAsk) -> u32
+/// Returns how many hits are passed and listed, at most: no more than 1,000,000, the greatest number of documents.
+pub(crate) fn reach_of(ask: &SearchAsk) -> u32
     ensures { result ≡ min (ask.now.from + ask.now.hits) 1000000 }
 {
     ask.from.saturating_add(ask.hits).min(1_000_000)
+}
+
+/// Returns how many places of hits are kept with the counts: those that are passed and listed, or none if hits are
+/// listed from the last document on.
+pub(crate) fn limit_of(ask: &SearchAsk) -> u32
+    ensures { result ≡ min (wanted ask.now) 1000000 }
+{
+    if ask.newest { 0 } else { reach_of(ask) }
 }
 
 // Returns a pass without a part for each dimension of the drill.

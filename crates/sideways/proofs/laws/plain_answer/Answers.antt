@@ -34,6 +34,7 @@ invariant_of-result c =
     let tally = c.count_hits-counter.result.counter in
     let hits = hits_counted q pass is tally c.count_hits-counter.ensures.counted in
     record {
+      docs = c.requires.docs;
       list = list;
       fit = c.requires.fit;
       counts = counts_found q tally c.roll_up.result hits c.roll_up.ensures.counts (c.roll_up.ensures.labels ∙ c.count_hits-counter.ensures.labels ∙ is.labels) (c.roll_up.ensures.config ∙ c.count_hits-counter.ensures.config ∙ is.config);

@@ -41,6 +41,7 @@ invariant_of-result c =
     let tally = c.count_hits-counter.result.counter in
     let hits = hits_counted q pass plan.hits tally c.count_hits-counter.ensures.counted in
     record {
+      docs = plan.docs;
       list = plan.list;
       fit = plan.fit;
       counts = counts_found q tally c.roll_up.result hits c.roll_up.ensures.counts (c.roll_up.ensures.labels ∙ c.count_hits-counter.ensures.labels ∙ plan.hits.labels) (c.roll_up.ensures.config ∙ c.count_hits-counter.ensures.config ∙ plan.hits.config);
