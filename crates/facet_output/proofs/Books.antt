@@ -43,7 +43,7 @@ abbrev b5 : Doc
 b5 = doc (codes "b5") (author (codes "Frank") ∷ date (codes "1999" ∷ codes "5" ∷ codes "5" ∷ []) ∷ [])
 
 abbrev counts : Search
-counts = record { query = q.all; drill = []; sideways = false; asks = a.top (codes "Publish Date" ∷ []) 10 ∷ a.top (codes "Author" ∷ []) 10 ∷ []; from = 0; hits = 0 }
+counts = record { query = q.all; drill = []; sideways = false; asks = a.top (codes "Publish Date" ∷ []) 10 ∷ a.top (codes "Author" ∷ []) 10 ∷ []; newest = false; show = false; from = 0; hits = 0 }
 
 abbrev phases : List (List Order)
 phases = (order 2 (add b1) ∷ order 3 (add b2) ∷ order 4 (add b3) ∷ order 5 (add b4) ∷ order 6 (add b5) ∷ order 7 refresh ∷ order 8 (search None counts) ∷ []) ∷ []

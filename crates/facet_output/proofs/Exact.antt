@@ -1,5 +1,5 @@
--- In the output of one session each number is exact.
-use Rattle.std.proofs.Common.{◌≡◌, ◌⊎◌, inl, inr, ⊎_elim, ℕ, zero, suc, ◌+◌, ◌≤◌, eqb, Bool, true, false, cond, List, [], ◌∷◌, ◌++◌, length, map, Option, Some, None, slice_get, refl, sym, ap, ◌∙◌, subst, arith, append_assoc, length-append, ne_eqb}
+-- In the output of one session, or of one in each phase, each number is exact.
+use Rattle.std.proofs.Common.{◌≡◌, ◌⊎◌, inl, inr, ⊎_elim, ℕ, zero, suc, ◌+◌, ◌≤◌, ◌<◌, eqb, Bool, true, false, List, [], ◌∷◌, ◌++◌, length, map, Option, Some, None, slice_get, refl, sym, ap, ◌∙◌, subst, arith, append_assoc, length-append, ne_eqb}
 use Rattle.std.specs.Prelude.{◌==◌, ◌&&◌, ◌||◌, not, nat_le, nat_lt, drop, filter, filter_map, unwrap_or}
 use Rattle.std.specs.List.{list_all, list_any, enumerate_from, cons_option}
 use Rattle.std.specs.Option.{option_map_or}
@@ -12,16 +12,16 @@ use Rattle.facet_words.specs.Commands.{Settings, Command, Order}
 use Rattle.facet_replies.specs.Replies.{Reply}
 use Rattle.facet_output.specs.Effects.{effect, report}
 use Rattle.facet_output.specs.Answered.{Answered, is_of, of_session, comes_after, may_come_after}
-use Rattle.facet_output.specs.OneSession.{after_placing, AreExact, OneSessionIsExact}
+use Rattle.facet_output.specs.OneSession.{after_placing, AreExact, OneSessionIsExact, OneSessionAPhaseIsExact}
 use Rattle.facet_output.specs.Output.{Opened, IsOutput, is_fresh, has_source}
 use Rattle.facet_words.specs.ScriptOrder.{lines_rise}
 use Rattle.facet_output.specs.Reported.{placed_by, placed_operation, shown_in, shows, stood, stood_in, stood_by, refreshed, refreshed_by, is_number}
-use Rattle.facet_output.proofs.Among.{In, of_all, in_left, in_right, of_append, of_any}
+use Rattle.facet_output.proofs.Among.{In, of_all, in_filter, of_filter, in_left, in_right, in_map, of_append, of_any}
 use Rattle.facet_output.proofs.Effects.{add_placed, refresh_only}
 use Rattle.facet_output.proofs.Fresh.{stood_shown, implied_so}
 use Rattle.facet_output.proofs.Fronts.{get_there}
 use Rattle.facet_output.proofs.Known.{after_parts}
-use Rattle.facet_output.proofs.Ordered.{Later, IsAfter, phases_rising, of_later_map, later_weaker}
+use Rattle.facet_output.proofs.Ordered.{Later, IsBeyond, phases_beyond, alone_in_phase, from_phase, of_later_map, later_weaker}
 use Rattle.facet_output.proofs.PairTests.{pairs_to, is_up_to, is_no_newer, newest_test, right_pair_test}
 
 -- ---- lists
@@ -52,22 +52,57 @@ length_numbered : (n : ℕ) (xs : List Operation) → length (enumerate_from n x
 length_numbered n [] = refl
 length_numbered n (x ∷ xs) = ap suc (length_numbered (n + 1) xs)
 
--- ---- operations of one session
+-- ---- places that rise
 
-all_numbered : (session n : ℕ) (xs : List Operation) → ((x : Operation) → In x xs → eqb x.session session ≡ true) → filter (λ e. eqb e.1.session session) (enumerate_from n xs) ≡ enumerate_from n xs
-all_numbered session n [] own = refl
-all_numbered session n (x ∷ xs) own = let e : eqb x.session session ≡ true = own x (inl refl) in rw e (ap (λ (l : List (ℕ × Operation)). (n, x) ∷ l) (all_numbered session (n + 1) xs (λ y there. own y (inr there))))
+abbrev IsLess : ℕ × Operation → ℕ × Operation → Type 0
+IsLess x y = x.0 < y.0
 
-some_numbered : (n : ℕ) (xs : List Operation) (x : Operation) → In x xs → filter (λ e. eqb e.1.session x.session) (enumerate_from n xs) ≡ [] → ⊥
-some_numbered n [] x there none = there
-some_numbered n (y ∷ xs) x there none = ⊎_elim
-    (λ is. let e : eqb y.session x.session ≡ true = eq-eqb y.session x.session (sym (ap (λ (z : Operation). z.session) is)) in let f : (n, y) ∷ filter (λ e. eqb e.1.session x.session) (enumerate_from (n + 1) xs) ≡ [] = rw e at none in cc)
-    (λ later. by (eqb y.session x.session) none (some_numbered (n + 1) xs x later)) there
-  where
-    by : (b : Bool) → cond b ((n, y) ∷ filter (λ e. eqb e.1.session x.session) (enumerate_from (n + 1) xs)) (filter (λ e. eqb e.1.session x.session) (enumerate_from (n + 1) xs)) ≡ []
-        → (filter (λ e. eqb e.1.session x.session) (enumerate_from (n + 1) xs) ≡ [] → ⊥) → ⊥
-    by true none rest = cc
-    by false none rest = rest none
+numbered_from : (n : ℕ) (xs : List Operation) (e : ℕ × Operation) → In e (enumerate_from n xs) → n ≤ e.0
+numbered_from n [] e there = absurd there
+numbered_from n (x ∷ xs) e there = ⊎_elim (λ is. let f = ap (λ (e : ℕ × Operation). e.0) is in omega arith) (λ later. let l = numbered_from (n + 1) xs e later in omega arith) there
+
+numbered_rising : (n : ℕ) (xs : List Operation) → Later IsLess (enumerate_from n xs)
+numbered_rising n [] = tt
+numbered_rising n (x ∷ xs) = ((λ e there. let l = numbered_from (n + 1) xs e there in omega arith), numbered_rising (n + 1) xs)
+
+-- two lists that rise and have the same are equal
+same_rising : (xs ys : List (ℕ × Operation)) → Later IsLess xs → Later IsLess ys → ((z : ℕ × Operation) → In z xs → In z ys) → ((z : ℕ × Operation) → In z ys → In z xs) → xs ≡ ys
+same_rising [] [] rise rise' there back = refl
+same_rising [] (y ∷ ys) rise rise' there back = absurd (back y (inl refl))
+same_rising (x ∷ xs) [] rise rise' there back = absurd (there x (inl refl))
+same_rising (x ∷ xs) (y ∷ ys) rise rise' there back =
+    let same : x ≡ y = ⊎_elim (λ is. is) (λ later. ⊎_elim (λ is. sym is) (λ later'. let l = rise'.0 x later in let m = rise.0 y later' in absurd (omega arith)) (back y (inl refl))) (there x (inl refl)) in
+    let tails : xs ≡ ys = same_rising xs ys rise.1 rise'.1
+    (λ z among. ⊎_elim (λ is. let f = ap (λ (e : ℕ × Operation). e.0) (is ∙ sym same) in let l = rise.0 z among in absurd (omega arith)) (λ later. later) (there z (inr among)))
+    (λ z among. ⊎_elim (λ is. let f = ap (λ (e : ℕ × Operation). e.0) (is ∙ same) in let l = rise'.0 z among in absurd (omega arith)) (λ later. later) (back z (inr among))) in
+    ap (λ (z : ℕ × Operation). z ∷ xs) same ∙ ap (λ (zs : List (ℕ × Operation)). y ∷ zs) tails
+
+module _ {A B : Type 0} (f : A → Option B) where
+  kept_in : (xs : List A) (x : A) (y : B) → In x xs → f x ≡ Some y → In y (filter_map f xs)
+  kept_in [] x y there e = absurd there
+  kept_in (z ∷ xs) x y there e = ⊎_elim
+      (λ is. let g : f z ≡ Some y = sym (ap f is) ∙ e in rw g (inl refl))
+      (λ later. behind (f z) (kept_in xs x y later e)) there
+    where
+      behind : (o : Option B) → In y (filter_map f xs) → In y (cons_option o (filter_map f xs))
+      behind None h = h
+      behind (Some w) h = inr h
+
+  of_kept : (xs : List A) (y : B) → In y (filter_map f xs) → (x : A) × In x xs × (f x ≡ Some y)
+  of_kept [] y there = absurd there
+  of_kept (z ∷ xs) y there = by (f z) refl (of_kept xs y) there
+    where
+      by : (o : Option B) → f z ≡ o → (In y (filter_map f xs) → (x : A) × In x xs × (f x ≡ Some y)) → In y (cons_option o (filter_map f xs)) → (x : A) × In x (z ∷ xs) × (f x ≡ Some y)
+      by None e rest h = let r = rest h in (r.0, inr r.1, r.2)
+      by (Some w) e rest h = ⊎_elim (λ is. (z, inl refl, e ∙ ap Some (sym is))) (λ later. let r = rest later in (r.0, inr r.1, r.2)) h
+
+  kept_later : (R : A → A → Type 0) (S : B → B → Type 0) (xs : List A) → ((a b : A) (p q : B) → In a xs → In b xs → R a b → f a ≡ Some p → f b ≡ Some q → S p q) → Later R xs → Later S (filter_map f xs)
+  kept_later R S [] so later = tt
+  kept_later R S (x ∷ xs) so later = by (f x) refl (kept_later R S xs (λ a b p q there there'. so a b p q (inr there) (inr there')) later.1)
+    where
+      by : (o : Option B) → f x ≡ o → Later S (filter_map f xs) → Later S (cons_option o (filter_map f xs))
+      by None e rest = rest
+      by (Some p) e rest = ((λ q there. let r = of_kept xs q there in so x r.0 p q (inl refl) (inr r.1) (later.0 r.0 r.1) e r.2), rest)
 
 -- a placed operation shows itself and all before it, and stood at its place
 placed_shows : (session : ℕ) (command : Command) (reply : Reply) (p : ℕ × Operation) → placed_by session command reply ≡ Some p → (shows reply ≡ p.0 + 1) × (stood_by command reply ≡ Some p.0)
@@ -111,22 +146,19 @@ of_number n (Some k) h = ap Some (eqb-true k n h)
 abbrev pub key_of : Answered → ℕ × Order
 key_of a = (a.phase, a.order)
 
-module _ (settings : Settings) (phases : List (List Order)) (opened : Opened) (labels : List (List (List ℕ))) (history : List Operation) (published : List (ℕ × (ℕ × ℕ))) (answered : List Answered) (session : ℕ)
-    (o : IsOutput settings phases opened labels history published answered) (rise : list_all lines_rise phases ≡ true) (one : list_all (is_of session) answered ≡ true) where
-  own : (a : Answered) → In a answered → a.order.session ≡ session
-  own a there = eqb-true a.order.session session (of_all (is_of session) answered a one there)
-
+module _ (settings : Settings) (phases : List (List Order)) (opened : Opened) (labels : List (List (List ℕ))) (history : List Operation) (published : List (ℕ × (ℕ × ℕ))) (answered : List Answered)
+    (o : IsOutput settings phases opened labels history published answered) (rise : list_all lines_rise phases ≡ true)
+    (alone : (a b : Answered) → In a answered → In b answered → a.phase ≡ b.phase → a.order.session ≡ b.order.session) where
   abbrev IsLater : Answered → Answered → Type 0
   IsLater a b = comes_after b a ≡ true
 
   in_order : Later IsLater answered
-  in_order = later_weaker (λ a b. IsAfter (key_of a) (key_of b)) IsLater answered (λ a b there there' after.
-      let same : a.order.session ≡ b.order.session = own a there ∙ sym (own b there') in
-      ⊎_elim
+  in_order = later_weaker (λ a b. IsBeyond (key_of a) (key_of b)) IsLater answered (λ a b there there' beyond. ⊎_elim
       (λ lt. or_left (nat_lt a.phase b.phase) _ (lt-ltb a.phase b.phase lt))
-      (λ p. or_right (nat_lt a.phase b.phase) _ (and_from _ _ (and_from _ _ (eq-eqb a.phase b.phase p.0) (eq-eqb a.order.session b.order.session same)) (lt-ltb a.order.line b.order.line p.1)))
-      (after same))
-      (of_later_map key_of IsAfter answered (subst (Later IsAfter) (sym o.asked) (phases_rising 0 phases rise)))
+      (λ p. let same : a.order.session ≡ b.order.session = alone a b there there' p.0 in
+      or_right (nat_lt a.phase b.phase) _ (and_from _ _ (and_from _ _ (eq-eqb a.phase b.phase p.0) (eq-eqb a.order.session b.order.session same)) (lt-ltb a.order.line b.order.line (p.1 same))))
+      beyond)
+      (of_later_map key_of IsBeyond answered (subst (Later IsBeyond) (sym o.asked) (phases_beyond 0 phases rise)))
 
   abbrev first : ℕ
   first = length opened.docs
@@ -134,28 +166,10 @@ module _ (settings : Settings) (phases : List (List Order)) (opened : Opened) (l
   abbrev rest : List Operation
   rest = drop (length opened.docs) history
 
-  own_rest : (x : Operation) → In x rest → eqb x.session session ≡ true
-  own_rest x there = by (eqb x.session session) refl
-    where
-      nobody : eqb x.session session ≡ false → filter_map placed_operation (of_session x.session answered) ≡ []
-      nobody t = ap (filter_map placed_operation) (filter_nothing (is_of x.session) answered (λ a among.
-          subst (λ (n : ℕ). eqb n x.session ≡ false) (sym (own a among)) (other_way x.session session t)))
-
-      by : (b : Bool) → eqb x.session session ≡ b → eqb x.session session ≡ true
-      by true t = t
-      by false t = absurd (some_numbered first rest x there (o.operations x.session ∙ nobody t))
-
-  -- the placed operations are all behind the opened ones, with their places
-  placed_all : filter_map placed_operation answered ≡ enumerate_from first rest
-  placed_all = ap (filter_map placed_operation) (sym (filter_all (is_of session) answered one)) ∙ sym (o.operations session) ∙ all_numbered session first rest own_rest
-
   size : length history ≡ first + length rest
   size =
       let front = ap length o.opened_docs ∙ length-map opened.docs (λ doc. record { session = 0; doc = doc }) in
       let t = length-take first history in let d = length-drop first history in omega arith
-
-  abbrev placed_in : List Answered → ℕ
-  placed_in done = length (filter_map placed_operation done)
 
   fresh_at : (a : Answered) → In a answered → (n : ℕ) → stood a ≡ Some n → (first ≤ n) × (n ≤ length history) × ((b : Answered) → In b answered → comes_after a b ≡ true → shows b.reply ≤ n)
   fresh_at a there n e =
@@ -163,6 +177,34 @@ module _ (settings : Settings) (phases : List (List Order)) (opened : Opened) (l
       let p = and_parts (nat_le first n && nat_le n (length history)) (list_all (λ b. not (comes_after a b) || nat_le (shows b.reply) n) answered) f in
       let q = and_parts (nat_le first n) (nat_le n (length history)) p.0 in
       (leb-true first n q.0, leb-true n (length history) q.1, λ b among after. leb-true (shows b.reply) n (implied_so (comes_after a b) (nat_le (shows b.reply) n) (of_all (λ b. not (comes_after a b) || nat_le (shows b.reply) n) answered b p.1 among) after))
+
+  -- those that were placed, with their places
+  abbrev placed : List (ℕ × Operation)
+  placed = filter_map placed_operation answered
+
+  placed_there : (p : ℕ × Operation) → In p placed → In p (enumerate_from first rest)
+  placed_there p there =
+      let a = of_kept placed_operation answered p there in
+      let own : In p (filter_map placed_operation (of_session a.0.order.session answered)) = kept_in placed_operation (of_session a.0.order.session answered) a.0 p (in_filter (is_of a.0.order.session) answered a.0 a.1 (eq-eqb a.0.order.session a.0.order.session refl)) a.2 in
+      (of_filter (λ e. eqb e.1.session a.0.order.session) (enumerate_from first rest) p (subst (In p) (sym (o.operations a.0.order.session)) own)).0
+
+  there_placed : (p : ℕ × Operation) → In p (enumerate_from first rest) → In p placed
+  there_placed p there =
+      let own : In p (filter (λ e. eqb e.1.session p.1.session) (enumerate_from first rest)) = in_filter (λ e. eqb e.1.session p.1.session) (enumerate_from first rest) p there (eq-eqb p.1.session p.1.session refl) in
+      let a = of_kept placed_operation (of_session p.1.session answered) p (subst (In p) (o.operations p.1.session) own) in
+      kept_in placed_operation answered a.0 p (of_filter (is_of p.1.session) answered a.0 a.1).0 a.2
+
+  placed_rising : Later IsLess placed
+  placed_rising = kept_later placed_operation IsLater IsLess answered (λ a b p q there there' after at at'.
+      let shown = (placed_shows a.order.session a.order.command a.reply p at).0 in
+      let l = (fresh_at b there' q.0 (placed_shows b.order.session b.order.command b.reply q at').1).2 a there after in omega arith) in_order
+
+  -- the placed operations are all behind the opened ones, with their places
+  placed_all : filter_map placed_operation answered ≡ enumerate_from first rest
+  placed_all = same_rising placed (enumerate_from first rest) placed_rising (numbered_rising first rest) placed_there there_placed
+
+  abbrev placed_in : List Answered → ℕ
+  placed_in done = length (filter_map placed_operation done)
 
   -- ---- an order, between those before it and those behind it
 
@@ -254,9 +296,9 @@ module _ (settings : Settings) (phases : List (List Order)) (opened : Opened) (l
       not_later b among may after = ⊎_elim
           (λ lt. let l = ltb-true b.phase a.phase lt in ⊎_elim (λ m. omega arith) (λ m. let f = m.0 in omega arith) (after_parts b a after))
           (λ same. let q = and_parts (b.phase == a.phase) (not (b.order.session == a.order.session) || nat_lt b.order.line a.order.line) same in
-          let session_same : eqb b.order.session a.order.session ≡ true = eq-eqb b.order.session a.order.session (own b among ∙ sym (own a (in_later done a later e a (inl refl)))) in
-          let lt = ltb-true b.order.line a.order.line (implied_so (eqb b.order.session a.order.session) (nat_lt b.order.line a.order.line) q.1 session_same) in
           let f = eqb-true b.phase a.phase q.0 in
+          let session_same : eqb b.order.session a.order.session ≡ true = eq-eqb b.order.session a.order.session (alone b a among (in_later done a later e a (inl refl)) f) in
+          let lt = ltb-true b.order.line a.order.line (implied_so (eqb b.order.session a.order.session) (nat_lt b.order.line a.order.line) q.1 session_same) in
           ⊎_elim (λ m. omega arith) (λ m. let g = m.2 in omega arith) (after_parts b a after))
           (or_cases (nat_lt b.phase a.phase) (b.phase == a.phase && (not (b.order.session == a.order.session) || nat_lt b.order.line a.order.line)) may)
 
@@ -332,4 +374,12 @@ module _ (settings : Settings) (phases : List (List Order)) (opened : Opened) (l
       (exact_from [] answered first refl (record { low = omega arith; high = omega arith; newest = λ b none. absurd none; source = inl refl }))
 
 pub one_session_is_exact : OneSessionIsExact
-one_session_is_exact settings phases opened labels history published answered session o rise one = exact_whole settings phases opened labels history published answered session o rise one
+one_session_is_exact settings phases opened labels history published answered session o rise one = exact_whole settings phases opened labels history published answered o rise
+    (λ a b there there' same. eqb-true a.order.session session (of_all (is_of session) answered a one there) ∙ sym (eqb-true b.order.session session (of_all (is_of session) answered b one there')))
+
+pub one_session_a_phase_is_exact : OneSessionAPhaseIsExact
+one_session_a_phase_is_exact settings phases opened labels history published answered o rise one = exact_whole settings phases opened labels history published answered o rise
+    (λ a b there there' same. alone_in_phase 0 phases one (key_of a) (key_of b) (asked_in a there) (asked_in b there') same)
+  where
+    asked_in : (a : Answered) → In a answered → In (key_of a) (from_phase 0 phases)
+    asked_in a there = subst (In (key_of a)) o.asked (in_map key_of answered a there)

@@ -3,13 +3,15 @@ use Rattle.std.proofs.Common.{◌≡◌, ◌⊎◌, inl, inr, ⊎_elim, ℕ, zer
 use Rattle.std.specs.Prelude.{◌==◌, nat_lt, AllPairs, All, IsTrue, filter, flat_map}
 use Rattle.std.specs.List.{enumerate_from, range_with_len, list_all}
 use Rattle.std.proofs.lemmas.Bool.{eqb-true, eq-eqb, lt-ltb, or_left, or_right, and_from, and_parts, ltb-true}
+use Rattle.std.proofs.lemmas.List.Elements.{All-head, All-tail}
 use Rattle.std.proofs.lemmas.List.Kept.{AllPairs-cons}
 use Rattle.facet_words.specs.Commands.{Order}
 use Rattle.facet_output.specs.Answered.{comes_after, by_session, in_writing_order}
 use Rattle.facet_output.specs.Steps.{Step}
 use Rattle.facet_output.specs.Sessions.{own_steps, is_by}
 use Rattle.facet_words.specs.ScriptOrder.{lines_rise}
-use Rattle.facet_output.proofs.Among.{In, of_filter, of_append, in_map, of_map}
+use Rattle.facet_output.specs.OneSession.{HasOneSession}
+use Rattle.facet_output.proofs.Among.{In, of_all, of_filter, of_append, in_map, of_map}
 
 -- ---- a relation of each with each later one, by recursion
 
@@ -109,6 +111,47 @@ phases_rising n (orders ∷ phases) rise = later_append IsAfter (map {B = ℕ ×
     (later_weaker IsBehind (λ o p. IsAfter (n, o) (n, p)) (by_session orders) (λ o p there there' behind same. inr (refl, behind same)) (by_rising 1 64 orders (lines_below orders (and_parts (lines_rise orders) (list_all lines_rise phases) rise).0))))
     (phases_rising (n + 1) phases (and_parts (lines_rise orders) (list_all lines_rise phases) rise).1)
     (λ x y here behind same. let r = of_map {B = ℕ × Order} (λ (o : Order). (n, o)) (by_session orders) x here in let e = ap (λ (y : ℕ × Order). y.0) r.2 in let l = phase_from (n + 1) phases y behind in inl (omega arith))
+
+-- ---- each phase behind those before it
+
+abbrev pub IsBeyond : ℕ × Order → ℕ × Order → Type 0
+IsBeyond x y = (x.0 < y.0) ⊎ ((x.0 ≡ y.0) × (x.1.session ≡ y.1.session → x.1.line < y.1.line))
+
+pub phases_beyond : (n : ℕ) (phases : List (List Order)) → list_all lines_rise phases ≡ true → Later IsBeyond (from_phase n phases)
+phases_beyond n [] rise = tt
+phases_beyond n (orders ∷ phases) rise = later_append IsBeyond (map {B = ℕ × Order} (λ o. (n, o)) (by_session orders)) (from_phase (n + 1) phases)
+    (later_map {B = ℕ × Order} (λ (o : Order). (n, o)) IsBeyond (by_session orders)
+    (later_weaker IsBehind (λ o p. IsBeyond (n, o) (n, p)) (by_session orders) (λ o p there there' behind. inr (refl, behind)) (by_rising 1 64 orders (lines_below orders (and_parts (lines_rise orders) (list_all lines_rise phases) rise).0))))
+    (phases_beyond (n + 1) phases (and_parts (lines_rise orders) (list_all lines_rise phases) rise).1)
+    (λ x y here behind. let r = of_map {B = ℕ × Order} (λ (o : Order). (n, o)) (by_session orders) x here in let e = ap (λ (y : ℕ × Order). y.0) r.2 in let l = phase_from (n + 1) phases y behind in inl (omega arith))
+
+-- ---- at most one session a phase
+
+of_one_session : (session first more : ℕ) (orders : List Order) → list_all (λ o. o.session == session) orders ≡ true → (o : Order) → In o (of_sessions first more orders) → o.session ≡ session
+of_one_session session first zero orders one o there = absurd there
+of_one_session session first (suc more) orders one o there = ⊎_elim
+    (λ here. eqb-true o.session session (of_all (λ o. o.session == session) orders o one (of_filter (λ o. o.session == first) orders o here).0))
+    (λ behind. of_one_session session (first + 1) more orders one o behind)
+    (of_append (filter (λ o. o.session == first) orders) (of_sessions (first + 1) more orders) o there)
+
+-- of two orders of one phase, the sessions are the same
+pub alone_in_phase : (n : ℕ) (phases : List (List Order)) → All HasOneSession phases → (x y : ℕ × Order) → In x (from_phase n phases) → In y (from_phase n phases) → x.0 ≡ y.0 → x.1.session ≡ y.1.session
+alone_in_phase n [] one x y there there' same = absurd there
+alone_in_phase n (orders ∷ phases) one x y there there' same =
+    let head : HasOneSession orders = All-head HasOneSession orders phases one in
+    let phase_of : (z : ℕ × Order) → In z (map {B = ℕ × Order} (λ (o : Order). (n, o)) (by_session orders)) → (z.0 ≡ n) × (z.1.session ≡ head.0) =
+    λ z here. (let r = of_map {B = ℕ × Order} (λ (o : Order). (n, o)) (by_session orders) z here in
+    (ap (λ (y : ℕ × Order). y.0) r.2, ap (λ (y : ℕ × Order). y.1.session) r.2 ∙ of_one_session head.0 1 64 orders head.1 r.0 r.1)) in
+    ⊎_elim
+    (λ here. ⊎_elim
+    (λ here'. (phase_of x here).1 ∙ sym (phase_of y here').1)
+    (λ behind'. let e = (phase_of x here).0 in let l = phase_from (n + 1) phases y behind' in absurd (omega arith))
+    (of_append (map {B = ℕ × Order} (λ (o : Order). (n, o)) (by_session orders)) (from_phase (n + 1) phases) y there'))
+    (λ behind. ⊎_elim
+    (λ here'. let e = (phase_of y here').0 in let l = phase_from (n + 1) phases x behind in absurd (omega arith))
+    (λ behind'. alone_in_phase (n + 1) phases (All-tail HasOneSession orders phases one) x y behind behind' same)
+    (of_append (map {B = ℕ × Order} (λ (o : Order). (n, o)) (by_session orders)) (from_phase (n + 1) phases) y there'))
+    (of_append (map {B = ℕ × Order} (λ (o : Order). (n, o)) (by_session orders)) (from_phase (n + 1) phases) x there)
 
 -- ---- steps
 

@@ -1,6 +1,6 @@
--- Scripts of one session, whose numbers are exact.
-use Rattle.std.specs.Prelude.{◌≡◌, ◌≤◌, ◌+◌, ℕ, max, if◌then◌else◌, Bool, true, false, List, [], ◌∷◌, length, take}
-use Rattle.std.specs.Prelude.{IsTrue, Option, Some, None, is_none, unwrap_or}
+-- Scripts of one session, or of one in each phase, whose numbers are exact.
+use Rattle.std.specs.Prelude.{◌≡◌, ◌==◌, ◌≤◌, ◌+◌, ℕ, max, if◌then◌else◌, Bool, true, false, List, [], ◌∷◌, length, take}
+use Rattle.std.specs.Prelude.{All, IsTrue, Option, Some, None, is_none, unwrap_or}
 use Rattle.std.specs.List.{list_all}
 use Rattle.facet_model.specs.Accepts.{Broken, first_broken}
 use Rattle.facet_model.specs.Documents.{Doc}
@@ -37,6 +37,17 @@ OneSessionIsExact = (settings : Settings) (phases : List (List Order)) (opened :
     → IsOutput settings phases opened labels history published answered → IsTrue (list_all lines_rise phases)
     → IsTrue (list_all (is_of session) answered)
     → AreExact (length opened.docs) (length opened.docs) answered
+
+-- all orders are of one session
+abbrev pub HasOneSession : List Order → Type 0
+HasOneSession orders = (session : ℕ) × IsTrue (list_all (λ o. o.session == session) orders)
+
+-- the right output of a script in each of whose phases at most one session has orders is exact
+abbrev pub OneSessionAPhaseIsExact : Type 0
+OneSessionAPhaseIsExact = (settings : Settings) (phases : List (List Order)) (opened : Opened)
+    (labels : List (List (List ℕ))) (history : List Operation) (published : Published) (answered : List Answered)
+    → IsOutput settings phases opened labels history published answered → IsTrue (list_all lines_rise phases)
+    → All HasOneSession phases → AreExact (length opened.docs) (length opened.docs) answered
 
 -- ---- labels
 

@@ -1,5 +1,5 @@
 ghost use Rattle.facet_output.specs.Commits.{CommitsHavePoints};
-ghost use Rattle.facet_output.specs.OneSession.{OneSessionHasItsLabels, OneSessionIsExact};
+ghost use Rattle.facet_output.specs.OneSession.{OneSessionAPhaseIsExact, OneSessionHasItsLabels, OneSessionIsExact};
 ghost use Rattle.facet_output.specs.OneShelf.{OneSessionIsServed};
 ghost use Rattle.facet_output.specs.Outputs.{FirstPhasesGivePart, SessionsGiveBytes, SessionsGivePart};
 ghost use Rattle.facet_output.specs.Sessions.{SessionsGiveOutput};
@@ -28,9 +28,11 @@ pub fn commits_have_points()
 {}
 
 /// States that in the right output of a script of one session each add is placed after all operations, each refresh and
-/// each commit has all of them, and each pair that is taken without a name is that of the last refresh.
+/// each commit has all of them, and each pair that is taken without a name is that of the last refresh. So it is if at
+/// most one session has commands in each phase.
 pub fn one_session_is_exact()
-    ensures { OneSessionIsExact }
+    ensures whole { OneSessionIsExact }
+    ensures each { OneSessionAPhaseIsExact }
 {}
 
 /// States for a session that ran alone that each add leaves a prefix of the labels that its document lacked, all of
