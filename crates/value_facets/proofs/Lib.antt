@@ -1,3 +1,4 @@
+pub mod Below
 pub mod Counted
 pub mod HitLeaves
 pub mod Noted

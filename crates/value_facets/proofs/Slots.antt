@@ -1,33 +1,25 @@
 -- The numbers of labels, and which labels have one.
-use Rattle.std.proofs.Common.{◌≡◌, ℕ, zero, suc, ◌<◌, ◌≤◌, ◌+◌, ◌==◌, ℤ, negsuc, Bool, true, false, true≢false, not, cond, List, [], ◌∷◌, ◌++◌, length, get_or, slice_get, Option, Some, None, refl, sym, ap, subst, ◌∙◌, arith, All}
+use Rattle.std.proofs.Common.{◌≡◌, ℕ, ◌<◌, ◌≤◌, ◌==◌, ◌⊎◌, inl, inr, ℤ, Bool, true, false, true≢false, not, cond, List, [], ◌∷◌, length, replicate, set, get_or, slice_get, Option, Some, None, refl, sym, ap, subst, ◌∙◌, arith, All}
 use Rattle.std.specs.Prelude.{MatchOption}
 use Rattle.std.specs.Str.{bytes_eq}
 use Rattle.std.specs.Cmp.Lexicographic.{bytes_decides}
-use Rattle.std.proofs.lemmas.List.{length_push}
-use Rattle.std.proofs.lemmas.List.Elements.{All-nil, All-push}
+use Rattle.std.proofs.lemmas.Bool.{cases_eq, cases_lt}
+use Rattle.std.proofs.lemmas.List.{get_or-replicate, get_or-set_other, get_or-set_same, length-replicate, length-set}
+use Rattle.std.proofs.lemmas.List.Elements.{All-replicate, All-set}
 use Rattle.std.proofs.lemmas.Option.{get_or_from_slice_get, same_Some, slice_get-get_or}
-use Rattle.facet_names.specs.Arrays.{or_none, parent_at}
-use Rattle.facet_names.specs.Labels.{IsLabelList, place}
-use Rattle.taxo_list.specs.ArrayLists.{arrays_of}
-use Rattle.taxo_list.proofs.Labels.{root_is}
-use Rattle.taxo_list.proofs.Linked.{entry}
+use Rattle.facet_names.specs.Arrays.{child_at, is_child, sibling_at}
+use Rattle.facet_names.specs.Labels.{IsLabelList, above}
+use Rattle.taxo_list.proofs.Labels.{place_at, root_first}
+use Rattle.facet_counts.proofs.Entries.{has_parent}
 use Rattle.number_facets.specs.Numbers.{number_of}
 use Rattle.number_facets.specs.Values.{value_at}
 use Rattle.value_facets.specs.Cuts.{IsRank}
-use Rattle.value_facets.specs.Marking.{AreSlots, IsParentOfValues, IsSlot}
-use Rattle.value_facets.proofs.Pushed.{pushed}
+use Rattle.value_facets.specs.Marking.{AreSlots, IsSlot}
+use Rattle.value_facets.proofs.Below.{IsNext, bound, child_of_parent, none_passed, passed_before}
 
 pub shown : (b : Bool) → false ≡ not b → b ≡ true
 shown true e = refl
 shown false e = absurd (true≢false (sym e))
-
--- the parent of a label of the dimension and one more component
-pub parent_is : (labels : List (List (List ℕ))) (dim : List ℕ) (parent : ℤ) → or_none (place labels (dim ∷ [])) ≡ parent → IsParentOfValues labels dim parent
-parent_is labels dim parent is zero text some lt here = absurd (omega arith)
-parent_is labels dim parent is (suc i) text some lt here = entry (parent_at labels) (length labels) (suc i) (negsuc 0) lt ∙ ap or_none at ∙ is
-  where
-    at : parent_at labels (suc i) ≡ place labels (dim ∷ [])
-    at = rw here refl
 
 -- the value of a label of two components
 pub value_of : (dim : List ℕ) (label : List (List ℕ)) (d text : List ℕ) → length label ≡ 2 → slice_get label 0 ≡ Some d → bytes_eq d dim ≡ true → slice_get label 1 ≡ Some text → value_at dim label ≡ number_of text
@@ -73,42 +65,62 @@ module _ (labels : List (List (List ℕ))) (dim : List ℕ) (cuts : List ℤ) (o
   pub slot_none : (label : List (List ℕ)) → slice_get labels ord ≡ Some label → value_at dim label ≡ None → IsSlot labels dim cuts ord 0
   slot_none label here is = subst (λ o. MatchOption o (◌≡◌ {A = ℕ} 0 0) (λ n. IsRank cuts n 0)) (sym (ap (value_at dim) (get_or_from_slice_get labels ord label [] here) ∙ is)) refl
 
-  -- a label with another parent has no value
-  pub slot_elsewhere : (parent : ℤ) → 0 < ord → ord < length labels → IsParentOfValues labels dim parent → (get_or (arrays_of labels).parents ord (negsuc 0) ≡ parent → ⊥) → IsSlot labels dim cuts ord 0
-  slot_elsewhere parent some lt is other = by (value_at dim label) refl
+  -- a label that is not below the dimension has no value
+  pub slot_elsewhere : IsLabelList labels → ord < length labels → ((p : ℕ) → slice_get labels p ≡ Some (dim ∷ []) → is_child labels p ord ≡ true → ⊥) → IsSlot labels dim cuts ord 0
+  slot_elsewhere is lt apart = by (value_at dim label) refl (cases_lt 0 ord)
     where
       label : List (List ℕ)
       label = get_or labels ord []
 
-      by : (o : Option ℤ) → value_at dim label ≡ o → IsSlot labels dim cuts ord 0
-      by None e = slot_none label (slice_get-get_or labels ord [] lt) e
-      by (Some v) e = let parts = value_parts dim label v e in absurd (other (is ord parts.0 some lt (slice_get-get_or labels ord [] lt ∙ ap Some parts.1)))
+      here : slice_get labels ord ≡ Some label
+      here = slice_get-get_or labels ord [] lt
+
+      by : (o : Option ℤ) → value_at dim label ≡ o → (0 < ord) ⊎ (ord ≤ 0) → IsSlot labels dim cuts ord 0
+      by None e at = slot_none label here e
+      by (Some v) e (inl some) =
+          let parts = value_parts dim label v e in
+          let parent = has_parent labels is ord some lt in
+          absurd (apart parent.0 (parent.3 ∙ ap (λ p. Some (above p)) parts.1) (child_of_parent labels parent.0 ord parent.2))
+      by (Some v) e (inr none) =
+          let parts = value_parts dim label v e in
+          let root : ord ≡ 0 = omega (arith, none) in
+          absurd (let long : length label ≡ 2 = ap length parts.1 in let short : length label ≡ 0 = ap (λ k. length (get_or labels k [])) root ∙ ap length (root_first labels is []) in omega (arith, long, short))
 
 -- ---- all slots
 
--- the root has no value
-pub slot_root : (labels : List (List (List ℕ))) (dim : List ℕ) (cuts : List ℤ) → IsLabelList labels → IsSlot labels dim cuts 0 0
-slot_root labels dim cuts is = slot_none labels dim cuts 0 [] (root_is labels is) refl
-
--- The labels below a bound have slots.
-pub record AreSlotsTo (labels : List (List (List ℕ))) (dim : List ℕ) (cuts : List ℤ) (n : ℕ) (slots : List ℕ) : Type 0 where
-  pub as_many : length slots ≡ n
-  pub each : (ord : ℕ) → ord < n → IsSlot labels dim cuts ord (get_or slots ord 0)
-  pub within : All (λ slot. slot ≤ length cuts) slots
-
-pub slots_none : (labels : List (List (List ℕ))) (dim : List ℕ) (cuts : List ℤ) → AreSlotsTo labels dim cuts 0 []
-slots_none labels dim cuts = record { as_many = refl; each = λ ord lt. absurd (omega arith); within = All-nil (λ slot. slot ≤ length cuts) }
-
-pub slots_more : (labels : List (List (List ℕ))) (dim : List ℕ) (cuts : List ℤ) (n : ℕ) (slots more : List ℕ) (slot : ℕ) → AreSlotsTo labels dim cuts n slots → IsSlot labels dim cuts n slot → slot ≤ length cuts → more ≡ slots ++ slot ∷ [] → AreSlotsTo labels dim cuts (n + 1) more
-slots_more labels dim cuts n slots more slot are one low new = subst (AreSlotsTo labels dim cuts (n + 1)) (sym new) (record {
-  as_many = length_push slots slot ∙ ap (λ k. k + 1) are.as_many;
-  each = pushed (IsSlot labels dim cuts) slots n slot 0 are.as_many are.each one;
-  within = All-push (λ s. s ≤ length cuts) slots slot are.within low;
+-- without the dimension all are the first
+pub slots_without : (labels : List (List (List ℕ))) (dim : List ℕ) (cuts : List ℤ) (slots : List ℕ) → IsLabelList labels → ((p : ℕ) → slice_get labels p ≡ Some (dim ∷ []) → ⊥) → slots ≡ replicate (length labels) 0 → AreSlots labels dim cuts slots
+slots_without labels dim cuts slots is none zeros = subst (AreSlots labels dim cuts) (sym zeros) (record {
+  as_many = length-replicate (length labels) 0;
+  each = λ q lt. subst (IsSlot labels dim cuts q) (sym (get_or-replicate (length labels) q 0 0 lt)) (slot_elsewhere labels dim cuts q is lt (λ p at child. none p at));
+  within = All-replicate (λ slot. slot ≤ length cuts) (length labels) 0 (omega arith);
 })
 
-pub slots_all : (labels : List (List (List ℕ))) (dim : List ℕ) (cuts : List ℤ) (n : ℕ) (slots : List ℕ) → n ≡ length labels → AreSlotsTo labels dim cuts n slots → AreSlots labels dim cuts slots
-slots_all labels dim cuts n slots all are = record {
-  as_many = are.as_many ∙ all;
-  each = λ ord lt. are.each ord (omega (arith, lt, all));
-  within = are.within;
-}
+-- The labels below the dimension that the walk has passed have their slots. All other slots are the first.
+pub record AreSlotsFrom (labels : List (List (List ℕ))) (dim : List ℕ) (cuts : List ℤ) (ord : ℕ) (next : Option ℕ) (slots : List ℕ) : Type 0 where
+  pub as_many : length slots ≡ length labels
+  pub each : (q : ℕ) → q < length labels → (is_child labels ord q ≡ true → bound next ≤ q) → IsSlot labels dim cuts q (get_or slots q 0)
+  pub within : All (λ slot. slot ≤ length cuts) slots
+
+module _ (labels : List (List (List ℕ))) (is : IsLabelList labels) (dim : List ℕ) (cuts : List ℤ) (ord : ℕ) (here : slice_get labels ord ≡ Some (dim ∷ [])) where
+  pub slots_begin : (next : Option ℕ) (slots : List ℕ) → next ≡ child_at labels ord → slots ≡ replicate (length labels) 0 → AreSlotsFrom labels dim cuts ord next slots
+  slots_begin next slots first zeros = subst (AreSlotsFrom labels dim cuts ord next) (sym zeros) (record {
+    as_many = length-replicate (length labels) 0;
+    each = λ q lt past. subst (IsSlot labels dim cuts q) (sym (get_or-replicate (length labels) q 0 0 lt)) (slot_elsewhere labels dim cuts q is lt (λ p at child.
+        let same : p ≡ ord = same_Some p ord (sym (place_at labels is p (dim ∷ []) at) ∙ place_at labels is ord (dim ∷ []) here) in
+        let below : is_child labels ord q ≡ true = ap (λ k. is_child labels k q) (sym same) ∙ child in
+        none_passed labels ord next q first lt below (past below)));
+    within = All-replicate (λ slot. slot ≤ length cuts) (length labels) 0 (omega arith);
+  })
+
+  pub slots_next : (c : ℕ) (next : Option ℕ) (old new : List ℕ) (slot : ℕ) → IsNext labels ord (Some c) → next ≡ sibling_at labels c → AreSlotsFrom labels dim cuts ord (Some c) old → IsSlot labels dim cuts c slot → slot ≤ length cuts → new ≡ set old c slot
+      → AreSlotsFrom labels dim cuts ord next new
+  slots_next c next old new slot at goes are one low noted = subst (AreSlotsFrom labels dim cuts ord next) (sym noted) (record {
+    as_many = length-set old c slot ∙ are.as_many;
+    each = λ q lt past. by q lt past (cases_eq q c);
+    within = All-set (λ slot. slot ≤ length cuts) old c slot low are.within;
+  })
+    where
+      by : (q : ℕ) → q < length labels → (is_child labels ord q ≡ true → bound next ≤ q) → (q ≡ c) ⊎ (q ≡ c → ⊥) → IsSlot labels dim cuts q (get_or (set old c slot) q 0)
+      by q lt past (inl same) = subst (λ k. IsSlot labels dim cuts k (get_or (set old c slot) k 0)) (sym same) (subst (IsSlot labels dim cuts c) (sym (get_or-set_same old c slot 0 (omega (arith, at.0, are.as_many)))) one)
+      by q lt past (inr apart) = subst (IsSlot labels dim cuts q) (sym (get_or-set_other old c q slot 0 apart)) (are.each q lt (λ child. passed_before labels ord c at next goes q child (past child) apart))

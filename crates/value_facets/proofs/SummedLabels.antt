@@ -1,16 +1,15 @@
 -- Labels of three components below a dimension, by ordinals.
-use Rattle.std.proofs.Common.{◌≡◌, ℕ, zero, suc, ℤ, pos, negsuc, ltb, leb, ◌^◌, ◌==◌, ◌≤◌, ◌<◌, ◌+◌, ◌⊎◌, inl, inr, Bool, true, false, cond, ◌&&◌, List, [], ◌∷◌, ◌++◌, length, get_or, slice_get, Option, Some, None, nat_eq, refl, sym, ap, subst, ◌∙◌, arith}
-use Rattle.std.specs.Prelude.{unwrap_or, option_and_then, int_le, int_lt, neg_ℤ}
+use Rattle.std.proofs.Common.{◌≡◌, ℕ, zero, suc, ℤ, pos, negsuc, ltb, leb, ◌^◌, ◌==◌, ◌≤◌, ◌<◌, ◌+◌, ◌⊎◌, inl, inr, Bool, true, false, true≢false, cond, ◌&&◌, List, [], ◌∷◌, ◌++◌, length, replicate, set, get_or, slice_get, Option, Some, None, refl, sym, ap, subst, ◌∙◌, arith}
+use Rattle.std.specs.Prelude.{option_and_then, int_le, int_lt, neg_ℤ}
 use mir.Syntax.{w32}
 use mir.Val.{SFits, to_z, of_z}
-use Rattle.std.specs.Option.{option_map_or}
 use Rattle.std.specs.Str.{bytes_eq}
 use Rattle.std.specs.Cmp.Lexicographic.{bytes_decides}
 use Rattle.std.proofs.lemmas.Bool.{and_parts, eq-eqb, eqb-true, leb-true, ltb-true, ne_eqb, cases_eq, false_from_ne_true}
-use Rattle.std.proofs.lemmas.List.{get_or_append_left, get_or_push, length-append}
+use Rattle.std.proofs.lemmas.List.{get_or-replicate, get_or-set_other, get_or-set_same, get_or_append_left, get_or_push, length-append, length-replicate, length-set}
 use Rattle.std.proofs.lemmas.Int.{to_z-of_z}
 use Rattle.std.proofs.lemmas.Option.{same_Some, none-some, slice_get-get_or, get_or_from_slice_get, slice_get_within}
-use Rattle.facet_names.specs.Arrays.{parent_at}
+use Rattle.facet_names.specs.Arrays.{child_at, is_child, parent_at, sibling_at}
 use Rattle.facet_names.specs.Labels.{IsLabelList, above, place}
 use Rattle.facet_names.specs.Paths.{last_part}
 use Rattle.number_facets.specs.Numbers.{number_of, small_of, small_number_of}
@@ -18,10 +17,10 @@ use Rattle.number_facets.specs.Values.{weight_at}
 use Rattle.taxo_list.specs.DimLists.{is_dim, dims_below}
 use Rattle.taxo_list.proofs.Labels.{place_at, root_is}
 use Rattle.taxo_list.proofs.Walked.{dims_more}
-use Rattle.facet_counts.proofs.Entries.{has_parent}
 use Rattle.facet_counts.proofs.Listed.{child_label}
-use Rattle.value_facets.specs.Summing.{IsWeight, no_weight, weight_below}
+use Rattle.value_facets.specs.Summing.{AreNotedBelow, IsWeight, no_weight, weight_below}
 use Rattle.value_facets.specs.declared.weights.Weight.{Weight}
+use Rattle.value_facets.proofs.Below.{IsNext, bound, child_of_parent, none_passed, passed_before}
 
 -- ---- dimensions
 
@@ -99,21 +98,6 @@ pub second : (a b c d : List ℕ) → a ∷ b ∷ [] ≡ c ∷ d ∷ [] → b �
 second a b c d e = ap (λ (l : List (List ℕ)). get_or l 1 []) e
 
 module _ (known : List (List (List ℕ))) (is : IsLabelList known) where
-  -- a number in place of the parent is the parent, if it is not 0
-  pub has_parent_at : (ord p : ℕ) → unwrap_or (parent_at known ord) 0 ≡ p → 0 < p → parent_at known ord ≡ Some p
-  has_parent_at ord p e some = by (parent_at known ord) refl e
-    where
-      by : (o : Option ℕ) → parent_at known ord ≡ o → unwrap_or o 0 ≡ p → parent_at known ord ≡ Some p
-      by None at zero_is = absurd (omega (arith, zero_is, some))
-      by (Some q) at same = at ∙ ap Some same
-
-  -- the parent is there
-  pub parent_within : (ord : ℕ) → ord < length known → unwrap_or (parent_at known ord) 0 < length known
-  parent_within zero lt = lt
-  parent_within (suc ord) lt =
-      let parent = has_parent known is (suc ord) (omega arith) lt in
-      subst (λ o. unwrap_or o 0 < length known) (sym parent.2) (omega (arith, lt, parent.1))
-
   -- only the root is at 0
   pub not_root : (at : ℕ) (part : List ℕ) (path : List (List ℕ)) → slice_get known at ≡ Some (part ∷ path) → 0 < at
   not_root zero part path here = absurd (empty (same_Some (part ∷ path) [] (sym here ∙ root_is known is)))
@@ -121,11 +105,6 @@ module _ (known : List (List (List ℕ))) (is : IsLabelList known) where
       empty : part ∷ path ≡ [] → ⊥
       empty e = omega (arith, ap length e)
   not_root (suc at) part path here = omega arith
-
-  -- a label with a parent is the parent's and one component
-  pub below_parent : (at ord : ℕ) (path : List (List ℕ)) → slice_get known at ≡ Some path → ord < length known → parent_at known ord ≡ Some at → slice_get known ord ≡ Some (path ++ last_part (get_or known ord []) ∷ [])
-  below_parent at ord path here lt parent =
-      slice_get-get_or known ord [] lt ∙ ap Some (child_label known is [] at path here ord lt (ap (λ o. option_map_or (nat_eq at) o false) parent ∙ eq-eqb at at refl)).1
 
   -- the label with one component less is at the parent
   pub parent_is : (at ord : ℕ) (part : List ℕ) (path : List (List ℕ)) → slice_get known ord ≡ Some (part ∷ path) → slice_get known at ≡ Some (above (part ∷ path)) → parent_at known ord ≡ Some at
@@ -136,34 +115,16 @@ module _ (known : List (List (List ℕ))) (is : IsLabelList known) where
   pub one_place : (a b : ℕ) (path : List (List ℕ)) → slice_get known a ≡ Some path → slice_get known b ≡ Some path → a ≡ b
   one_place a b path at bt = same_Some a b (sym (place_at known is a path at) ∙ place_at known is b path bt)
 
-  module _ (name : List ℕ) (dim : ℕ) (here : slice_get known dim ≡ Some (name ∷ [])) (ord : ℕ) (lt : ord < length known) where
-    -- two parents up is the dimension
-    abbrev pub IsUnder : ℕ → Type 0
-    IsUnder part = (0 < part) × (unwrap_or (parent_at known ord) 0 ≡ part) × (unwrap_or (parent_at known part) 0 ≡ dim)
-
-    pub labels_under : (part : ℕ) → part < length known → IsUnder part → (p text : List ℕ) × (slice_get known part ≡ Some (name ∷ p ∷ [])) × (slice_get known ord ≡ Some (name ∷ p ∷ text ∷ []))
-    labels_under part low under =
-        let some : 0 < dim = not_root dim name [] here in
-        let up : slice_get known part ≡ Some (name ∷ last_part (get_or known part []) ∷ []) = below_parent dim part (name ∷ []) here low (has_parent_at part dim under.2 some) in
-        (last_part (get_or known part []), last_part (get_or known ord []), up, below_parent part ord (name ∷ last_part (get_or known part []) ∷ []) up lt (has_parent_at ord part under.1 under.0))
-
-    -- a label with a number has these parents
-    under_of : (at : ℕ) (p text : List ℕ) → slice_get known at ≡ Some (name ∷ p ∷ []) → slice_get known ord ≡ Some (name ∷ p ∷ text ∷ []) → IsUnder at
-    under_of at p text up own = (
-      not_root at name (p ∷ []) up,
-      ap (λ o. unwrap_or o 0) (parent_is at ord name (p ∷ text ∷ []) own up),
-      ap (λ o. unwrap_or o 0) (parent_is dim at name (p ∷ []) up here),
-    )
-
+  module _ (name : List ℕ) (ord : ℕ) (lt : ord < length known) where
     no_weight_below : (at : ℕ) → 0 < at → weight_below no_weight at ≡ None
     no_weight_below at some = ap (λ b. cond b (Some (pos 0)) None) (ne_eqb 0 at (λ e. omega (arith, some, e)))
 
     root_within : 0 < length known
     root_within = omega (arith, lt)
 
-    -- a label that is elsewhere adds nothing
-    pub is_elsewhere : ((part : ℕ) → IsUnder part → ⊥) → IsWeight known name ord no_weight
-    is_elsewhere apart = record {
+    -- a label that is not below a component of the dimension adds nothing
+    pub is_elsewhere : (dim : ℕ) → slice_get known dim ≡ Some (name ∷ []) → ((part : ℕ) → part < length known → is_child known dim part ≡ true → is_child known part ord ≡ true → ⊥) → IsWeight known name ord no_weight
+    is_elsewhere dim here apart = record {
       within = root_within;
       part = λ some. absurd (omega (arith, some));
       number = λ at part label up own. no_weight_below at (not_root at name (part ∷ []) up) ∙ sym (by at part label up own (weight_cases name part label));
@@ -171,7 +132,10 @@ module _ (known : List (List (List ℕ))) (is : IsLabelList known) where
       where
         by : (at : ℕ) (part : List ℕ) (label : List (List ℕ)) → slice_get known at ≡ Some (name ∷ part ∷ []) → slice_get known ord ≡ Some label → (weight_at name part label ≡ None) ⊎ ((text : List ℕ) × (label ≡ name ∷ part ∷ text ∷ [])) → weight_at name part label ≡ None
         by at part label up own (inl none) = none
-        by at part label up own (inr is) = absurd (apart at (under_of at part is.0 up (own ∙ ap Some is.1)))
+        by at part label up own (inr is) =
+            let parent : parent_at known ord ≡ Some at = parent_is at ord name (part ∷ is.0 ∷ []) (own ∙ ap Some is.1) up in
+            let again : parent_at known at ≡ Some dim = parent_is dim at name (part ∷ []) up here in
+            absurd (apart at (slice_get_within known at (name ∷ part ∷ []) up) (child_of_parent known dim at again) (child_of_parent known at ord parent))
 
     module _ (part : ℕ) (p text : List ℕ) (up : slice_get known part ≡ Some (name ∷ p ∷ [])) (own : slice_get known ord ≡ Some (name ∷ p ∷ text ∷ [])) where
       -- neither does one with another text
@@ -200,37 +164,87 @@ module _ (known : List (List (List ℕ))) (is : IsLabelList known) where
 
 -- ---- one label as the code reads it
 
-module _ (known : List (List (List ℕ))) (is : IsLabelList known) (name : List ℕ) (dim : ℕ) (here : slice_get known dim ≡ Some (name ∷ [])) (ord : ℕ) (lt : ord < length known) (part above_part : ℕ) (low : part < length known) (some : 0 < part)
-    (up : part ≡ unwrap_or (parent_at known ord) 0) (again : above_part ≡ unwrap_or (parent_at known part) 0) (same : above_part ≡ dim) (path : List (List ℕ)) (label : slice_get known ord ≡ Some path) where
-  two_up : (p text : List ℕ) × (slice_get known part ≡ Some (name ∷ p ∷ [])) × (slice_get known ord ≡ Some (name ∷ p ∷ text ∷ []))
-  two_up = labels_under known is name dim here ord lt part low (some, sym up, sym again ∙ same)
+module _ (known : List (List (List ℕ))) (is : IsLabelList known) (name p : List ℕ) (part : ℕ) (up : slice_get known part ≡ Some (name ∷ p ∷ [])) (ord : ℕ) (lt : ord < length known) (child : is_child known part ord ≡ true)
+    (path : List (List ℕ)) (label : slice_get known ord ≡ Some path) where
+  abbrev last : List ℕ
+  last = last_part (get_or known ord [])
 
-  path_is : path ≡ name ∷ two_up.0 ∷ two_up.1 ∷ []
-  path_is = same_Some path (name ∷ two_up.0 ∷ two_up.1 ∷ []) (sym label ∙ two_up.3)
+  own : slice_get known ord ≡ Some (name ∷ p ∷ last ∷ [])
+  own = slice_get-get_or known ord [] lt ∙ ap Some (child_label known is [] part (name ∷ p ∷ []) up ord lt child).1
+
+  path_is : path ≡ name ∷ p ∷ last ∷ []
+  path_is = same_Some path (name ∷ p ∷ last ∷ []) (sym label ∙ own)
 
   pub has_three : 2 < length path
   has_three = omega (arith, ap length path_is)
 
   module _ (third : List ℕ) (text : slice_get path 2 ≡ Some third) where
-    number_at : small_number_of two_up.1 ≡ small_number_of third
-    number_at = ap small_number_of (sym (same_Some third two_up.1 (sym text ∙ ap (λ (l : List (List ℕ)). slice_get l 2) path_is)))
+    number_at : small_number_of last ≡ small_number_of third
+    number_at = ap small_number_of (sym (same_Some third last (sym text ∙ ap (λ (l : List (List ℕ)). slice_get l 2) path_is)))
 
     pub no_number_read : small_number_of third ≡ None → IsWeight known name ord no_weight
-    no_number_read none = is_no_number known is name dim here ord lt part two_up.0 two_up.1 two_up.2 two_up.3 (number_at ∙ none)
+    no_number_read none = is_no_number known is name ord lt part p last up own (number_at ∙ none)
 
     pub number_read : (v : ℤ) → small_number_of third ≡ Some v → IsWeight known name ord (record { part = part; number = to_z w32 (of_z w32 v) })
     number_read v number =
         subst (λ n. IsWeight known name ord (record { part = part; number = n })) (sym (to_z-of_z w32 v (small_fits third v number)))
-        (is_number known is name dim here ord lt part two_up.0 two_up.1 two_up.2 two_up.3 v (number_at ∙ number))
+        (is_number known is name ord lt part p last up own v (number_at ∙ number))
 
--- one more weight
-pub weights_more : (known : List (List (List ℕ))) (name : List ℕ) (weights : List Weight) (n : ℕ) (w : Weight) → length weights ≡ n → ((k : ℕ) → k < n → IsWeight known name k (get_or weights k no_weight)) → IsWeight known name n w
-    → (k : ℕ) → k < n + 1 → IsWeight known name k (get_or (weights ++ w ∷ []) k no_weight)
-weights_more known name weights n w long each more k lt = by (cases_eq k n)
-  where
-    by : (k ≡ n) ⊎ (k ≡ n → ⊥) → IsWeight known name k (get_or (weights ++ w ∷ []) k no_weight)
-    by (inl same) = subst (λ i. IsWeight known name i (get_or (weights ++ w ∷ []) i no_weight)) (sym same) (subst (IsWeight known name n) (sym (get_or_push weights w no_weight n long)) more)
-    by (inr apart) = subst (IsWeight known name k) (sym (get_or_append_left weights (w ∷ []) no_weight k (omega (arith, lt, apart, long)))) (each k (omega (arith, lt, apart)))
+-- ---- the walks
+
+-- What each label below a component that the walk has passed adds was noted, and nothing else was.
+pub record AreNotedFrom (known : List (List (List ℕ))) (name : List ℕ) (part : ℕ) (next : Option ℕ) (old new : List Weight) : Type 0 where
+  pub as_many : length new ≡ length old
+  pub below : (q : ℕ) → q < length known → is_child known part q ≡ true → bound next ≤ q → IsWeight known name q (get_or new q no_weight)
+  pub others : (q : ℕ) → is_child known part q ≡ false → get_or new q no_weight ≡ get_or old q no_weight
+
+module _ (known : List (List (List ℕ))) (name : List ℕ) (part : ℕ) where
+  pub noted_begin : (next : Option ℕ) (weights : List Weight) → next ≡ child_at known part → AreNotedFrom known name part next weights weights
+  noted_begin next weights first = record {
+    as_many = refl;
+    below = λ q lt child past. absurd (none_passed known part next q first lt child past);
+    others = λ q apart. refl;
+  }
+
+  pub noted_next : (c : ℕ) (next : Option ℕ) (first old new : List Weight) (w : Weight) → length first ≡ length known → IsNext known part (Some c) → next ≡ sibling_at known c → AreNotedFrom known name part (Some c) first old → IsWeight known name c w → new ≡ set old c w
+      → AreNotedFrom known name part next first new
+  noted_next c next first old new w sized at goes are one noted = subst (AreNotedFrom known name part next first) (sym noted) (record {
+    as_many = length-set old c w ∙ are.as_many;
+    below = λ q lt child past. by q lt child past (cases_eq q c);
+    others = λ q other. get_or-set_other old c q w no_weight (λ same. true≢false (sym at.1 ∙ ap (is_child known part) (sym same) ∙ other)) ∙ are.others q other;
+  })
+    where
+      by : (q : ℕ) → q < length known → is_child known part q ≡ true → bound next ≤ q → (q ≡ c) ⊎ (q ≡ c → ⊥) → IsWeight known name q (get_or (set old c w) q no_weight)
+      by q lt child past (inl same) = subst (λ k. IsWeight known name k (get_or (set old c w) k no_weight)) (sym same) (subst (IsWeight known name c) (sym (get_or-set_same old c w no_weight (omega (arith, at.0, sized, are.as_many)))) one)
+      by q lt child past (inr apart) = subst (IsWeight known name q) (sym (get_or-set_other old c q w no_weight apart)) (are.below q lt child (passed_before known part c at next goes q child past apart))
+
+-- Each label has its weight, but for those below components that the walk has not passed.
+pub record AreWeightsFrom (known : List (List (List ℕ))) (name : List ℕ) (dim : ℕ) (next : Option ℕ) (weights : List Weight) : Type 0 where
+  pub as_many : length weights ≡ length known
+  pub each : (q : ℕ) → q < length known → ((part : ℕ) → is_child known dim part ≡ true → is_child known part q ≡ true → bound next ≤ part) → IsWeight known name q (get_or weights q no_weight)
+
+module _ (known : List (List (List ℕ))) (is : IsLabelList known) (name : List ℕ) (dim : ℕ) (here : slice_get known dim ≡ Some (name ∷ [])) where
+  -- below the dimension is a component
+  pub component_at : (part : ℕ) → IsNext known dim (Some part) → (text : List ℕ) × (slice_get known part ≡ Some (name ∷ text ∷ []))
+  component_at part at = (last_part (get_or known part []), slice_get-get_or known part [] at.0 ∙ ap Some (child_label known is [] dim (name ∷ []) here part at.0 at.1).1)
+
+  pub weights_begin : (next : Option ℕ) (weights : List Weight) → next ≡ child_at known dim → weights ≡ replicate (length known) no_weight → AreWeightsFrom known name dim next weights
+  weights_begin next weights first none = subst (AreWeightsFrom known name dim next) (sym none) (record {
+    as_many = length-replicate (length known) no_weight;
+    each = λ q lt past. subst (IsWeight known name q) (sym (get_or-replicate (length known) q no_weight no_weight lt))
+        (is_elsewhere known is name q lt dim here (λ part low up child. none_passed known dim next part first low up (past part up child)));
+  })
+
+  pub weights_next : (c : ℕ) (next : Option ℕ) (old new : List Weight) → IsNext known dim (Some c) → next ≡ sibling_at known c → AreWeightsFrom known name dim (Some c) old → AreNotedBelow known name c old new → AreWeightsFrom known name dim next new
+  weights_next c next old new at goes are noted = record {
+    as_many = noted.as_many ∙ are.as_many;
+    each = λ q lt past. by q lt past (is_child known c q) refl;
+  }
+    where
+      by : (q : ℕ) → q < length known → ((part : ℕ) → is_child known dim part ≡ true → is_child known part q ≡ true → bound next ≤ part) → (b : Bool) → is_child known c q ≡ b → IsWeight known name q (get_or new q no_weight)
+      by q lt past true child = noted.below q lt child
+      by q lt past false other = subst (IsWeight known name q) (sym (noted.others q other)) (are.each q lt (λ part up child.
+          passed_before known dim c at next goes part up (past part up child) (λ same. true≢false (sym child ∙ ap (λ k. is_child known k q) same ∙ other))))
 
 -- ---- looking for a dimension
 

@@ -1,11 +1,10 @@
 -- Which counters a label counts for.
-use Rattle.std.specs.Prelude.{◌≡◌, ◌<◌, ◌≤◌, ◌==◌, ◌||◌, if◌then◌else◌, ℕ, ℤ, negsuc, nat_eq, All, Bool, List, [], ◌∷◌}
-use Rattle.std.specs.Prelude.{length, map, slice_get, slice_index_or, Option, Some, None, MatchOption}
+use Rattle.std.specs.Prelude.{◌≡◌, ◌<◌, ◌≤◌, ◌==◌, ◌||◌, if◌then◌else◌, ℕ, ℤ, nat_eq, All, Bool, List, []}
+use Rattle.std.specs.Prelude.{length, map, slice_index_or, Option, Some, None, MatchOption}
 use Rattle.std.specs.List.{list_any}
 use Rattle.std.specs.declared.alloc.Global.{Global}
 use Rattle.std.specs.declared.vec.Vec.{Vec}
 use Rattle.number_facets.specs.Values.{value_at}
-use Rattle.taxo_list.specs.ArrayLists.{arrays_of}
 use Rattle.value_facets.specs.Cuts.{AreRising, AreRows, HasCuts, IsRank}
 
 -- the slot of each label, and in each slot the counters of the label
@@ -34,11 +33,6 @@ pub record IsSlotOfAll (marks : Marked) (leaves : List ℕ) (slot : ℕ) : Type 
 
 abbrev pub marked_of : List ℕ → List (Vec ℕ Global) → Marked
 marked_of slots rows = record { slots = slots; rows = map (λ (row : Vec ℕ Global). row.items) rows }
-
--- The parent of each label with a value of the dimension; -1 for none.
-abbrev pub IsParentOfValues : List (List (List ℕ)) → List ℕ → ℤ → Type 0
-IsParentOfValues labels dim parent = (ord : ℕ) (text : List ℕ) → 0 < ord → ord < length labels
-    → slice_get labels ord ≡ Some (dim ∷ text ∷ []) → slice_index_or (arrays_of labels).parents ord (negsuc 0) ≡ parent
 
 -- The slot of a label is the rank of its number, and the first one if it has none.
 abbrev pub IsSlot : List (List (List ℕ)) → List ℕ → List ℤ → ℕ → ℕ → Type 0

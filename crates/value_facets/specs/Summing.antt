@@ -1,8 +1,10 @@
 -- Adding up the numbers of labels, by ordinals.
-use Rattle.std.specs.Prelude.{◌≡◌, ◌<◌, ◌==◌, ◌+ℤ◌, ◌++◌, ℕ, zero, suc, ℤ, pos, if◌then◌else◌, List, [], ◌∷◌, length}
+use Rattle.std.specs.Prelude.{◌≡◌, ◌<◌, ◌==◌, ◌+ℤ◌, ◌++◌, ℕ, zero, suc, ℤ, pos, if◌then◌else◌, List, []}
+use Rattle.std.specs.Prelude.{◌∷◌, true, false, length}
 use Rattle.std.specs.Prelude.{slice_get, slice_index_or, filter_map, flat_map, fold, Option, Some, None, unwrap_or}
 use Rattle.std.specs.List.{AllByRecursion}
 use Rattle.std.specs.Option.{option_map_or}
+use Rattle.facet_names.specs.Arrays.{is_child}
 use Rattle.facet_names.specs.Paths.{last_part}
 use Rattle.facet_model.specs.Stored.{Records}
 use Rattle.number_facets.specs.Values.{PartSum, weight_at}
@@ -27,6 +29,14 @@ no_weight = record { part = 0; number = pos 0 }
 pub record AreWeights (known : List (List (List ℕ))) (dim : List ℕ) (weights : List Weight) : Type 0 where
   pub as_many : length weights ≡ length known
   pub each : (ord : ℕ) → ord < length known → IsWeight known dim ord (slice_index_or weights ord no_weight)
+
+-- What each label below a component adds was noted, and nothing else was.
+pub record AreNotedBelow (known : List (List (List ℕ))) (dim : List ℕ) (part : ℕ) (old new : List Weight) : Type 0 where
+  pub as_many : length new ≡ length old
+  pub below : (ord : ℕ) → ord < length known → is_child known part ord ≡ true
+      → IsWeight known dim ord (slice_index_or new ord no_weight)
+  pub others : (ord : ℕ) → is_child known part ord ≡ false
+      → slice_index_or new ord no_weight ≡ slice_index_or old ord no_weight
 
 -- the numbers that these labels add to the component at an ordinal
 abbrev pub numbers_below : List Weight → List ℕ → ℕ → List ℤ

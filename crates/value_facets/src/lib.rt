@@ -2,6 +2,7 @@
 #![tactic(auto)]
 
 mod cuts;
+mod dims;
 mod hits;
 mod marks;
 mod ranging;
@@ -10,5 +11,6 @@ mod tally;
 mod totals;
 mod weights;
 
+pub use number_facets::{Range, RangeCounts, Sum, read_number, read_small_number, sums_fit};
 pub use ranging::RangeCounter;
 pub use summing::{SumFault, sums};

@@ -1,11 +1,14 @@
 //! The numbers of the labels of a dimension, and the counters that each of them counts for.
-ghost use Rattle.std.specs.Prelude.{◌≡◌, ◌==◌, ◌+◌, ◌<◌, ◌≤◌, ◌^◌, length, slice_index_or, [], IfOk, IfSome};
+ghost use Rattle.std.specs.Prelude.{◌≡◌, ◌==◌, ◌+◌, ◌<◌, ◌≤◌, ◌^◌, length, replicate, slice_get, slice_index_or, [], ◌∷◌};
+ghost use Rattle.std.specs.Prelude.{Some, IfOk, IfSome};
+ghost use Rattle.facet_names.specs.Labels.{IsLabelList};
 ghost use Rattle.value_facets.specs.Cuts.{AreRising};
-ghost use Rattle.value_facets.specs.Marking.{AreMarks, AreSlots, IsParentOfValues, IsSlot, IsSlotOfAll, counters_of};
-ghost use Rattle.value_facets.specs.Marking.{joined_slot};
+ghost use Rattle.value_facets.specs.Marking.{AreMarks, AreSlots, IsSlot, IsSlotOfAll, counters_of, joined_slot};
 
 use crate::cuts::{cuts_of, rank_of, rows_of};
-use facet_names::{NoMemory, Path, PathFault};
+use crate::dims::dim_at;
+use facet_counts::{child_of, sibling_of};
+use facet_names::{NoMemory, Path};
 use number_facets::read_number;
 use seg_postings::Ords;
 use std::alloc::Global;
@@ -30,22 +33,6 @@ impl Model for Marks {
 
     ghost invariant = { λ m. (0 < length m.rows.items) × All (λ slot. slot < length m.rows.items) m.slots.items
         × (row_at m.rows.items 0 ≡ []) × (length m.rows.items ≤ 2 ^ 31 + 1) };
-}
-
-// Returns the ordinal of the dimension, which is the parent of each label with a value, or -1 if the view does not have
-// it. It returns `None` if no label can have the dimension. Errors: out of memory.
-fn parent_of_values(alloc: Global, view: &TaxoView, dim: &str) -> Result<Option<i32>, NoMemory>
-    requires { length view.now ≤ 1000000 }
-    ensures { IfOk result (λ o. IfSome o (IsParentOfValues view.now dim.now)) }
-{
-    match Path::of_dim(alloc, dim) {
-        Ok(path) => match view.ordinal_of(&path) {
-            Some(ord) => Ok(Some(ord as i32)),
-            None => Ok(Some(-1)),
-        },
-        Err(PathFault::NoMemory) => Err(NoMemory),
-        Err(_) => Ok(None),
-    }
 }
 
 fn has_two_components(path: &Path) -> bool
@@ -73,37 +60,33 @@ fn slot_of(view: &TaxoView, ord: u32, dim: &str, cuts: &[i64]) -> u32
     }
 }
 
-// Does the same, and reads the text only if the label's parent is the one of labels with a value.
-fn slot_below(view: &TaxoView, ord: u32, parent: Option<i32>, dim: &str, cuts: &[i64]) -> u32
-    requires some { 0 < ord }
-    requires label { ord < length view.now }
-    requires parent { IfSome parent (IsParentOfValues view.now dim.now) }
+// Notes the slots of the labels below a dimension, where all slots were the first one. It visits these labels alone.
+fn note_slots(view: &TaxoView, ord: u32, dim: &str, cuts: &[i64], slots: &mut [u32])
+    requires list { IsLabelList view.now }
+    requires dim { slice_get view.now ord ≡ Some (dim.now ∷ []) }
     requires rising { AreRising cuts.now }
     requires few { length cuts.now < 2 ^ 32 }
-    ensures slot { IsSlot view.now dim.now cuts.now ord result }
-    ensures within { result ≤ length cuts.now }
+    requires none { slots.old ≡ replicate (length view.now) 0 }
+    ensures { AreSlots view.now dim.now cuts.now slots.new }
 {
-    if let Some(parent) = parent {
-        if view.arrays().parent(ord) != parent {
-            return 0;
-        }
+    let mut next = child_of(view, ord);
+    while let Some(child) = next {
+        slots[child as usize] = slot_of(view, child, dim, cuts);
+        next = sibling_of(view, child);
     }
-    slot_of(view, ord, dim, cuts)
 }
 
-// Returns the slot of each label of a view. It compares the parent of each label, and reads the texts of those below
-// the dimension. Errors: out of memory.
+// Returns the slot of each label of a view. It visits the labels below the dimension, and reads their texts. All other
+// slots are set to zero. Errors: out of memory.
 fn slots_of(alloc: Global, view: &TaxoView, dim: &str, cuts: &[i64]) -> Result<Vec<u32>, NoMemory>
     requires rising { AreRising cuts.now }
     requires few { length cuts.now < 2 ^ 32 }
     ensures { IfOk result (λ v. AreSlots view.now dim.now cuts.now v.items) }
 {
-    let size = view.size();
-    let parent = parent_of_values(alloc, view, dim)?;
-    let mut slots = Vec::with_capacity(alloc, size as usize)?;
-    slots.push(0)?;
-    for ord in 1..size {
-        slots.push(slot_below(view, ord, parent, dim, cuts))?;
+    let size = view.size() as usize;
+    let mut slots = vec![in alloc; 0u32; size]?;
+    if let Some(ord) = dim_at(alloc, view, dim)? {
+        note_slots(view, ord, dim, cuts, &mut slots);
     }
     Ok(slots)
 }

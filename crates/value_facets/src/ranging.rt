@@ -110,8 +110,9 @@ fn count_parts(segments: &[Arc<Segment>], parts: &mut [Part<'_>], marks: &Marks,
 
 impl<'a> RangeCounter<'a> {
     /// Prepares a count: looks up the terms and paths in each segment, reads the numbers of the dimension's labels, and
-    /// allocates all that [`run`](RangeCounter::run) needs. It visits each label of the view once, and reads the texts
-    /// of those below the dimension. For n ranges it tests up to 2n + 1 cuts against each range.
+    /// allocates all that [`run`](RangeCounter::run) needs. Of the labels of the view it visits those right below the
+    /// dimension. For each label of the view it sets 4 bytes to zero. For n ranges it tests up to 2n + 1 cuts against
+    /// each range.
     ///
     /// Errors: out of memory, also for 2^30 ranges or more.
     pub fn new(

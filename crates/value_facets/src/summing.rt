@@ -13,8 +13,9 @@ ghost use Rattle.sideways.specs.Searches.{records_of};
 ghost use Rattle.value_facets.specs.declared.summing.SumFault.TheVariants.{TopZero as Zero, NoMemory as Memory};
 ghost use Rattle.value_facets.specs.Summing.{sums_at, sums_before};
 
+use crate::dims::dim_at;
 use crate::totals::totals_of;
-use crate::weights::{dim_at, weights_of};
+use crate::weights::weights_of;
 use facet_model::{Drill, Query, Word};
 use facet_names::{NoMemory, Path};
 use number_facets::Sum;
@@ -106,7 +107,7 @@ fn all_sums(
         → AreSums (hits docs (query_view query.now) drill.now) dim.now (map sum_view v.items)) }
 {
     let size = view.size();
-    let Some(dim) = dim_at(view, dim) else {
+    let Some(dim) = dim_at(alloc, view, dim)? else {
         return Ok(Vec::new(alloc));
     };
     let weights = weights_of(alloc, view, dim)?;
@@ -124,8 +125,9 @@ fn all_sums(
 /// fits into an `i32`, as [`read_small_number`](number_facets::read_small_number) reads it. A label that a document has
 /// several times counts each time. Each component with a number is listed, also if its sum is 0 or less.
 ///
-/// It visits each label of the view once, and each label of the documents found. It allocates 24 bytes for each label
-/// of the view, the plan of one segment at a time, and the components that have a number, with their texts.
+/// It visits the labels of the dimension that have two or three components, and each label of the documents found. It
+/// allocates 24 bytes for each label of the view and sets them to zero, and looks at the sum of each in the end. It also
+/// allocates the plan of one segment at a time, and the components that have a number, with their texts.
 ///
 /// Errors: `n` is 0; out of memory. `NoMemory` is also returned if a sum does not fit into an `i64`. That never happens
 /// below 1,000,000 documents of 256 labels: see [`sums_fit`](number_facets::sums_fit).

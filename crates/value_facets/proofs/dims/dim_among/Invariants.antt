@@ -1,6 +1,6 @@
 use Rattle.std.proofs.Common.{◌≡◌, ◌<◌, ℕ, [], ◌∷◌, Some, slice_get, slice_index_or}
 use Rattle.taxo_list.specs.DimLists.{dims_of}
-use Rattle.value_facets.proofs.weights.dim_at.Given as goal
+use Rattle.value_facets.proofs.dims.dim_among.Given as goal
 
 abbrev pub invariant-loop-ord : goal.invariant-loop-ord
 invariant-loop-ord l = record {

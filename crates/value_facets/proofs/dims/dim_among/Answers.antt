@@ -4,7 +4,7 @@ use Rattle.std.specs.Cmp.Lexicographic.{bytes_decides}
 use Rattle.std.proofs.lemmas.List.Elements.{filter_passes}
 use Rattle.taxo_list.specs.DimLists.{dims_of, is_dim}
 use Rattle.value_facets.proofs.SummedLabels.{dim_is, none_is}
-use Rattle.value_facets.proofs.weights.dim_at.Goals as goal
+use Rattle.value_facets.proofs.dims.dim_among.Goals as goal
 
 pub returns-then-eq-clause-some : goal.returns-then-eq-clause-some
 returns-then-eq-clause-some c =
