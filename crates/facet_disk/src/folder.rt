@@ -19,8 +19,8 @@ use std::rt::Files;
 /// A folder of the operating system as a disk. Each directory is a folder in it. Contracts know nothing of its files.
 ///
 /// - **Lock.** The first call locks the folder, and the lock is held until the disk is dropped. While another process
-///   holds it, each call returns `Failed` and does nothing. The locks make no file. They are advisory, and not every
-///   network file system supports them.
+///   holds it, each call returns `Failed` and does nothing, and [`is_in_use`](Disk::is_in_use) returns true. The locks
+///   make no file. They are advisory, and not every network file system supports them.
 /// - **Readers.** After [`only_read`](Disk::only_read) the folder is not locked, and each call that writes returns
 ///   `Failed`. Instead, the first call waits while another process writes, and until [`rest`](Disk::rest) no other
 ///   process writes. The first call that writes, and the first one after each `rest`, waits in the same way for such
@@ -197,6 +197,10 @@ impl<R: Files<File = File> + Send + Drop> Disk for StdDisk<R> {
 
     fn rest(&self) {
         self.folder.rest();
+    }
+
+    fn is_in_use(&self) -> bool {
+        self.folder.is_in_use()
     }
 
     fn fault_count(&self) -> u64 {

@@ -4,7 +4,7 @@ use crate::opening_lock::OpeningLock;
 use facet_io::read_retrying;
 use std::alloc::{AllocError, Global};
 use std::cell::Cell;
-use std::fs::{File, Metadata, OpenFile, OpenOptions};
+use std::fs::{File, Metadata, OpenFile, OpenOptions, TryLockError};
 use std::io;
 use std::io::{ErrorKind, Read, Write};
 use std::os::fd::AsRawFd;
@@ -34,6 +34,8 @@ pub(crate) struct HeldFolder<R: Files<File = File> + Drop> {
     base: String,
     // whether `base` may lead elsewhere later, so that each call checks it first
     may_move: bool,
+    // whether another process had locked the folder
+    is_in_use: bool,
     // whether a call found no folder, and this disk has not made it since
     was_absent: bool,
     // whether the folders of the two directories were made or found by a call that makes them
@@ -57,6 +59,7 @@ impl<R: Files<File = File> + Drop> HeldFolder<R> {
             folder: None,
             base: String::new(alloc),
             may_move: false,
+            is_in_use: false,
             was_absent: false,
             has_folders: false,
             is_only_read: Cell::new(false),
@@ -77,6 +80,19 @@ impl<R: Files<File = File> + Drop> HeldFolder<R> {
         }
     }
 
+    /// Returns whether a call failed because another process has locked the folder.
+    pub(crate) fn is_in_use(&self) -> bool {
+        self.is_in_use
+    }
+
+    // Locks the folder. If another process has locked it, the error is of the kind `WouldBlock`.
+    fn lock(&mut self, folder: &File) -> io::Result<()> {
+        let locked = folder.try_lock();
+        self.is_in_use = matches!(&locked, Err(TryLockError::WouldBlock));
+        locked?;
+        Ok(())
+    }
+
     // Opens the folder, unless it is open, and locks it, unless it is only read. If another process has locked it, the
     // error is of the kind `WouldBlock`.
     fn take(&mut self) -> io::Result<()> {
@@ -89,7 +105,7 @@ impl<R: Files<File = File> + Drop> HeldFolder<R> {
         }
         let folder = open_expected(&self.files, &self.root, Expected::Folder)?;
         if !self.is_only_read.get() {
-            folder.try_lock()?;
+            self.lock(&folder)?;
         }
         let fd = folder.as_raw_fd();
         self.base = format!(in self.alloc; "/proc/self/fd/{fd}")?;

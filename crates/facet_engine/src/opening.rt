@@ -4,6 +4,7 @@ ghost use Rattle.chronicle.specs.History.{entries, numbered};
 ghost use Rattle.chronicle.specs.Shown.{MayTake};
 ghost use Rattle.facet_disk.specs.Calls.{Rose};
 ghost use Rattle.facet_disk.specs.Images.{Told};
+ghost use Rattle.facet_output.specs.Output.{opened_pair};
 ghost use Rattle.facet_output.specs.Seen.{opened_seen};
 ghost use Rattle.facet_words.specs.CommandViews.{settings_view};
 ghost use Rattle.store_opening.specs.declared.fault.OpenFault.TheVariants.{Disk as FaultOfDisk, NoMemory as NoRoom};
@@ -110,6 +111,25 @@ impl<D: Disk> Store<D> {
             }),
             Err(_) => Err(without_memory(committer.into_disk())),
         }
+    }
+}
+
+impl<D: Disk> Store<D> {
+    /// Returns how many documents were opened, and how many labels with the root. It visits the segments, and allocates
+    /// nothing.
+    pub fn opened(&self) -> (u64, u32)
+        requires few { length (opened_of self.now).docs ≤ 1000000 }
+        requires viewed { self.now.view ≡ (opened_of self.now).labels }
+        ensures { result ≡ opened_pair (opened_of self.now) }
+    {
+        (count_documents(&self.segments) as u64, self.view.size())
+    }
+
+    /// Returns the disk.
+    pub fn into_disk(self) -> D
+        ensures { result ≡ self.committer.disk }
+    {
+        self.committer.into_disk()
     }
 }
 

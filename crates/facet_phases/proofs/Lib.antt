@@ -10,10 +10,12 @@ pub mod Did
 pub mod Phasing
 pub mod Carrying
 pub mod Flushed
+pub mod Taking
 pub mod Closing
 pub mod Made
 pub mod Crossing
 pub mod Cutting
 pub mod Finishing
+pub mod Listing
 pub mod Tracing
 pub mod Taken

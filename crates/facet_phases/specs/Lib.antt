@@ -4,5 +4,7 @@ pub mod Phases
 pub mod Orders
 pub mod Lanes
 pub mod Running
+pub mod Listing
+pub mod Taking
 pub mod Ending
 pub mod Runs

@@ -1,4 +1,4 @@
-ghost use Rattle.std.specs.Prelude.{◌<◌, All};
+ghost use Rattle.std.specs.Prelude.{◌<◌, ◌≤◌, length, All};
 ghost use Rattle.std.specs.List.{AllZip};
 ghost use Rattle.facet_phases.specs.Lanes.{LaneRan, MayRun};
 
@@ -41,7 +41,17 @@ fn run_lane<D: Disk, N: Name + Start, R: Wait, G: Gate, C: Collector>(
     lane.replies = answer_all(rt, alloc, system, gate, &mut lane.session, orders);
 }
 
-// How many threads a phase needs: one for each lane, but where at most one of them has orders.
+// How many lanes there are up to the last one that has orders.
+fn busy_lanes<C>(lanes: &[Lane<C>]) -> usize
+    ensures { result ≤ length lanes.now }
+{
+    match lanes.iter().rposition(|lane| !lane.orders.is_empty()) {
+        Some(last) => last + 1,
+        None => 0,
+    }
+}
+
+// How many threads these lanes need: one for each, but where at most one of them has orders.
 fn threads_for<C>(lanes: &[Lane<C>]) -> usize
     ensures { 0 < result }
 {
@@ -54,19 +64,18 @@ fn threads_for<C>(lanes: &[Lane<C>]) -> usize
     }
 }
 
-/// Carries out the commands of all lanes concurrently, each lane on its own thread, and waits for all of them. If at
-/// most one lane has commands, it makes no thread.
-pub(crate) fn run_at_once<
+// Carries out the commands of these lanes with at most so many threads, of which this one is one.
+fn run_lanes<
     D: Disk,
     N: Name + Start + Send + Sync,
     R: Threads + Wait + Sync,
     G: Gate + Sync,
     C: Collector,
->(rt: &R, alloc: Global, system: &System<D, N>, gate: &G, lanes: &mut [Lane<C>])
+>(rt: &R, alloc: Global, system: &System<D, N>, gate: &G, lanes: &mut [Lane<C>], threads: usize)
     requires run { All (MayRun system.now) lanes.old }
+    requires threads { 0 < threads }
     ensures ran { AllZip (LaneRan C.holds system.now) lanes.old lanes.new }
 {
-    let threads = threads_for(lanes);
     thread::for_each_mut(
         rt,
         lanes,
@@ -78,4 +87,23 @@ pub(crate) fn run_at_once<
             run_lane(rt, alloc, system, gate, lane);
         },
     );
+}
+
+/// Carries out the commands of all lanes concurrently, and waits for all of them. Each lane up to the last one that has
+/// commands has its own thread; those after it make none. If at most one lane has commands, it makes no thread.
+pub(crate) fn run_at_once<
+    D: Disk,
+    N: Name + Start + Send + Sync,
+    R: Threads + Wait + Sync,
+    G: Gate + Sync,
+    C: Collector,
+>(rt: &R, alloc: Global, system: &System<D, N>, gate: &G, lanes: &mut [Lane<C>])
+    requires run { All (MayRun system.now) lanes.old }
+    ensures ran { AllZip (LaneRan C.holds system.now) lanes.old lanes.new }
+{
+    let busy = busy_lanes(lanes);
+    let (front, back) = lanes.split_at_mut(busy);
+    let threads = threads_for(front);
+    run_lanes(rt, alloc, system, gate, front, threads);
+    run_lanes(rt, alloc, system, gate, back, 1);
 }

@@ -1,3 +1,5 @@
+ghost use Rattle.std.specs.Prelude.{◌≡◌};
+
 use crate::collector::{Collector, Output};
 use facet_io::{Failed, Sink, write_all};
 use facet_names::NoMemory;
@@ -8,6 +10,15 @@ use std::alloc::Global;
 #[derive(Drop)]
 pub struct Lines {
     bytes: Vec<u8>,
+}
+
+impl Lines {
+    /// Returns the lines.
+    pub fn bytes(&self) -> &[u8]
+        ensures { result.now ≡ self.now.bytes.items }
+    {
+        &self.bytes
+    }
 }
 
 impl Collector for Lines {

@@ -1,10 +1,11 @@
 ghost use Rattle.std.specs.Prelude.{◌≡◌, ◌≤◌, length, map, All, IsTrue, OnOk};
 ghost use Rattle.facet_words.specs.ScriptOrder.{lines_rise};
 ghost use Rattle.pair_manager.specs.Passes.{SamePass};
-ghost use Rattle.facet_phases.specs.Ending.{BreaksBehind, EndsPhase, EndsPhases};
+ghost use Rattle.facet_phases.specs.Ending.{EndsPhase, EndsPhases};
 ghost use Rattle.facet_phases.specs.Lanes.{AreIdle};
 ghost use Rattle.facet_words.specs.CommandViews.{order_view};
 ghost use Rattle.facet_phases.specs.Running.{AreReady, CarriesOut};
+ghost use Rattle.facet_phases.specs.Taking.{at};
 
 use crate::collector::{Collector, Output};
 use crate::dealing::deal;
@@ -13,6 +14,7 @@ use crate::fault::PhaseFault;
 use crate::flushing::{are_whole, flush_all};
 use crate::gate::Gate;
 use crate::lane::{Lane, run_at_once};
+use crate::phases::Phases;
 use commit_turns::Start;
 use facet_disk::Disk;
 use facet_engine::System;
@@ -94,9 +96,8 @@ pub fn run_phase<
     ensures same { SamePass first.old first.new }
     ensures many { length lanes.new ≡ length lanes.old }
     ensures idle { OnOk result (AreIdle lanes.new) }
-    ensures ended { EndsPhase (O.flushes out.old out.new) (O.breaks out.old out.new) system.now
-        (map order_view orders.items) first.old first.new
-        lanes.old lanes.new result }
+    ensures ended { EndsPhase O.Output system.now
+        (map order_view orders.items) out.old out.new first.old first.new lanes.old lanes.new result }
 {
     match execute_phase(rt, alloc, system, gate, first, lanes, orders) {
         Ok(()) => match flush_all(out, lanes) {
@@ -107,15 +108,16 @@ pub fn run_phase<
     }
 }
 
-/// Carries out phases, one after the other, and hands over what is kept of each before the next begins. It keeps the
-/// replies of one phase in memory, and frees the commands of a phase as they are answered.
+/// Carries out phases, one after the other, and hands over what is kept of each before it asks for the next. It keeps
+/// the replies of one phase in memory, and frees the commands of a phase as they are answered.
 ///
-/// Errors: those of `run_phase`. That phase is the last one: no command of a later one is carried out.
+/// Errors: those of `Phases::next`, and those of `run_phase`. That phase is the last one: no later one is asked for.
 pub fn run_phases<
     D: Disk,
     N: Name + Start + Send + Sync,
     R: Threads + Wait + Sync,
     G: Gate + Sync,
+    P: Phases<O>,
     O: Output<C>,
     C: Collector,
 >(
@@ -125,24 +127,28 @@ pub fn run_phases<
     gate: &G,
     first: &mut Pass,
     lanes: &mut [Lane<C>],
-    phases: Vec<Vec<Order>>,
+    phases: &mut P,
     out: &mut O,
 ) -> Result<(), PhaseFault>
     requires ready { AreReady system.now first.old lanes.old }
     requires idle { AreIdle lanes.old }
-    requires sessions { All (λ phase. All (λ o. (1 ≤ o.session) × (o.session ≤ length lanes.old)) phase.items)
-        phases.items }
-    requires rise { All (λ phase. IsTrue (lines_rise (map order_view phase.items))) phases.items }
+    requires sessions { P.sessions phases.old ≤ length lanes.old }
     ensures ready { AreReady system.now first.new lanes.new }
     ensures same { SamePass first.old first.new }
     ensures many { length lanes.new ≡ length lanes.old }
-    ensures ended { EndsPhases (O.flushes out.old out.new) (BreaksBehind O.flushes O.breaks out.old out.new) system.now
-        (map (λ phase. map order_view phase.items) phases.items) first.old first.new lanes.old lanes.new result }
+    ensures ended { EndsPhases P.Phases O.Output system.now (at phases.old out.old)
+        (at phases.new out.new) first.old first.new lanes.old lanes.new result }
 {
-    for orders in phases {
-        if let Err(fault) = run_phase(rt, alloc, system, gate, first, lanes, orders, out) {
-            return Err(fault);
+    for _ in rt.forever() {
+        match phases.next(alloc, out) {
+            Ok(Some(orders)) => {
+                if let Err(fault) = run_phase(rt, alloc, system, gate, first, lanes, orders, out) {
+                    return Err(fault);
+                }
+            }
+            Ok(None) => return Ok(()),
+            Err(fault) => return Err(fault),
         }
     }
-    Ok(())
+    unreachable!()
 }

@@ -1,4 +1,4 @@
-ghost use Rattle.std.specs.Prelude.{◌≡◌, ◌≤◌, ℕ, [], Some, length, map, All, IsTrue};
+ghost use Rattle.std.specs.Prelude.{◌≡◌, ◌≤◌, ℕ, [], Some, length, All};
 ghost use Rattle.chronicle.specs.History.{entries};
 ghost use Rattle.facet_disk.specs.Calls.{Rose};
 ghost use Rattle.facet_disk.specs.Images.{Told};
@@ -7,8 +7,6 @@ ghost use Rattle.facet_model.specs.Flags.{Config};
 ghost use Rattle.facet_names.specs.Labels.{IsLabelList};
 ghost use Rattle.facet_output.specs.Outputs.{sessions_in};
 ghost use Rattle.facet_output.specs.Seen.{history_of, labels_of};
-ghost use Rattle.facet_words.specs.CommandViews.{order_view};
-ghost use Rattle.facet_words.specs.ScriptOrder.{lines_rise};
 ghost use Rattle.commit_turns.specs.DiskStates.{state_of};
 ghost use Rattle.commit_turns.specs.Ending.{Lasts, FailsWith};
 ghost use Rattle.commit_turns.specs.Frames.{HasNumbers};
@@ -16,9 +14,9 @@ ghost use Rattle.commit_turns.specs.Points.{count_after, last_of};
 ghost use Rattle.commit_turns.specs.Seen.{docs_of};
 ghost use Rattle.facet_engine.specs.Notes.{noted};
 ghost use Rattle.facet_engine.specs.Systems.{BelongsTo};
-ghost use Rattle.facet_phases.specs.Ending.{BreaksBehind};
 ghost use Rattle.facet_phases.specs.Running.{AreReady, HaveSameFrames, IsFirst};
 ghost use Rattle.facet_phases.specs.Runs.{RunsSoFar, RunsToEnd};
+ghost use Rattle.facet_phases.specs.Taking.{at};
 
 use crate::collector::{Collector, Output};
 use crate::exchange::spread_all;
@@ -28,11 +26,11 @@ use crate::lane::Lane;
 use crate::making::make_lanes;
 use crate::outcome::RanToEnd;
 use crate::phase::run_phases;
+use crate::phases::Phases;
 use commit_turns::Start;
 use facet_disk::Disk;
 use facet_engine::System;
 use facet_names::NoMemory;
-use facet_words::Order;
 use pair_manager::Pass;
 use std::alloc::Global;
 use std::sync::Wait;
@@ -45,6 +43,7 @@ fn run_sessions<
     N: Name + Start + Send + Sync,
     R: Threads + Wait + Sync,
     G: Gate + Sync,
+    P: Phases<O>,
     O: Output<C>,
     C: Collector,
 >(
@@ -55,19 +54,18 @@ fn run_sessions<
     first: &mut Pass,
     lanes: &mut Vec<Lane<C>>,
     sessions: u32,
-    phases: Vec<Vec<Order>>,
+    phases: &mut P,
     out: &mut O,
 ) -> Result<(), PhaseFault>
     requires own { BelongsTo system.now first.old }
     requires first { IsFirst 0 first.old }
     requires none { lanes.old.items ≡ [] }
     requires many { sessions ≤ 64 }
-    requires sessions { All (λ phase. All (λ o. (1 ≤ o.session) × (o.session ≤ sessions)) phase.items) phases.items }
-    requires rise { All (λ phase. IsTrue (lines_rise (map order_view phase.items))) phases.items }
+    requires sessions { P.sessions phases.old ≤ sessions }
     ensures ready { AreReady system.now first.new lanes.new.items }
     ensures frames { HaveSameFrames first.old first.new }
-    ensures ran { RunsSoFar (O.flushes out.old out.new) (BreaksBehind O.flushes O.breaks out.old out.new) system.now
-        (map (λ phase. map order_view phase.items) phases.items) first.old first.new result }
+    ensures ran { RunsSoFar P.Phases O.Output system.now (at phases.old out.old) (at phases.new out.new)
+        first.old first.new result }
 {
     match make_lanes(alloc, system, first, sessions) {
         Ok(made) => {
@@ -79,16 +77,17 @@ fn run_sessions<
 }
 
 /// Carries out phases with the sessions 1 to `sessions`, each on its own thread, hands over what is kept of each phase
-/// before the next begins, and then ends the system. It ends the system in each case. The result says whether all
-/// phases were carried out and handed over; otherwise the first one that was not is the last.
+/// before it asks for the next, and then ends the system. It ends the system in each case. The result says whether all
+/// phases were given, carried out and handed over; otherwise the first one that was not is the last.
 ///
-/// It waits until all sessions have ended, and for the locks that `System::end` takes. It keeps the replies of one
-/// phase in memory, and frees the commands of a phase as they are answered.
+/// It blocks while the next phase is read, until all sessions have ended, and for the locks that `System::end` takes. It
+/// keeps the replies of one phase in memory, and frees the commands of a phase as they are answered.
 pub fn run_to_end<
     D: Disk,
     N: Name + Start + Send + Sync,
     R: Threads + Wait + Sync,
     G: Gate + Sync,
+    P: Phases<O>,
     O: Output<C>,
     C: Collector,
 >(
@@ -98,19 +97,18 @@ pub fn run_to_end<
     gate: &G,
     first: Pass,
     sessions: u32,
-    phases: Vec<Vec<Order>>,
+    phases: &mut P,
     out: &mut O,
 ) -> RanToEnd<D>
     requires own { BelongsTo system.now first }
     requires first { IsFirst 0 first }
     requires many { sessions ≤ 64 }
-    requires sessions { All (λ phase. All (λ o. (1 ≤ o.session) × (o.session ≤ sessions)) phase.items) phases.items }
-    requires rise { All (λ phase. IsTrue (lines_rise (map order_view phase.items))) phases.items }
+    requires sessions { P.sessions phases.old ≤ sessions }
 
-    // What was carried out is known at the end, and what was kept of it was handed over. Where that failed, it did so
-    // for the last phase that was carried out.
-    ensures ran { RunsToEnd (O.flushes out.old out.new) (BreaksBehind O.flushes O.breaks out.old out.new) system.now
-        (map (λ phase. map order_view phase.items) phases.items) first (noted result.ended.notes) result.result }
+    // What was given and carried out is known at the end, and what was kept of it was handed over. Where that failed, it
+    // did so for the last phase that was carried out.
+    ensures ran { RunsToEnd P.Phases O.Output system.now (at phases.old out.old) (at phases.new out.new)
+        first (noted result.ended.notes) result.result }
 
     // The trace has all labels and operations that the notes show.
     ensures labels { result.ended.trace.labels ≡ labels_of (noted result.ended.notes) }

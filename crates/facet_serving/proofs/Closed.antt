@@ -49,6 +49,7 @@ pub some_ran : (settings : Settings) (opened : Opened) (first : Pass) (last : Se
 some_ran settings opened first last Flushes Breaks all (Ok u) e = has_opened settings all opened e.0 last e.1.all
 some_ran settings opened first last Flushes Breaks all (Err phases.Write) e = has_opened settings (take (e.0 + 1) all) opened (e.1 ++ e.2 ∷ []) last e.3.carried.all
 some_ran settings opened first last Flushes Breaks all (Err phases.NoMemory) e = has_opened settings (take e.0 all ++ e.2.short) opened (e.1 ++ e.2.steps) last e.2.carried.all
+some_ran settings opened first last Flushes Breaks all (Err phases.Read) e = absurd e
 
 -- the last line may begin behind what was opened
 pub carried_room : {D : Type 0} (ghosts : Ghosts D) (s : Script) (start : D) (Flushes : List Answered → Type 0) (Breaks : List Answered → List Answered → Type 0) (pair : ℕ × ℕ) (ran : RanToEnd D) → IsCarried ghosts s start Flushes Breaks pair ran → HasRoom pair ran.ended.trace
@@ -178,6 +179,7 @@ module _ {D K : Type 0} (ghosts : Ghosts D) (s : Script) (opened : Opened) (trac
       subst (λ (t : Status). EndsAs ghosts s old new sink before now trace t) (sym closes.0)
       (subst (λ (k : K). EndsPartly ghosts s trace old new sink before k) (sym closes.1) (broken e.0 e.1 e.2 e.3 b.0 b.1 b.2))
   ended line (Err phases.NoMemory) status is e closes = without e.0 e.2.short e.1 e.2.steps status e.2.cut e.2.carried e.2.whole e.3 closes
+  ended line (Err phases.Read) status is e closes = absurd e
 
   pub serves : (result : Result (Unit {0}) PhaseFault) (left : Option Trace) (status : Status) → left ≡ Some trace → EndedSo (HasRun s.settings opened first last) (Handed sink before middle) (BreaksBehind (Handed sink) (Failed sink) before middle) s.phases result
       → Closes (line_of (length opened.docs) (length opened.labels) trace.labels (drop (length opened.docs) trace.sessions.items)) result sink middle now status → Serves ghosts s old new sink before now left status

@@ -16,7 +16,7 @@ use Rattle.facet_serving.specs.Ends.{EndsBefore, EndsPartly, EndsShort, EndsWhol
 use Rattle.facet_serving.specs.Reading.{ReadsScript, ReadsWhole, script_limit}
 use Rattle.facet_serving.specs.Writing.{WritesLine}
 use Rattle.facet_serving.specs.Serving.{EndsAs, Serves, StaysShut}
-use Rattle.facet_serving.specs.Statuses.{fault_status, open_line, status_line}
+use Rattle.facet_serving.specs.Statuses.{IsOpenLine, fault_status, in_use_line, open_line, status_line}
 use Rattle.facet_serving.specs.declared.status.Status.{Status}
 use Rattle.facet_serving.specs.declared.status.Status.TheVariants.{Done, WriteFault, DiskFault, BadScript, BadStore, NoMemory, OtherConfig}
 
@@ -51,6 +51,17 @@ files_of : (fault : OpenFault) (status : Status) → fault_status fault ≡ stat
 files_of fault status ends which (inl is) = absurd (let e : DiskFault ≡ status = sym (ap fault_status is) ∙ ends in ⊎_elim (λ w. cc (e ∙ w)) (λ w. cc (e ∙ w)) which)
 files_of fault status ends which (inr (inl is)) = absurd (let e : NoMemory ≡ status = sym (ap fault_status is) ∙ ends in ⊎_elim (λ w. cc (e ∙ w)) (λ w. cc (e ∙ w)) which)
 files_of fault status ends which (inr (inr of_files)) = of_files
+
+-- the line of a fault of the files is its own
+line_is : (fault : OpenFault) (line : List ℕ) → IsOfFiles fault → IsOpenLine fault line → line ≡ open_line fault
+line_is faults.Disk line of_files is = absurd (of_files.0 refl)
+line_is faults.NoMemory line of_files is = absurd (of_files.1 refl)
+line_is (faults.Missing name) line of_files is = is
+line_is (faults.Damaged name kept digest) line of_files is = is
+line_is (faults.Malformed name at) line of_files is = is
+line_is (faults.Uncovered needs has) line of_files is = is
+line_is (faults.NumbersSpent greatest) line of_files is = is
+line_is (faults.OtherConfig dim) line of_files is = is
 
 shut_apart : (fault : OpenFault) → (fault ≡ faults.Disk) ⊎ (fault ≡ faults.NoMemory) ⊎ IsOfFiles fault → (status : Status) → (status ≡ Done) ⊎ (status ≡ WriteFault) → fault_status fault ≡ status → ⊥
 shut_apart fault (inl same) status which ends = let is : DiskFault ≡ status = sym (ap fault_status same) ∙ ends in ⊎_elim (λ w. cc (is ∙ w)) (λ w. cc (is ∙ w)) which
@@ -111,20 +122,35 @@ module _ {D S K : Type 0} (ghosts : Ghosts D) (s : Script) (input : List ℕ) (s
     pub not_opened : End → (status ≡ BadStore) ⊎ (status ≡ OtherConfig) → TellsOfStore ghosts source from to sink before now old status
     not_opened (inl e) which = absurd (not_shut e (inr which))
     not_opened (inr e) which = ⊎_elim
-        (λ c. let files = files_of c.0 status c.1 which (kind_of c.0) in record { input = input; read = read; is = s; script_is = is; fault = c.0; ends = c.1; sound = c.2.3; stored = c.2.1 files.1 files.0; written = c.3 })
+        (λ c.
+        let files = files_of c.0 status c.1 which (kind_of c.0) in
+        record { input = input; read = read; is = s; script_is = is; fault = c.0; ends = c.1; sound = c.2.3; stored = c.2.1 files.1 files.0; written = subst (λ (l : List ℕ). WritesLine sink before now l) (line_is c.0 c.3.line files c.3.is) c.3.written })
         (λ c. absurd (⊎_elim (λ b. let is : NoMemory ≡ BadStore = sym c.0 ∙ b in cc is) (λ o. let is : NoMemory ≡ OtherConfig = sym c.0 ∙ o in cc is) which)) e.cause
 
-    -- the line of a fault that ends so
-    line_of : (fault : OpenFault) → fault_status fault ≡ status → WritesLine sink before now (open_line fault) → (fault ≡ faults.Disk) ⊎ (fault ≡ faults.NoMemory) ⊎ IsOfFiles fault
-        → (status ≡ BadScript) ⊎ (status ≡ BadStore) ⊎ (status ≡ OtherConfig) ⊎ WritesLine sink before now (status_line status)
-    line_of fault ends line (inl same) = inr (inr (inr (subst (λ (l : List ℕ). WritesLine sink before now l) (ap open_line same ∙ ap status_line (sym (ap fault_status same) ∙ ends)) line)))
-    line_of fault ends line (inr (inl same)) = inr (inr (inr (subst (λ (l : List ℕ). WritesLine sink before now l) (ap open_line same ∙ ap status_line (sym (ap fault_status same) ∙ ends)) line)))
-    line_of fault ends line (inr (inr of_files)) = ⊎_elim (λ b. inr (inl (sym ends ∙ b))) (λ o. inr (inr (inl (sym ends ∙ o)))) of_files.2
+    -- the line of the status, or that another process has the store
+    abbrev TellsStatus : Type 0
+    TellsStatus = (status ≡ BadScript) ⊎ (status ≡ BadStore) ⊎ (status ≡ OtherConfig) ⊎ WritesLine sink before now (status_line status) ⊎ ((status ≡ DiskFault) × WritesLine sink before now in_use_line)
 
-    pub told : End → left ≡ None → (status ≡ BadScript) ⊎ (status ≡ BadStore) ⊎ (status ≡ OtherConfig) ⊎ WritesLine sink before now (status_line status)
+    -- it is written
+    written_as : (line own : List ℕ) → line ≡ own → WritesLine sink before now line → WritesLine sink before now own
+    written_as line own is written = subst (λ (l : List ℕ). WritesLine sink before now l) is written
+
+    -- the line of a fault that ends so
+    line_of : (fault : OpenFault) (line : List ℕ) → fault_status fault ≡ status → IsOpenLine fault line → WritesLine sink before now line → (fault ≡ faults.Disk) ⊎ (fault ≡ faults.NoMemory) ⊎ IsOfFiles fault → TellsStatus
+    line_of fault line ends which written (inl same) =
+        let of_disk : DiskFault ≡ status = sym (ap fault_status same) ∙ ends in
+        ⊎_elim (λ own. inr (inr (inr (inl (written_as line (status_line status) (own ∙ ap status_line of_disk) written)))))
+        (λ busy. inr (inr (inr (inr (sym of_disk, written_as line in_use_line busy written)))))
+        (subst (λ (f : OpenFault). IsOpenLine f line) same which)
+    line_of fault line ends which written (inr (inl same)) =
+        let own : line ≡ status_line NoMemory = subst (λ (f : OpenFault). IsOpenLine f line) same which in
+        inr (inr (inr (inl (written_as line (status_line status) (own ∙ ap status_line (sym (ap fault_status same) ∙ ends)) written))))
+    line_of fault line ends which written (inr (inr of_files)) = ⊎_elim (λ b. inr (inl (sym ends ∙ b))) (λ o. inr (inr (inl (sym ends ∙ o)))) of_files.2
+
+    pub told : End → left ≡ None → TellsStatus
     told (inl e) none = absurd (let both : Some e.trace ≡ None = sym e.trace_is ∙ none in cc both)
-    told (inr e) none = ⊎_elim (λ c. line_of c.0 c.1 c.3 (kind_of c.0))
-        (λ c. inr (inr (inr (subst (λ (l : List ℕ). WritesLine sink before now l) (ap status_line (sym c.0)) c.1)))) e.cause
+    told (inr e) none = ⊎_elim (λ c. line_of c.0 c.3.line c.1 c.3.is c.3.written (kind_of c.0))
+        (λ c. inr (inr (inr (inl (subst (λ (l : List ℕ). WritesLine sink before now l) (ap status_line (sym c.0)) c.1))))) e.cause
 
     pub write_failed : End → status ≡ WriteFault → Rose (sink.faults before) (sink.faults now)
     write_failed (inl e) ends = (as_now e WriteFault ends).0

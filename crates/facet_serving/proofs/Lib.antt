@@ -4,6 +4,7 @@ pub mod Untouched
 pub mod Kept
 pub mod Sessions
 pub mod Whole
+pub mod Generic
 pub mod Closed
 pub mod Shut
 pub mod Ending

@@ -13,9 +13,9 @@ use Rattle.store_opening.specs.Files.{files}
 use Rattle.store_opening.specs.Quiet.{IsQuiet}
 use Rattle.store_opening.specs.declared.fault.OpenFault.{OpenFault}
 use Rattle.store_opening.specs.declared.fault.OpenFault.TheVariants.{Disk as OfDisk, NoMemory as NoRoom}
-use Rattle.facet_serving.specs.Writing.{WritesLine}
+use Rattle.facet_serving.specs.Writing.{WritesLine, WritesOpenLine}
 use Rattle.facet_serving.specs.Serving.{StaysShut}
-use Rattle.facet_serving.specs.Statuses.{fault_status, open_line, status_line}
+use Rattle.facet_serving.specs.Statuses.{fault_status, status_line}
 use Rattle.facet_serving.specs.declared.status.Status.{Status}
 use Rattle.facet_serving.specs.declared.status.Status.TheVariants.{NoMemory}
 
@@ -32,7 +32,7 @@ module _ {D K : Type 0} (ghosts : Ghosts D) (s : Script) (start : D) (sink : Sin
   pub shuts : (config : Config) → config ≡ s.settings.config → (disk new : D) (fault : OpenFault) → new ≡ disk → IsQuiet ghosts start disk → left ≡ None
       → (fault ≢ NoRoom → fault ≢ OfDisk → (t : Told) → ghosts.told start ≡ Some t → files config t.files ≡ Err fault) → (fault ≡ OfDisk → disk_calls.Rose (ghosts.faults start) (ghosts.faults disk))
       → (fault ≢ OfDisk → ghosts.faults disk ≡ ghosts.faults start) → IsSound fault
-      → ((status ≡ fault_status fault) × WritesLine sink before now (open_line fault)) ⊎ ((status ≡ NoMemory) × WritesLine sink before now (status_line NoMemory))
+      → ((status ≡ fault_status fault) × WritesOpenLine sink before now fault) ⊎ ((status ≡ NoMemory) × WritesLine sink before now (status_line NoMemory))
       → StaysShut ghosts s start new sink before now left status
   shuts config same disk new fault back quiet none has rose still sound tells = record {
     no_trace = none;

@@ -63,6 +63,7 @@ module _ {D K : Type 0} (ghosts : Ghosts D) (s : Script) (start : D) (sink : Sin
   ended (Ok u) e closes = summed e.0 e.1 e.2 closes
   ended (Err phases.Write) e closes = whole (e.1 ++ e.2 ∷ []) (e.0 + 1) (take (e.0 + 1) s.phases) refl e.3.carried closes
   ended (Err phases.NoMemory) e closes = unsummed e.0 e.2.short (e.1 ++ e.2.steps) e.2.cut e.2.carried closes
+  ended (Err phases.Read) e closes = absurd e
 
   pub generates : (new : D) (left : Option Trace) → left ≡ Some ran.ended.trace → new ≡ ran.ended.disk → ClosesSummed total sink before now status ran.result → Generates ghosts s start new sink before now left status
   generates new left trace disk closes =

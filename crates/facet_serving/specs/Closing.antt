@@ -8,7 +8,7 @@ use Rattle.facet_phases.specs.declared.fault.PhaseFault.TheVariants as phases
 use Rattle.facet_serving.specs.Writing.{WritesLine}
 use Rattle.facet_serving.specs.Statuses.{status_line}
 use Rattle.facet_serving.specs.declared.status.Status.{Status}
-use Rattle.facet_serving.specs.declared.status.Status.TheVariants.{Done, WriteFault, NoMemory}
+use Rattle.facet_serving.specs.declared.status.Status.TheVariants.{Done, ReadFault, WriteFault, NoMemory}
 
 module _ {K : Type 0} where
   -- the line was written, or a write failed after a prefix of it
@@ -22,9 +22,15 @@ module _ {K : Type 0} where
   abbrev pub IsWithoutMemory : SinkGhosts K → K → K → Status → Type 0
   IsWithoutMemory sink before now status = (status ≡ NoMemory) × WritesLine sink before now (status_line NoMemory)
 
-  -- Behind phases that ended so: the last line, or at a fault nothing, or without memory the line of that.
+  -- the phases could not be read on, and the line of that was written
+  abbrev pub IsUnread : SinkGhosts K → K → K → Status → Type 0
+  IsUnread sink before now status = (status ≡ ReadFault) × WritesLine sink before now (status_line ReadFault)
+
+  -- Behind phases that ended so: the last line, or where a write failed nothing, or without memory or where the phases
+  -- could not be read on the line of that.
   abbrev pub Closes : List ℕ → Result (Unit {0}) PhaseFault → SinkGhosts K → K → K → Status → Type 0
   Closes line (Ok u) sink before now status =
       IsWritten line sink before now status ⊎ IsWithoutMemory sink before now status
   Closes line (Err phases.Write) sink before now status = (status ≡ WriteFault) × (now ≡ before)
   Closes line (Err phases.NoMemory) sink before now status = IsWithoutMemory sink before now status
+  Closes line (Err phases.Read) sink before now status = IsUnread sink before now status

@@ -8,6 +8,7 @@ use Rattle.facet_io.specs.Faults.{Rose}
 use Rattle.facet_io.specs.declared.sink.Sink.{Ghosts as SinkGhosts}
 use Rattle.facet_phases.specs.Runs.{IsCutOff}
 use Rattle.facet_phases.specs.declared.fault.PhaseFault.{PhaseFault}
+use Rattle.facet_phases.specs.declared.fault.PhaseFault.TheVariants as phases
 use Rattle.facet_replies.specs.Replies.{Reply}
 use Rattle.facet_replies.specs.Summaries.{Summary, summary_line}
 use Rattle.facet_words.specs.Commands.{Order, Script}
@@ -16,7 +17,7 @@ use Rattle.generator.specs.Summaries.{summary_of}
 use Rattle.generator.specs.Tallies.{IsTallyOf}
 use Rattle.generator.specs.declared.tally.Tally.{Tally}
 use Rattle.facet_serving.specs.Alike.{replies_of}
-use Rattle.facet_serving.specs.Closing.{IsWithoutMemory, IsWritten}
+use Rattle.facet_serving.specs.Closing.{IsUnread, IsWithoutMemory, IsWritten}
 use Rattle.facet_serving.specs.Sessions.{Ran}
 use Rattle.facet_serving.specs.Writing.{WritesLine}
 use Rattle.facet_serving.specs.Statuses.{status_line}
@@ -77,4 +78,6 @@ module _ {K : Type 0} (total : Tally) (sink : SinkGhosts K) (before now : K) (st
   -- the same after phases that ended so
   abbrev pub ClosesSummed : Result (Unit {0}) PhaseFault → Type 0
   ClosesSummed (Ok u) = WritesSummary
-  ClosesSummed (Err fault) = IsWithoutMemory sink before now status
+  ClosesSummed (Err phases.Read) = IsUnread sink before now status
+  ClosesSummed (Err phases.Write) = IsWithoutMemory sink before now status
+  ClosesSummed (Err phases.NoMemory) = IsWithoutMemory sink before now status

@@ -11,10 +11,13 @@ use Rattle.facet_model.specs.Flags.{Config}
 use Rattle.facet_output.specs.Answered.{Answered}
 use Rattle.facet_output.specs.Output.{Opened}
 use Rattle.facet_output.specs.Seen.{Seen}
-use Rattle.facet_phases.specs.Runs.{EndedSo, HasRun}
+use Rattle.facet_phases.specs.Runs.{EndedSo, EndsBy, HasRun}
+use Rattle.facet_phases.specs.Taking.{At}
+use Rattle.facet_phases.specs.declared.collector.Output.{Ghosts as OutputGhosts}
 use Rattle.facet_phases.specs.declared.outcome.RanToEnd.{RanToEnd}
+use Rattle.facet_phases.specs.declared.phases.Phases.{Ghosts as PhasesGhosts}
 use Rattle.pair_manager.specs.declared.pass.Pass.{Pass}
-use Rattle.facet_words.specs.Commands.{Script}
+use Rattle.facet_words.specs.Commands.{Script, Settings}
 use Rattle.store_opening.specs.Faults.{IsSound}
 use Rattle.store_opening.specs.Files.{files, greatest_number}
 use Rattle.store_opening.specs.Newest.{next_after}
@@ -24,8 +27,8 @@ use Rattle.store_opening.specs.declared.fault.OpenFault.TheVariants.{Disk as OfD
 use Rattle.facet_serving.specs.Ends.{EndsPartly, EndsShort, EndsWhole}
 use Rattle.facet_serving.specs.Sessions.{IsTraceOf}
 use Rattle.facet_serving.specs.Stores.{Keeps, Opens}
-use Rattle.facet_serving.specs.Writing.{WritesLine}
-use Rattle.facet_serving.specs.Statuses.{fault_status, open_line, status_line}
+use Rattle.facet_serving.specs.Writing.{WritesLine, WritesOpenLine}
+use Rattle.facet_serving.specs.Statuses.{fault_status, status_line}
 use Rattle.facet_serving.specs.declared.status.Status.{Status}
 use Rattle.facet_serving.specs.declared.status.Status.TheVariants.{Done, WriteFault, NoMemory}
 
@@ -33,6 +36,27 @@ use Rattle.facet_serving.specs.declared.status.Status.TheVariants.{Done, WriteFa
 abbrev pub GoesOnBehind : {D : Type 0} → Ghosts D → Store D → Type 0
 GoesOnBehind ghosts store = (t : Told) → ghosts.told store.start.value ≡ Some t
     → store.committer.state.next ≡ next_after (greatest_number t.files)
+
+-- Sessions were carried out on a store that was opened with a config: the numbers of what was opened, and how they
+-- ended, by what gave the phases and what the replies went to, between two moments of both.
+pub record IsCarriedOut {C D P O : Type 0} (ghosts : Ghosts D) (settings : Settings) (start : D)
+    (phases : PhasesGhosts P O) (output : OutputGhosts O C) (before now : At P O) (pair : ℕ × ℕ)
+    (ran : RanToEnd D) : Type 0 where
+  pub opened : Opened
+  pub last : Seen
+  pub first : Pass
+  pub next : ℕ
+  pub at : ℕ
+  pub faults : ℕ
+  pub failures : ℕ
+  pub numbers : HasNumbers next at faults failures first.commits.frame
+  pub next_is : (t : Told) → ghosts.told start ≡ Some t → next ≡ next_after (greatest_number t.files)
+  pub pair_is : pair ≡ (length opened.docs, length opened.labels)
+  pub rooted : take 1 opened.labels ≡ [] ∷ []
+  pub opens : Opens ghosts settings.config start opened
+  pub traced : IsTraceOf ran.ended.trace last
+  pub keeps : Keeps ghosts settings.config last start ran.ended.disk
+  pub ended : EndsBy phases output (HasRun settings opened first last) before now ran.result
 
 -- The sessions of a script were carried out on a store that was opened: the numbers of what was opened, and how they
 -- ended. Handing over what was kept of all replies of some phases is so, and that it failed for those of the last one.
@@ -82,5 +106,5 @@ pub record StaysShut {D K : Type 0} (ghosts : Ghosts D) (s : Script) (old new : 
   pub no_trace : left ≡ None
   pub quiet : IsQuiet ghosts old new
   pub cause : ((fault : OpenFault) × (fault_status fault ≡ status) × IsCause ghosts s.settings.config old new fault
-      × WritesLine sink before now (open_line fault))
+      × WritesOpenLine sink before now fault)
       ⊎ ((status ≡ NoMemory) × WritesLine sink before now (status_line NoMemory))

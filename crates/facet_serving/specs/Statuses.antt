@@ -1,5 +1,5 @@
 -- The statuses of a run: their numbers, and the lines that report faults.
-use Rattle.std.specs.Prelude.{ℕ, List, [], ◌∷◌, ◌++◌, codes}
+use Rattle.std.specs.Prelude.{◌≡◌, ◌⊎◌, ℕ, List, [], ◌∷◌, ◌++◌, codes}
 use Rattle.facet_disk.specs.FileNames.{name_text}
 use Rattle.facet_replies.specs.NamedFaults.{text_field, number_field, digest_field, named_fault_line}
 use Rattle.store_opening.specs.declared.fault.OpenFault.{OpenFault}
@@ -45,6 +45,10 @@ fault_status (faults.NumbersSpent greatest) = BadStore
 fault_status (faults.OtherConfig dim) = OtherConfig
 fault_status faults.NoMemory = NoMemory
 
+-- the line that says that another process has the store
+abbrev pub in_use_line : List ℕ
+in_use_line = codes "{\"fault\":\"in_use\"}" ++ 10 ∷ []
+
 -- the line that says why a store was not opened
 abbrev pub open_line : OpenFault → List ℕ
 open_line faults.Disk = status_line DiskFault
@@ -61,3 +65,8 @@ open_line (faults.NumbersSpent greatest) =
     named_fault_line (codes "numbers_spent") (number_field (codes "number") greatest ∷ [])
 open_line (faults.OtherConfig dim) = named_fault_line (codes "other_config") (text_field (codes "dim") dim ∷ [])
 open_line faults.NoMemory = status_line NoMemory
+
+-- a line that says so: where the disk failed, maybe that another process has the store
+abbrev pub IsOpenLine : OpenFault → List ℕ → Type 0
+IsOpenLine faults.Disk line = (line ≡ status_line DiskFault) ⊎ (line ≡ in_use_line)
+IsOpenLine fault line = line ≡ open_line fault

@@ -12,8 +12,10 @@ use facet_phases::{PhaseFault, RanToEnd};
 use facet_replies::write_last_line;
 use std::alloc::Global;
 
-// The last line: what comes after the opened labels and documents, of which there are so many.
-fn end_line(alloc: Global, opened: (u64, u32), trace: &Trace) -> Result<Vec<u8>, NoMemory>
+/// Returns the last line: what comes after the opened labels and documents, of which there are so many.
+///
+/// Errors: out of memory.
+pub fn end_line(alloc: Global, opened: (u64, u32), trace: &Trace) -> Result<Vec<u8>, NoMemory>
     requires documents { opened.0 ≤ length trace.now.sessions.items }
     requires labels { (0 < opened.1) × (opened.1 ≤ length trace.now.labels) }
     ensures { IfOk result (λ line. line.items
@@ -35,8 +37,8 @@ pub(crate) fn write<K: Sink>(sink: &mut K, line: &[u8]) -> Status
     }
 }
 
-/// Ends an invocation after its phases: writes the last line if all were carried out, or the line of `NoMemory` if
-/// memory ran out.
+/// Ends an invocation after its phases: writes the last line if all were carried out, the line of `NoMemory` if memory
+/// ran out, or the line of `ReadFault` if the phases could not be read any further.
 pub(crate) fn close<K: Sink, D: Disk>(
     alloc: Global,
     sink: &mut K,
@@ -64,6 +66,7 @@ pub(crate) fn close<K: Sink, D: Disk>(
         },
         Err(PhaseFault::Write) => Status::WriteFault,
         Err(PhaseFault::NoMemory) => write_status(sink, Status::NoMemory),
+        Err(PhaseFault::Read) => write_status(sink, Status::ReadFault),
     };
     Ended {
         status,

@@ -10,7 +10,7 @@ ghost use Rattle.facet_serving.specs.Serving.{GoesOnBehind, StaysShut};
 
 use crate::closing::write;
 use crate::reporting::{report_open_fault, report_status, write_status};
-use crate::serving::run_on_store;
+use crate::serving::run_listed;
 use crate::status::{Ended, Status};
 use crate::tallying::Counted;
 use commit_store::NotOpened;
@@ -60,7 +60,8 @@ fn close_summed<K: Sink>(
 {
     match phases {
         Ok(()) => write_summed(alloc, sink, total),
-        Err(_) => write_status(sink, Status::NoMemory),
+        Err(PhaseFault::Write | PhaseFault::NoMemory) => write_status(sink, Status::NoMemory),
+        Err(PhaseFault::Read) => write_status(sink, Status::ReadFault),
     }
 }
 
@@ -104,7 +105,7 @@ fn serve_generated<R: Threads + Wait + Sync, K: Sink, D: Disk, G: Gate + Sync>(
         result.status) }
 {
     let mut total = Tally::new();
-    match run_on_store::<R, Tally, D, G, Counted>(rt, alloc, store, script, &mut total, gate) {
+    match run_listed::<R, Tally, D, G, Counted>(rt, alloc, store, script, &mut total, gate) {
         Ok(carried) => sum_up(alloc, sink, total, carried.ran),
         Err(disk) => report_status(sink, Status::NoMemory, disk),
     }

@@ -2,8 +2,8 @@ ghost use Rattle.std.specs.Prelude.{◌≡◌, ◌⊎◌, None, IfOk, map};
 ghost use Rattle.facet_words.specs.FaultLines.{fault_line};
 ghost use Rattle.facet_replies.specs.NamedFaults.{detail_field, named_fault_line};
 ghost use Rattle.store_opening.specs.declared.fault.OpenFault.TheVariants as faults;
-ghost use Rattle.facet_serving.specs.Writing.{WritesLine};
-ghost use Rattle.facet_serving.specs.Statuses.{fault_status, open_line, status_line};
+ghost use Rattle.facet_serving.specs.Writing.{WritesLine, WritesOpenLine};
+ghost use Rattle.facet_serving.specs.Statuses.{IsOpenLine, fault_status, open_line, status_line};
 
 use crate::status::{Ended, Status};
 use facet_disk::{Disk, FileName};
@@ -13,6 +13,9 @@ use facet_replies::{Detail, write_named_fault};
 use facet_words::{ScriptFault, write_fault};
 use std::alloc::Global;
 use store_opening::OpenFault;
+
+// The line that says that another process has the store.
+const IN_USE: &[u8] = b"{\"fault\":\"in_use\"}\n";
 
 // A run that ends before its sessions begin.
 fn ended<D: Disk>(status: Status, disk: D) -> Ended<D>
@@ -136,20 +139,37 @@ fn open_line(alloc: Global, fault: &OpenFault) -> Result<Vec<u8>, NoMemory>
     }
 }
 
-/// Ends an invocation whose store was not opened: writes the line of the fault. The status is that of the fault, also
-/// if the line cannot be written, or `NoMemory` if there is no memory for the line.
+/// Returns the line that says why a store was not opened: if the disk failed since another process has the store, the
+/// line `in_use`.
+///
+/// Errors: out of memory.
+pub fn open_fault_line<D: Disk>(
+    alloc: Global,
+    fault: &OpenFault,
+    disk: &D,
+) -> Result<Vec<u8>, NoMemory>
+    ensures { IfOk result (λ line. IsOpenLine fault.now line.items) }
+{
+    if matches!(fault, OpenFault::Disk) && disk.is_in_use() {
+        return Ok(Vec::from_slice(alloc, IN_USE)?);
+    }
+    open_line(alloc, fault)
+}
+
+/// Ends an invocation whose store was not opened: writes the line of the fault, or that another process has the store.
+/// The status is that of the fault, also if the line cannot be written, or `NoMemory` if there is no memory for the line.
 pub fn report_open_fault<K: Sink, D: Disk>(
     alloc: Global,
     sink: &mut K,
     fault: OpenFault,
     disk: D,
 ) -> Ended<D>
-    ensures told { ((result.status ≡ fault_status fault) × WritesLine K.Sink sink.old sink.new (open_line fault))
+    ensures told { ((result.status ≡ fault_status fault) × WritesOpenLine K.Sink sink.old sink.new fault)
         ⊎ ((result.status ≡ Status.NoMemory) × WritesLine K.Sink sink.old sink.new (status_line Status.NoMemory)) }
     ensures disk { result.disk ≡ disk }
     ensures trace { result.trace ≡ None }
 {
-    match open_line(alloc, &fault) {
+    match open_fault_line(alloc, &fault, &disk) {
         Ok(line) => {
             let _ = write_all(sink, &line);
             ended(Status::of(&fault), disk)

@@ -1,15 +1,17 @@
-ghost use Rattle.std.specs.Prelude.{◌≡◌, ◌⊎◌, Some, IfErr, IfOk, OnErr};
+ghost use Rattle.std.specs.Prelude.{◌≡◌, ◌≤◌, ◌⊎◌, Some, IfErr, IfOk, OnErr};
 ghost use Rattle.commit_turns.specs.DiskStates.{state_of};
 ghost use Rattle.commit_turns.specs.Opening.{WasSettled};
 ghost use Rattle.facet_disk.specs.Calls.{Rose};
 ghost use Rattle.facet_disk.specs.Images.{Told};
-ghost use Rattle.facet_engine.specs.Opening.{IsReady};
+ghost use Rattle.facet_engine.specs.Opening.{IsReady, opened_of};
+ghost use Rattle.facet_output.specs.Output.{opened_pair};
 ghost use Rattle.facet_phases.specs.Ending.{BreaksBehind};
-ghost use Rattle.facet_words.specs.CommandViews.{script_view};
+ghost use Rattle.facet_phases.specs.Taking.{at};
+ghost use Rattle.facet_words.specs.CommandViews.{script_view, settings_view};
 ghost use Rattle.facet_words.specs.ScriptOrder.{AreInOrder};
 ghost use Rattle.store_opening.specs.Quiet.{IsQuiet};
 ghost use Rattle.store_opening.specs.Settled.{IsSettled};
-ghost use Rattle.facet_serving.specs.Serving.{GoesOnBehind, IsCarried, Serves, StaysShut};
+ghost use Rattle.facet_serving.specs.Serving.{GoesOnBehind, IsCarried, IsCarriedOut, Serves, StaysShut};
 
 use crate::closing::close;
 use crate::reporting::{report_open_fault, report_status};
@@ -20,8 +22,8 @@ use commit_turns::Start;
 use facet_disk::Disk;
 use facet_engine::{Store, System};
 use facet_io::Sink;
-use facet_phases::{Collector, Gate, Lines, Output, RanToEnd, run_to_end};
-use facet_words::Script;
+use facet_phases::{Collector, Gate, Lines, ListedPhases, Output, Phases, RanToEnd, run_to_end};
+use facet_words::{Script, Settings};
 use std::alloc::Global;
 use std::hash::RandomState;
 use std::marker::Brand;
@@ -29,17 +31,20 @@ use std::sync::Wait;
 use std::thread::Threads;
 use taxo_cache::Name;
 
-/// What the sessions of a script came to, and how many documents and labels there were when they began.
+/// What sessions came to, and how many documents and labels there were when they began.
 #[derive(Drop)]
-pub(crate) struct Carried<D: Disk> {
+pub struct Carried<D: Disk> {
+    /// How the phases ended, and what remains of the system.
     pub ran: RanToEnd<D>,
+    /// The numbers of documents and of labels when the sessions began. The labels include the root.
     pub opened: (u64, u32),
 }
 
-// Carries out a script on a store, whose labels the name names. Without memory for the system it gives the disk back.
+// Carries out phases on a store, whose labels the name names. Without memory for the system it gives the disk back.
 fn run_with_name<
     N: Name + Start + Send + Sync,
     R: Threads + Wait + Sync,
+    P: Phases<O>,
     O: Output<C>,
     D: Disk,
     G: Gate + Sync,
@@ -48,32 +53,34 @@ fn run_with_name<
     rt: &R,
     alloc: Global,
     store: Store<D>,
-    script: Script,
+    settings: Settings,
+    sessions: u32,
+    phases: &mut P,
     out: &mut O,
     gate: &G,
 ) -> Result<Carried<D>, D>
-    requires ready { IsReady D.Disk script.settings.config store }
-    requires order { AreInOrder (script_view script).phases }
+    requires ready { IsReady D.Disk settings.config store }
+    requires many { sessions ≤ 64 }
+    requires sessions { P.sessions phases.old ≤ sessions }
     requires next { GoesOnBehind D.Disk store }
     requires name { store.labels ≡ N.labels }
     requires told { (N.told → (t : Told) × (D.told store.start.value ≡ Some t))
         × ((t : Told) → D.told store.start.value ≡ Some t → N.told) }
-    requires settled { (N.settled → WasSettled D.Disk script.settings.config store.start.value)
-        × ((t : Told) → D.told store.start.value ≡ Some t → IsSettled D.Disk script.settings.config t store.start.value
+    requires settled { (N.settled → WasSettled D.Disk settings.config store.start.value)
+        × ((t : Told) → D.told store.start.value ≡ Some t → IsSettled D.Disk settings.config t store.start.value
         → N.settled) }
     requires quiet { N.quiet (state_of D.Disk store.committer.disk)
         × ((d : D) → N.quiet (state_of D.Disk d) → IsQuiet D.Disk store.start.value d) }
     ensures carried { IfOk result
-        (λ c. IsCarried D.Disk (script_view script) store.start.value (O.flushes out.old out.new)
-        (BreaksBehind O.flushes O.breaks out.old out.new) c.opened c.ran) }
+        (λ c. IsCarriedOut D.Disk (settings_view settings) store.start.value P.Phases O.Output
+        (at phases.old out.old) (at phases.new out.new) c.opened c.ran) }
+    ensures opened { IfOk result (λ c. c.opened ≡ opened_pair (opened_of store)) }
     ensures quiet { IfErr result (λ disk. IsQuiet D.Disk store.start.value disk) }
-    ensures still { OnErr result (out.new ≡ out.old) }
+    ensures still { OnErr result ((phases.new ≡ phases.old) × (out.new ≡ out.old)) }
 {
-    let Script { settings, phases } = script;
     match System::<D, N>::open(alloc, store, settings) {
         Ok((system, first)) => {
-            let sessions = greatest_session(&phases);
-            let ran = run_to_end::<D, N, R, G, O, C>(
+            let ran = run_to_end::<D, N, R, G, P, O, C>(
                 rt, alloc, &system, gate, first, sessions, phases, out,
             );
             let opened = system.opened();
@@ -83,10 +90,47 @@ fn run_with_name<
     }
 }
 
+/// Carries out phases on a store with the sessions 1 to `sessions`, and hands over what is kept of the replies after
+/// each phase. How the phases ended is in the result.
+///
+/// Errors: out of memory for the system. The error is the disk. Then no phase was asked for.
+pub fn run_on_store<
+    R: Threads + Wait + Sync,
+    P: Phases<O>,
+    O: Output<C>,
+    D: Disk,
+    G: Gate + Sync,
+    C: Collector,
+>(
+    rt: &R,
+    alloc: Global,
+    store: Store<D>,
+    settings: Settings,
+    sessions: u32,
+    phases: &mut P,
+    out: &mut O,
+    gate: &G,
+) -> Result<Carried<D>, D>
+    requires ready { IsReady D.Disk settings.config store }
+    requires many { sessions ≤ 64 }
+    requires sessions { P.sessions phases.old ≤ sessions }
+    requires next { GoesOnBehind D.Disk store }
+    ensures carried { IfOk result
+        (λ c. IsCarriedOut D.Disk (settings_view settings) store.start.value P.Phases O.Output
+        (at phases.old out.old) (at phases.new out.new) c.opened c.ran) }
+    ensures opened { IfOk result (λ c. c.opened ≡ opened_pair (opened_of store)) }
+    ensures quiet { IfErr result (λ disk. IsQuiet D.Disk store.start.value disk) }
+    ensures still { OnErr result ((phases.new ≡ phases.old) × (out.new ≡ out.old)) }
+{
+    run_with_name::<Brand, R, P, O, D, G, C>(
+        rt, alloc, store, settings, sessions, phases, out, gate,
+    )
+}
+
 /// Carries out a script on a store, and hands over what is kept of the replies after each phase.
 ///
 /// Errors: out of memory for the system. The error is the disk.
-pub(crate) fn run_on_store<
+pub(crate) fn run_listed<
     R: Threads + Wait + Sync,
     O: Output<C>,
     D: Disk,
@@ -109,7 +153,19 @@ pub(crate) fn run_on_store<
     ensures quiet { IfErr result (λ disk. IsQuiet D.Disk store.start.value disk) }
     ensures still { OnErr result (out.new ≡ out.old) }
 {
-    run_with_name::<Brand, R, O, D, G, C>(rt, alloc, store, script, out, gate)
+    let Script { settings, phases } = script;
+    let sessions = greatest_session(&phases);
+    let mut listed = ListedPhases::new(phases, sessions);
+    run_on_store::<R, ListedPhases, O, D, G, C>(
+        rt,
+        alloc,
+        store,
+        settings,
+        sessions,
+        &mut listed,
+        out,
+        gate,
+    )
 }
 
 // Carries out a script on a store, and writes the replies after each phase.
@@ -130,7 +186,7 @@ fn serve<R: Threads + Wait + Sync, K: Sink, D: Disk, G: Gate + Sync>(
         × StaysShut D.Disk (script_view script) store.start.value result.disk K.Sink sink.old sink.new result.trace
         result.status) }
 {
-    match run_on_store::<R, K, D, G, Lines>(rt, alloc, store, script, sink, gate) {
+    match run_listed::<R, K, D, G, Lines>(rt, alloc, store, script, sink, gate) {
         Ok(carried) => close(alloc, sink, carried.opened, carried.ran),
         Err(disk) => report_status(sink, Status::NoMemory, disk),
     }

@@ -32,7 +32,7 @@ pub enum Status {
 
 impl Status {
     /// Returns the status for a store that was not opened.
-    pub(crate) fn of(fault: &OpenFault) -> Status
+    pub fn of(fault: &OpenFault) -> Status
         ensures { result ≡ fault_status fault.now }
     {
         match fault {

@@ -87,7 +87,7 @@ module _ {S K D : Type 0} (source : SourceGhosts S) (sink : SinkGhosts K) (disk 
       not_opened = λ which. absurd (⊎_elim (later BadStore refl) (later OtherConfig refl) which);
       too_long = long;
       at_most = some;
-      told = λ gone. ⊎_elim (λ is. inl is) (λ l. inr (inr (inr l))) line;
+      told = λ gone. ⊎_elim (λ is. inl is) (λ l. inr (inr (inr (inl l)))) line;
       bad_words = later BadWords refl;
       read_failed = failed;
       write_failed = λ is. absurd (later WriteFault refl is);

@@ -11,7 +11,7 @@ use Rattle.facet_serving.specs.Ends.{TellsOfStore, expected, opened_status}
 use Rattle.facet_serving.specs.Generating.{Generates}
 use Rattle.facet_serving.specs.Reading.{ReadsScript, ReadsSome, ReadsTooMuch, ReadsWithin}
 use Rattle.facet_serving.specs.Serving.{StaysShut}
-use Rattle.facet_serving.specs.Statuses.{status_line}
+use Rattle.facet_serving.specs.Statuses.{in_use_line, status_line}
 use Rattle.facet_serving.specs.Writing.{WritesLine}
 use Rattle.facet_serving.specs.declared.status.Status.{Status}
 use Rattle.facet_serving.specs.declared.status.Status.TheVariants.{Done, BadWords, ReadFault, WriteFault, BadScript}
@@ -48,8 +48,10 @@ module _ {S K D : Type 0} (source : SourceGhosts S) (sink : SinkGhosts K) (disk 
         → TellsOfStore disk source before.source after.source sink before.sink after.sink before.disk status
     pub too_long : status ≡ TooLong → ReadsTooMuch source before.source after.source
     pub at_most : ReadsSome source before.source after.source
+    -- The line of the status is written, or where the disk failed maybe that another process has the store.
     pub told : trace ≡ None → (status ≡ BadScript) ⊎ (status ≡ BadStore) ⊎ (status ≡ OtherConfig)
         ⊎ WritesLine sink before.sink after.sink (status_line status)
+        ⊎ ((status ≡ DiskFault) × WritesLine sink before.sink after.sink in_use_line)
     -- When each end comes.
     pub bad_words : status ≢ BadWords
     pub read_failed : status ≡ ReadFault → ReadsWithin source before.source after.source

@@ -1,6 +1,5 @@
-use Rattle.std.proofs.Common.{◌≡◌, ◌∙◌, ◌≤◌, ℕ, List, Some, length, map, sym, ap, subst}
+use Rattle.std.proofs.Common.{◌≡◌, ◌∙◌, ◌≤◌, ℕ, List, Some, length, sym, ap, subst}
 use Rattle.std.specs.Prelude.{All}
-use Rattle.std.specs.Global.{Vec}
 use Rattle.chronicle.specs.Frame.{Frame}
 use Rattle.chronicle.specs.History.{entries}
 use Rattle.facet_names.specs.Labels.{IsLabelList}
@@ -8,8 +7,6 @@ use Rattle.facet_io.specs.Faults.{Rose}
 use Rattle.facet_output.specs.Outputs.{sessions_in}
 use Rattle.facet_output.specs.Seen.{history_of, labels_of}
 use Rattle.facet_phases.proofs.Tracing.{sessions_told}
-use Rattle.facet_words.specs.CommandViews.{order_view}
-use Rattle.facet_words.specs.declared.command.Order.{Order}
 use Rattle.commit_turns.specs.Ending.{Lasts, FailsWith}
 use Rattle.commit_turns.specs.Frames.{HasNumbers}
 use Rattle.commit_turns.specs.Points.{count_after, last_of}
@@ -18,8 +15,8 @@ use Rattle.pair_manager.specs.declared.point.CommitPoint.{CommitPoint}
 use Rattle.facet_engine.specs.declared.notes.Notes.{Notes}
 use Rattle.facet_engine.specs.Notes.{noted}
 use Rattle.facet_phases.specs.declared.lane.Lane.{Lane}
-use Rattle.facet_phases.specs.Ending.{BreaksBehind}
 use Rattle.facet_phases.specs.Running.{AreReady}
+use Rattle.facet_phases.specs.Taking.{at}
 use Rattle.facet_phases.proofs.Finishing.{runs_to_end_at, all_see}
 use Rattle.facet_phases.proofs.running.run_to_end.Goals as goal
 
@@ -78,7 +75,7 @@ pub returns-clause-ran : goal.returns-clause-ran
 returns-clause-ran g c =
     let first = c.run_sessions-result.new.first in
     let notes = c.end-ended.result.notes in
-    runs_to_end_at (g.O.Output.flushes c.args.out.now c.run_sessions-result.new.out) (BreaksBehind g.O.Output.flushes g.O.Output.breaks c.args.out.now c.run_sessions-result.new.out) c.args.system.now (map (λ (phase : Vec Order). map order_view phase.items) c.args.phases.items) c.args.first first c.deref_mut.result.now c.spread_all.new.lanes notes c.spread_all.new.notes
+    runs_to_end_at g.P.Phases g.O.Output c.args.system.now (at c.args.phases.now c.args.out.now) (at c.run_sessions-result.new.phases c.run_sessions-result.new.out) c.args.first first c.deref_mut.result.now c.spread_all.new.lanes notes c.spread_all.new.notes
     c.run_sessions-result.result
     c.run_sessions-result.ensures.ran c.run_sessions-result.ensures.frames.1
     (subst (λ (l : List (Lane g.row.C.Denot)). AreReady c.args.system.now first l) (sym c.deref_mut.ensures.value) c.run_sessions-result.ensures.ready) c.spread_all.ensures.told c.spread_all.ensures.notes c.end-ended.ensures.told c.end-ended.ensures.numbers c.end-ended.ensures.list c.end-ended.ensures.published

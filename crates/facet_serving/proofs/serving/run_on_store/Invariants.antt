@@ -10,4 +10,4 @@ ghosts-run_with_name-N-Name g a = record { labels = a.store.labels }
 
 -- the disk told its files when opening began, and was settled; each disk of such a state is as it was then
 abbrev pub ghosts-run_with_name-N-Start : goal.ghosts-run_with_name-N-Start
-ghosts-run_with_name-N-Start g a = record { told = (t : Told) × (g.D.Disk.told a.store.start.value ≡ Some t); settled = WasSettled g.D.Disk a.script.settings.config a.store.start.value; quiet = IsLeftQuiet g.D.Disk a.store.start.value }
+ghosts-run_with_name-N-Start g a = record { told = (t : Told) × (g.D.Disk.told a.store.start.value ≡ Some t); settled = WasSettled g.D.Disk a.settings.config a.store.start.value; quiet = IsLeftQuiet g.D.Disk a.store.start.value }

@@ -13,12 +13,12 @@ close-requires-clause-labels g c κs within =
     (room.some, room.labels)
 
 pub returns-in-Ok : goal.returns-in-Ok
-returns-in-Ok g c = inl (serves_carried g.D.Disk (script_view c.args.script) c.args.store.start.value c.close.result.disk g.K.Sink c.args.sink.now c.run_on_store.new.out c.close.new.sink
+returns-in-Ok g c = inl (serves_carried g.D.Disk (script_view c.args.script) c.args.store.start.value c.close.result.disk g.K.Sink c.args.sink.now c.run_listed.new.out c.close.new.sink
     c.in-Ok.carried.opened c.in-Ok.carried.ran c.close.result.trace c.close.result.status c.in-Ok.ensures.carried c.close.ensures.trace c.close.ensures.disk c.close.ensures.closes)
 
 pub returns-in-Err : goal.returns-in-Err
 returns-in-Err g c = inr (
   c.report_status.ensures.status,
-  shut_after g.D.Disk (script_view c.args.script) c.args.store.start.value g.K.Sink c.args.sink.now c.report_status.new.sink c.report_status.result.trace c.report_status.result.status c.run_on_store.new.out c.in-Err.ensures.still c.in-Err.disk c.report_status.result.disk
+  shut_after g.D.Disk (script_view c.args.script) c.args.store.start.value g.K.Sink c.args.sink.now c.report_status.new.sink c.report_status.result.trace c.report_status.result.status c.run_listed.new.out c.in-Err.ensures.still c.in-Err.disk c.report_status.result.disk
       c.report_status.ensures.disk c.in-Err.ensures.quiet c.report_status.ensures.trace c.report_status.ensures.status c.report_status.ensures.line,
 )
