@@ -70,7 +70,7 @@ fn number_in(text: &str, low: u32, high: u32) -> Option<u32>
 }
 
 // Returns the text under a name.
-fn text_under<'a>(matches: &ArgMatches<'a>, id: &str) -> Option<&'a str>
+pub(crate) fn text_under<'a>(matches: &ArgMatches<'a>, id: &str) -> Option<&'a str>
     ensures { option_map (λ s. s.now) result ≡ first_of id.now (rows_of (found_of matches.now)) }
 {
     matches.get_str(id)

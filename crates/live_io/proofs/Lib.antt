@@ -1,0 +1,4 @@
+pub mod Puts
+pub mod Feeds
+pub mod Unreads
+mod Notes

@@ -1,0 +1,5 @@
+pub mod Events
+pub mod EventViews
+pub mod Memory
+pub mod Unread
+pub mod Buffer
