@@ -2,7 +2,8 @@ use crate::holding::HoldsOne;
 use crate::setup::{Setup, empty_disk};
 use facet_disk::MemoryDisk;
 use facet_io::{MemorySink, MemorySource};
-use facet_shell::{Status, run};
+use facet_shell::{Status, live, read_live, run};
+use live_io::MemoryDuplex;
 use std::alloc::{AllocGlobal, Global};
 use std::mem;
 use std::sync::Wait;
@@ -52,5 +53,40 @@ pub fn run_script<R: AllocGlobal + Threads + Wait + Sync>(rt: &R, setup: &mut Se
         status: ended.status,
         sink,
         gave_up: gate.gave_up(),
+    }
+}
+
+/// How a live process ended.
+#[derive(Drop)]
+pub struct Lived {
+    /// The exit status.
+    pub status: Status,
+    /// What was read, written and flushed.
+    pub io: MemoryDuplex,
+}
+
+// Takes the lines of a client, and the failing reads, writes and flushes.
+fn take_io(alloc: Global, setup: &mut Setup) -> MemoryDuplex {
+    let lines = mem::replace(&mut setup.script, Vec::new(alloc));
+    let reads = mem::replace(&mut setup.reads, Vec::new(alloc));
+    let writes = mem::replace(&mut setup.writes, Vec::new(alloc));
+    MemoryDuplex::new(alloc, lines, setup.piece.max(1), reads, writes)
+}
+
+/// Answers the lines over the disk, which afterwards is as the program left it.
+pub fn answer_lines<R: AllocGlobal + Threads + Wait + Sync>(rt: &R, setup: &mut Setup) -> Lived {
+    let alloc = rt.alloc();
+    let io = take_io(alloc, setup);
+    let disk: MemoryDisk = mem::replace(&mut setup.disk, empty_disk(alloc));
+    let gate = HoldsOne::new(setup.held);
+    let only_reads = match read_live(alloc, &setup.words) {
+        Ok(Some(line)) => line.reads,
+        _ => false,
+    };
+    let ended = live(rt, setup.keys, io, disk, &gate, only_reads);
+    setup.disk = ended.disk;
+    Lived {
+        status: ended.status,
+        io: ended.io,
     }
 }

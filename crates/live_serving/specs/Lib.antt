@@ -1,0 +1,10 @@
+pub mod Lines
+pub mod Firsts
+pub mod Answering
+pub mod Moments
+pub mod FirstLine
+pub mod Ends
+pub mod Runs
+pub mod Closing
+pub mod Starting
+pub mod Leaving
