@@ -7,7 +7,7 @@ from typing import Any
 import reference
 import shapes
 from relation import Answered, Checker, Opened, Verdict
-from scripts import script_of
+from scripts import Script, script_of
 
 # what a run with ample memory over a sound disk refuses nothing for
 NEVER_REFUSED = ("no_memory", "disk", "closed")
@@ -29,7 +29,10 @@ def has_one_output(stored: dict[str, bytes], values: list[Any]) -> bool:
 
 def judge(stored: dict[str, bytes], values: list[dict], output: bytes, left: dict[str, bytes]) -> Verdict:
     """Of a script without a fault, over files that open."""
-    script = script_of(values)
+    return judge_script(stored, script_of(values), output, left)
+
+
+def judge_script(stored: dict[str, bytes], script: Script, output: bytes, left: dict[str, bytes]) -> Verdict:
     view = reference.Session(dict(stored), script.config)
     checker = Checker(script, Opened(list(view.labels), list(view.documents)), output)
     verdict = checker.run()

@@ -141,8 +141,9 @@ TIERED: list[tuple[list[int], list[int]]] = [
     ([2, 102, 103], [103]),
 ]
 
-# Command-line arguments, and what they ask for: the directory, and how many documents are generated; or None for a usage error.
-WORDS: list[tuple[list[bytes], tuple[bytes, int | None] | None]] = [
+# Command-line arguments, and what they ask for: the directory, how many documents are generated, whether it is the line mode and whether it only reads; or None
+# for a usage error.
+WORDS: list[tuple[list[bytes], tuple | None]] = [
     ([b"d"], (b"d", None)),
     ([b""], (b"", None)),
     ([b"-"], (b"-", None)),
@@ -154,6 +155,15 @@ WORDS: list[tuple[list[bytes], tuple[bytes, int | None] | None]] = [
     ([b"--generate=1", b"--", b"d"], (b"d", 1)),
     ([b"--generate=+7", b"d"], (b"d", 7)),
     ([b"--generate=007", b"d"], (b"d", 7)),
+    ([b"--live", b"d"], (b"d", None, True)),
+    ([b"--read", b"d", b"--live"], (b"d", None, True, True)),
+    ([b"--", b"--live"], (b"--live", None)),
+    ([b"--live"], None),
+    ([b"--read", b"d"], None),
+    ([b"--live", b"d", b"--live"], None),
+    ([b"--live=true", b"d"], None),
+    ([b"--live", b"--sessions", b"2", b"d"], None),
+    ([b"--generate", b"12", b"--live", b"d"], None),
     ([], None),
     ([b"d", b"e"], None),
     ([b"--", b"d", b"--generate"], None),
