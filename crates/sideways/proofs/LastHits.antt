@@ -1,8 +1,7 @@
 -- The last hits of the segments, found from the last segment on.
 use Rattle.std.proofs.Common.{◌≡◌, ℕ, zero, suc, ◌+◌, ◌-◌, ◌<◌, ◌≤◌, ◌⊎◌, inl, inr, Bool, true, false, List, [], ◌∷◌, ◌++◌, length, take, drop, reverse, map, min, get_or, refl, sym, ap, subst, ◌∙◌, arith, append_assoc}
 use Rattle.std.specs.Prelude.{cond, filter, sum_by}
-use Rattle.std.specs.List.{enumerate_from, AllByRecursion, AllZip}
-use Rattle.std.proofs.lemmas.Bool.{cases_lt}
+use Rattle.std.specs.List.{enumerate_from, AllZip}
 use Rattle.std.proofs.lemmas.List.{append-nil, drop-take, drop_more, get_or-map, length-append, length-reverse, map_push, reverse-append, take-append-le, take-take, take_all, take_more}
 use Rattle.std.proofs.lemmas.List.Sums.{sum_by-cons}
 use Rattle.std.proofs.Math.Seq.{take-append-add}

@@ -7,6 +7,7 @@ pub mod Ready
 pub mod Gathered
 pub mod Answered
 pub mod LastHits
+pub mod MarkedLast
 pub mod Shared
 pub mod Misses
 pub mod Sets

@@ -1,5 +1,5 @@
 //! The last hits of a search, found from the last segment on.
-ghost use Rattle.std.specs.Prelude.{◌≡◌, ◌+◌, ◌≤◌, ◌<◌, ◌++◌, ◌∷◌, [], ℕ, List, None, IfOk, OnOk, length, reverse};
+ghost use Rattle.std.specs.Prelude.{◌≡◌, ◌+◌, ◌*◌, ◌≤◌, ◌<◌, ◌++◌, ◌∷◌, [], ℕ, List, None, IfOk, OnOk, length, reverse};
 ghost use Rattle.std.specs.Prelude.{drop, sum_by, take};
 ghost use Rattle.std.specs.List.{AllByRecursion};
 ghost use Rattle.facet_codec.specs.Laws.{IsBelow};
@@ -10,12 +10,14 @@ ghost use Rattle.facet_model.specs.QueryViews.{query_view};
 ghost use Rattle.facet_model.specs.Stored.{Decodes};
 ghost use Rattle.query_eval.specs.Segments.{HasTermsOf};
 ghost use Rattle.seg_drill.specs.Passing.{passes_all};
+ghost use Rattle.seg_postings.specs.Rising.{IsRising};
 ghost use Rattle.sideways.specs.Counted.{AreLast, live_in, ranks_from};
 ghost use Rattle.sideways.specs.Searches.{records_of};
 
 use crate::part::Part;
 use facet_model::{Drill, Query};
 use facet_names::NoMemory;
+use place_bits::Bits;
 use seg_file::Segment;
 use std::alloc::Global;
 use std::collections::VecDeque;
@@ -37,7 +39,7 @@ fn push_last(last: &mut VecDeque<u32>, most: usize, place: u32) -> Result<(), No
 }
 
 // Takes all places of a part, and returns the last ones, at most `most`, in order.
-fn last_places(alloc: Global, part: &mut Part<'_>, most: usize) -> Result<VecDeque<u32>, NoMemory>
+fn walked_last(alloc: Global, part: &mut Part<'_>, most: usize) -> Result<VecDeque<u32>, NoMemory>
     requires some { 0 < most }
     ensures last { IfOk result (λ q. AreLast most part.old.left q.items) }
     ensures within { IfOk result (λ q. AllByRecursion (IsBelow (length part.old.segment.records)) q.items) }
@@ -48,6 +50,40 @@ fn last_places(alloc: Global, part: &mut Part<'_>, most: usize) -> Result<VecDeq
         push_last(&mut last, most, place)?;
     }
     Ok(last)
+}
+
+// Returns the last places of a set, at most `most`, in order. It looks at the places from the last one on, and stops as
+// soon as there are enough.
+fn marked_last(alloc: Global, set: &Bits, docs: u32, most: usize) -> Result<VecDeque<u32>, NoMemory>
+    requires room { docs ≤ 64 * set.now.words }
+    requires within { AllByRecursion (IsBelow docs) set.now.places }
+    requires rising { IsRising set.now.places }
+    ensures last { IfOk result (λ q. AreLast most set.now.places q.items) }
+    ensures within { IfOk result (λ q. AllByRecursion (IsBelow docs) q.items) }
+{
+    let mut last = VecDeque::with_capacity(alloc, most.min(docs as usize))?;
+    let mut place = docs;
+    while place > 0 && last.len() < most {
+        place -= 1;
+        if set.has(place) {
+            last.push_front(place)?;
+        }
+    }
+    Ok(last)
+}
+
+// Returns the last places of a part, at most `most`, in order. Of a set it takes the places from the last one on; a plan
+// it walks to its end.
+fn last_places(alloc: Global, part: &mut Part<'_>, most: usize) -> Result<VecDeque<u32>, NoMemory>
+    requires some { 0 < most }
+    ensures last { IfOk result (λ q. AreLast most part.old.left q.items) }
+    ensures within { IfOk result (λ q. AllByRecursion (IsBelow (length part.old.segment.records)) q.items) }
+    ensures segment { OnOk result (part.new.segment ≡ part.old.segment) }
+{
+    match part.take_set() {
+        Some(set) => marked_last(alloc, &set, part.docs(), most),
+        None => walked_last(alloc, part, most),
+    }
 }
 
 // Adds the ranks of the last places of a part, counted on from `base`, the last one first, until there are `limit`.
@@ -84,7 +120,8 @@ fn all_live(segments: &[Arc<Segment>]) -> u32
 }
 
 /// Returns the places of the last documents that match the query and the drill, the last one first: at most `limit`. It
-/// looks for them in the segments from the last one to the first, and stops as soon as there are enough.
+/// looks for them in the segments from the last one to the first, and stops as soon as there are enough. In a segment
+/// in which many documents match, it looks at the places from the last one on; in another it walks all of its hits.
 ///
 /// Memory: that of a `Part` for each segment in turn, and 4 bytes per place, twice while a segment is walked. Errors:
 /// out of memory.

@@ -1,4 +1,4 @@
-ghost use Rattle.std.specs.Prelude.{◌≡◌, ◌+◌, ◌≤◌, ◌<◌, ◌∷◌, [], Bool, List, length, IfOk, IfSome};
+ghost use Rattle.std.specs.Prelude.{◌≡◌, ◌+◌, ◌≤◌, ◌<◌, ◌∷◌, [], Bool, List, None, length, IfOk, IfSome};
 ghost use Rattle.facet_model.specs.Documents.{Doc};
 ghost use Rattle.facet_model.specs.QueryViews.{query_view};
 ghost use Rattle.facet_model.specs.Stored.{live_before};
@@ -152,6 +152,29 @@ impl<'a> Part<'a> {
             Left::Marked(places) => places.next(),
             Left::Nothing => None,
         }
+    }
+
+    /// Takes the set of the records that are left, where they are kept as a set. Then none is left. It allocates
+    /// nothing.
+    pub(crate) fn take_set(&mut self) -> Option<Bits>
+        ensures some { IfSome result (λ set. (set.places ≡ self.old.left) × IsSetWithin self.old.segment set) }
+        ensures none { result ≡ None → self.new.left ≡ self.old.left }
+        ensures segment { self.new.segment ≡ self.old.segment }
+    {
+        match mem::replace(&mut self.left, Left::Nothing) {
+            Left::Marked(places) => Some(places.into_rest()),
+            left => {
+                self.left = left;
+                None
+            }
+        }
+    }
+
+    /// Returns how many records the segment has, live or not.
+    pub(crate) fn docs(&self) -> u32
+        ensures { result ≡ length self.now.segment.records }
+    {
+        self.segment.docs()
     }
 
     /// Counts the record at a place.

@@ -1,14 +1,13 @@
-use Rattle.std.proofs.Common.{◌≡◌, ◌∙◌, ◌<◌, ◌≤◌, ◌+◌, ◌-◌, ℕ, Bool, List, None, length, get_or, take, inl, inr, ap, sym, subst, arith}
+use Rattle.std.proofs.Common.{◌≡◌, ◌∙◌, ◌<◌, ◌+◌, ◌-◌, ℕ, Bool, List, None, length, inl, inr, ap, sym, subst, arith}
 use Rattle.std.specs.Arc.{arc_value}
-use Rattle.std.specs.Prelude.{sum_by}
-use Rattle.std.proofs.lemmas.List.{get_or-map, length-map}
+use Rattle.std.proofs.lemmas.List.{length-map}
 use Rattle.std.proofs.lemmas.List.Sums.{sum_by-take-le}
 use Rattle.facet_model.specs.Documents.{Doc}
 use Rattle.facet_model.specs.QueryViews.{query_view}
 use Rattle.facet_model.specs.Stored.{Records}
 use Rattle.query_eval.specs.Segments.{HasTermsOf}
 use Rattle.seg_drill.specs.Passing.{passes_all}
-use Rattle.sideways.specs.Counted.{IsPartOf, live_in, ranks_from}
+use Rattle.sideways.specs.Counted.{IsPartOf, live_in}
 use Rattle.sideways.specs.Searches.{records_of}
 use Rattle.sideways.proofs.Gathered.{mapped_at}
 use Rattle.sideways.proofs.LastHits.{IsFoundFrom, base_before, found_all, found_before, record_there}

@@ -1,15 +1,11 @@
-use Rattle.std.proofs.Common.{◌∙◌, ◌<◌, ◌++◌, ◌∷◌, [], length, ap, sym, subst, append_assoc}
+use Rattle.std.proofs.Common.{◌≡◌, ◌∙◌, length, ap, sym, subst}
+use Rattle.std.specs.List.{AllByRecursion}
+use Rattle.facet_codec.specs.Laws.{IsBelow}
 use Rattle.facet_model.specs.Stored.{Records}
+use Rattle.sideways.proofs.MarkedLast.{all_below}
 use Rattle.sideways.proofs.newest.last_places.Goals as goal
 
-pub loop-place-preserved : goal.loop-place-preserved
-loop-place-preserved c =
-    let inv = c.loop-place.invariant in
-    let place = c.in-Some.place in
-    record {
-      before = inv.before ++ place ∷ [];
-      split = inv.split ∙ ap (λ xs. inv.before ++ xs) c.in-Some.ensures.next ∙ sym (append_assoc inv.before (place ∷ []) c.take.new.self.left);
-      segment = c.in-Some.ensures.segment ∙ inv.segment;
-      last = c.in_ok-push_last.ensures.last inv.before inv.last;
-      within = c.in_ok-push_last.ensures.within (length c.args.part.now.segment.records) (subst (λ (s : Records). place < length s.records) inv.segment c.in-Some.ensures.within) inv.within;
-    }
+pub marked_last-requires-clause-within : goal.marked_last-requires-clause-within
+marked_last-requires-clause-within c =
+    let many : length c.args.part.now.segment.records ≡ c.docs.result = ap (λ (s : Records). length s.records) (sym c.take_set.ensures.segment) ∙ sym c.docs.ensures in
+    subst (λ n. AllByRecursion (IsBelow n) c.in-Some.set.places) many (all_below (length c.args.part.now.segment.records) c.in-Some.set.places c.in-Some.ensures.some.1.within.within)

@@ -1,4 +1,4 @@
-use Rattle.std.proofs.Common.{◌≡◌, ◌∙◌, ◌++◌, ◌∷◌, [], ap, sym, subst, arith}
+use Rattle.std.proofs.Common.{◌∙◌, ◌++◌, ◌∷◌, [], ap, sym, subst, arith}
 use Rattle.sideways.specs.Counted.{AreLast}
 use Rattle.sideways.proofs.LastHits.{last_more, last_moved}
 use Rattle.sideways.proofs.newest.push_last.Goals as goal

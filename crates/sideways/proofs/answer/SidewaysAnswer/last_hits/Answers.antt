@@ -1,10 +1,8 @@
 use Rattle.std.proofs.Common.{◌≡◌, ◌∙◌, ◌≤◌, List, length, take, drop, reverse, ap, subst, None, arith}
-use Rattle.std.specs.Prelude.{sum_by}
 use Rattle.facet_model.specs.CountedPaths.{places}
 use Rattle.facet_model.specs.Documents.{Doc}
 use Rattle.facet_model.specs.Hits.{is_hit}
 use Rattle.seg_drill.specs.Passing.{passes_all}
-use Rattle.sideways.specs.Counted.{live_in}
 use Rattle.sideways.specs.Questions.{HasDocs}
 use Rattle.sideways.specs.Searches.{Search, question, question_of, records_of}
 use Rattle.sideways.proofs.LastHits.{listed_back, live_number}

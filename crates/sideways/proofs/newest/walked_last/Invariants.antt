@@ -2,7 +2,7 @@ use Rattle.std.proofs.Common.{◌≡◌, ◌++◌, ℕ, List, length}
 use Rattle.std.specs.List.{AllByRecursion}
 use Rattle.facet_codec.specs.Laws.{IsBelow}
 use Rattle.sideways.specs.Counted.{AreLast}
-use Rattle.sideways.proofs.newest.last_places.Given as goal
+use Rattle.sideways.proofs.newest.walked_last.Given as goal
 
 abbrev pub invariant-loop-place : goal.invariant-loop-place
 invariant-loop-place l = record {
