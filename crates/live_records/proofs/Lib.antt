@@ -1,3 +1,3 @@
 pub mod Alive
-mod Ranks
+pub mod Ranks
 pub mod Added

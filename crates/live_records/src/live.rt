@@ -92,6 +92,8 @@ impl LiveRecords {
         ensures docs { IfOk result (λ r. r.docs ≡ self.now.docs) }
         ensures dead { IfOk result (λ r. (n : ℕ) → is_dead r.dead n
             ≡ (is_dead self.now.dead n || is_dead places.now n)) }
+        ensures rise { IfOk result (λ r. IsRising r.dead) }
+        ensures within { IfOk result (λ r. AllByRecursion (IsBelow r.docs) r.dead) }
     {
         let mut set = Bits::none(alloc, self.docs)?;
         add_each(&mut set, &self.dead);

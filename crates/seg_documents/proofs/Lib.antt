@@ -6,3 +6,4 @@ pub mod Stored
 pub mod Few
 pub mod Prefixes
 pub mod Bare
+pub mod Storing

@@ -280,6 +280,8 @@ impl Segment {
         ensures records { IfOk result (λ s. s.records ≡ self.now.records) }
         ensures terms { IfOk result (λ s. s.terms ≡ self.now.terms) }
         ensures dead { IfOk result (λ s. (n : ℕ) → is_dead s.dead n ≡ (is_dead self.now.dead n || is_dead docs.now n)) }
+        ensures rise { IfOk result (λ s. IsRising s.dead) }
+        ensures within { IfOk result (λ s. AllByRecursion (IsBelow (length s.records)) s.dead) }
     {
         Ok(Segment {
             stored: Arc::try_clone(&self.stored)?,
