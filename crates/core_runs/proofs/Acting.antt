@@ -3,8 +3,7 @@ use Rattle.std.proofs.Common.{◌≡◌, ◌⊎◌, inl, inr, ⊎_elim, ℕ, ◌
 use Rattle.std.specs.Prelude.{count_by, filter, filter_map, option_map, option_to_list}
 use Rattle.std.specs.List.{cons_option}
 use Rattle.std.proofs.lemmas.List.Sums.{sum_by-cons}
-use Rattle.facet_model.specs.Documents.{Doc}
-use Rattle.facet_model.specs.Histories.{Operation}
+use Rattle.facet_model.specs.Histories.{Change, Operation}
 use Rattle.facet_words.specs.Commands.{Settings}
 use Rattle.facet_output.specs.Answered.{Answered}
 use Rattle.facet_output.specs.Held.{Held, held_after}
@@ -15,8 +14,8 @@ use Rattle.facet_output.specs.Steps.{Step, IsStep, EntersOperation, EntersPair}
 use Rattle.facet_output.proofs.Among.{In}
 use Rattle.facet_output.proofs.Placing.{rest_none}
 use Rattle.chronicle.proofs.Prefixes.{prefix_length}
-use Rattle.core_runs.specs.CoreRuns.{answer_of, changes}
-use Rattle.core_runs.proofs.Deeds.{Act, Deed, Lex, add_at, before, commit_number, lex_from, lex_then, point, publish_of, told}
+use Rattle.core_runs.specs.CoreRuns.{answer_of, has_move}
+use Rattle.core_runs.proofs.Deeds.{Act, Deed, Lex, before, change_at, commit_number, lex_from, lex_then, point, publish_of, told}
 use Rattle.core_runs.proofs.Doing.{Did, act_of, between, bound, did}
 use Rattle.core_runs.proofs.Gather.{each_at, own_more, own_still, pub_at}
 use Rattle.core_runs.proofs.Sorting.{Rises}
@@ -72,17 +71,17 @@ part_of test part (x ∷ xs) each =
 abbrev answers : List Step → List Answered
 answers xs = map (λ (x : Step). x.answered) xs
 
-pub told_acts : (xs : List Step) → ((x : Step) → In x xs → Did x) → map told (acts_of xs) ≡ map answer_of (filter changes (answers xs))
+pub told_acts : (xs : List Step) → ((x : Step) → In x xs → Did x) → map told (acts_of xs) ≡ map answer_of (filter has_move (answers xs))
 told_acts [] each = refl
 told_acts (x ∷ xs) each =
     let rest = told_acts xs (λ y there. each y (inr there)) in ⊎_elim
-    (λ d. let does = d.1 in let passes = does.changes_it in
+    (λ d. let does = d.1 in let passes = does.moves in
     ap (λ (o : Option Act). map told (cons_option o (acts_of xs))) does.act
     ∙ (λ i. sym does.answer i ∷ rest i)
-    ∙ (let e : answer_of x.answered ∷ map answer_of (filter changes (answers xs)) ≡ map answer_of (filter changes (answers (x ∷ xs))) = rw passes refl in e))
-    (λ idle. let fails = idle.changes_none in
+    ∙ (let e : answer_of x.answered ∷ map answer_of (filter has_move (answers xs)) ≡ map answer_of (filter has_move (answers (x ∷ xs))) = rw passes refl in e))
+    (λ idle. let fails = idle.moves_none in
     ap (λ (o : Option Act). map told (cons_option o (acts_of xs))) idle.act ∙ rest
-    ∙ (let e : map answer_of (filter changes (answers xs)) ≡ map answer_of (filter changes (answers (x ∷ xs))) = rw fails refl in e))
+    ∙ (let e : map answer_of (filter has_move (answers xs)) ≡ map answer_of (filter has_move (answers (x ∷ xs))) = rw fails refl in e))
     (each x (inl refl))
 
 pub counted_acts : (n : ℕ) (xs : List Step) → ((x : Step) → In x xs → Did x) → count_by (λ (a : Act). is_number n (commit_number a.1)) (acts_of xs) ≡ count_by (λ a. is_number n (durable a)) (answers xs)
@@ -154,11 +153,11 @@ module _ {A : Type 0} (f : ℕ → A → Deed) (n k : ℕ) where
       ap own p.1 ∙ ap (λ (l : Entries A). own (l ++ (n, x) ∷ [])) (sym whole) ∙ own_more f n k x old p.0.0.0 (rest_none n old middle p.0)
       ∙ ap (λ (l : Entries A). own old ++ (n, f (k + length l) x) ∷ []) whole
 
-pub entered_add : (n : ℕ) (o : Option (ℕ × Operation)) (old new : Entries Doc) → EntersOperation n o old new
-    → entered_by n (each_at add_at 0 new) ≡ entered_by n (each_at add_at 0 old) ++ option_to_list (option_map {U = Act} (λ p. (n, add_at p.0 p.1.doc)) o)
-entered_add n None old new enters = entered_none add_at n 0 old new enters ∙ sym (append-nil (entered_by n (each_at add_at 0 old)))
-entered_add n (Some p) old new enters = entered_one add_at n 0 p.1.doc old enters.0 new enters.1
-    ∙ ap (λ (at : ℕ). entered_by n (each_at add_at 0 old) ++ (n, add_at at p.1.doc) ∷ []) ((let e : 0 + length enters.0 ≡ length enters.0 = omega arith in e) ∙ sym enters.2)
+pub entered_change : (n : ℕ) (o : Option (ℕ × Operation)) (old new : Entries Change) → EntersOperation n o old new
+    → entered_by n (each_at change_at 0 new) ≡ entered_by n (each_at change_at 0 old) ++ option_to_list (option_map {U = Act} (λ p. (n, change_at p.0 p.1.change)) o)
+entered_change n None old new enters = entered_none change_at n 0 old new enters ∙ sym (append-nil (entered_by n (each_at change_at 0 old)))
+entered_change n (Some p) old new enters = entered_one change_at n 0 p.1.change old enters.0 new enters.1
+    ∙ ap (λ (at : ℕ). entered_by n (each_at change_at 0 old) ++ (n, change_at at p.1.change) ∷ []) ((let e : 0 + length enters.0 ≡ length enters.0 = omega arith in e) ∙ sym enters.2)
 
 pub entered_publish : (n least most : ℕ) (o : Option ℕ) (old new : Entries (ℕ × ℕ)) → EntersPair n least most o old new
     → entered_by n (each_at pub_at 1 new) ≡ entered_by n (each_at pub_at 1 old) ++ option_to_list (option_map {U = Act} (λ k. (n, publish_of k (length new))) o)

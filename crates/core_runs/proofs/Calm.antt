@@ -7,14 +7,12 @@ use Rattle.std.proofs.lemmas.List.{take_at}
 use Rattle.std.proofs.lemmas.List.Sums.{fold-append}
 use Rattle.facet_names.specs.Labels.{IsLabelList, above, is_in_place, stands}
 use Rattle.facet_model.specs.Core.{State, CoreEvent, step, take_labels, publish}
-use Rattle.facet_model.specs.Documents.{Doc}
-use Rattle.facet_model.specs.Histories.{Operation}
+use Rattle.facet_model.specs.Histories.{Change, Operation, labels_stand}
 use Rattle.facet_core.specs.Laws.{ran}
-use Rattle.facet_words.specs.Commands.{Command, add, refresh, commit}
-use Rattle.facet_replies.specs.Replies.{Reply, placed, numbered}
+use Rattle.facet_output.specs.Effects.{Effect, changes, publishes, persists, Report, says_placed, says_number}
 use Rattle.facet_output.specs.Seen.{Entries}
 use Rattle.core_runs.specs.Possible.{are_possible, is_possible}
-use Rattle.core_runs.specs.Moves.{Move, adds, answer_to, answers_in, commits, enters, events_in, events_of, label_of, labels_in, refreshes}
+use Rattle.core_runs.specs.Moves.{Move, answer_to, answers_in, appends, commits, enters, events_in, events_of, label_of, labels_in, refreshes}
 
 abbrev Path : Type 0
 Path = List (List ℕ)
@@ -44,7 +42,7 @@ calm labels history published d = record {
 }
 
 -- the moves lead from one core to another, enter these labels and have these answers
-pub record Leads (s t : State) (moves : List Move) (labels : Entries Path) (answers : Entries (Command × Reply)) : Type 0 where
+pub record Leads (s t : State) (moves : List Move) (labels : Entries Path) (answers : Entries (Effect × Report)) : Type 0 where
   pub ends : ran s (events_in moves) ≡ t
   pub possible : are_possible s (events_in moves) ≡ true
   pub enters : labels_in moves ≡ labels
@@ -58,7 +56,7 @@ possible_append s [] ys p q = q
 possible_append s (x ∷ xs) ys p q = let both = and_parts (is_possible s x) (are_possible (step s x) xs) p in and_from _ _ both.0 (possible_append (step s x) xs ys both.1 q)
 
 -- a move before others
-pub leads_then : (s t u : State) (m : Move) (moves : List Move) (labels : Entries Path) (answers : Entries (Command × Reply)) → ran s (events_of m) ≡ t → are_possible s (events_of m) ≡ true
+pub leads_then : (s t u : State) (m : Move) (moves : List Move) (labels : Entries Path) (answers : Entries (Effect × Report)) → ran s (events_of m) ≡ t → are_possible s (events_of m) ≡ true
     → Leads t u moves labels answers → Leads s u (m ∷ moves) (cons_option (label_of m) labels) (cons_option (answer_to s m) answers)
 leads_then s t u m moves labels answers goes possible rest = record {
   ends = fold-append step s (events_of m) (events_in moves) ∙ ap (λ (c : State). ran c (events_in moves)) goes ∙ rest.ends;
@@ -80,16 +78,16 @@ module _ (labels : List Path) (history : List Operation) (published : List (ℕ 
     idx_may = (length history, length labels) ∷ [];
   }
 
-  pub add_then : (u : State) (moves : List Move) (more : Entries Path) (answers : Entries (Command × Reply)) (session : ℕ) (doc : Doc) → list_all (stands labels) doc.labels ≡ true
-      → Leads (calm labels (history ++ (record { session = session; doc = doc }) ∷ []) published d) u moves more answers
-      → Leads (calm labels history published d) u (adds session doc ∷ moves) more ((session, (add doc, placed (length history))) ∷ answers)
-  add_then u moves more answers session doc known rest =
-      leads_then (calm labels history published d) (calm labels (history ++ (record { session = session; doc = doc }) ∷ []) published d) u (adds session doc) moves more answers
+  pub change_then : (u : State) (moves : List Move) (more : Entries Path) (answers : Entries (Effect × Report)) (session : ℕ) (change : Change) → labels_stand labels change ≡ true
+      → Leads (calm labels (history ++ (record { session = session; change = change }) ∷ []) published d) u moves more answers
+      → Leads (calm labels history published d) u (appends session change ∷ moves) more ((session, (changes change, says_placed (length history))) ∷ answers)
+  change_then u moves more answers session change known rest =
+      leads_then (calm labels history published d) (calm labels (history ++ (record { session = session; change = change }) ∷ []) published d) u (appends session change) moves more answers
       (rw known refl) (and_from _ true known refl) rest
 
-  pub refresh_then : (u : State) (moves : List Move) (more : Entries Path) (answers : Entries (Command × Reply)) (session : ℕ)
+  pub refresh_then : (u : State) (moves : List Move) (more : Entries Path) (answers : Entries (Effect × Report)) (session : ℕ)
       → Leads (calm labels history (published ++ (length history, length labels) ∷ []) d) u moves more answers
-      → Leads (calm labels history published d) u (refreshes session ∷ moves) more ((session, (refresh, numbered (length history))) ∷ answers)
+      → Leads (calm labels history published d) u (refreshes session ∷ moves) more ((session, (publishes, says_number (length history))) ∷ answers)
   refresh_then u moves more answers session rest =
       let e : eqb session session ≡ true = eq-eqb session session refl in
       let start = calm labels history published d in
@@ -104,9 +102,9 @@ module _ (labels : List Path) (history : List Operation) (published : List (ℕ 
       (ap (λ (c : State). step c (publish session)) second ∙ third)
       (and_from _ _ may (and_from _ true (ap (λ (c : State). is_possible c (publish session)) second ∙ may_publish) refl)) rest
 
-  pub commit_then : (u : State) (moves : List Move) (more : Entries Path) (answers : Entries (Command × Reply)) (session : ℕ)
+  pub commit_then : (u : State) (moves : List Move) (more : Entries Path) (answers : Entries (Effect × Report)) (session : ℕ)
       → Leads (calm labels history published committed) u moves more answers
-      → Leads (calm labels history published d) u (commits session ∷ moves) more ((session, (commit, numbered (length history))) ∷ answers)
+      → Leads (calm labels history published d) u (commits session ∷ moves) more ((session, (persists, says_number (length history))) ∷ answers)
   commit_then u moves more answers session rest =
       leads_then (calm labels history published d) (calm labels history published committed) u (commits session) moves more answers
       refl refl rest
@@ -135,7 +133,7 @@ entering [] = []
 entering (e ∷ es) = enters e.0 e.1 ∷ entering es
 
 -- the next labels, before other moves
-pub enter_then : (front : List Path) (next : Entries Path) (rest : List Path) (history : List Operation) (published : List (ℕ × ℕ)) (d : Stored) (u : State) (moves : List Move) (more : Entries Path) (answers : Entries (Command × Reply))
+pub enter_then : (front : List Path) (next : Entries Path) (rest : List Path) (history : List Operation) (published : List (ℕ × ℕ)) (d : Stored) (u : State) (moves : List Move) (more : Entries Path) (answers : Entries (Effect × Report))
     → IsLabelList (front ++ (map (λ (e : ℕ × Path). e.1) next ++ rest)) → 1 ≤ length front
     → Leads (calm (front ++ map (λ (e : ℕ × Path). e.1) next) history published d) u moves more answers
     → Leads (calm front history published d) u (entering next ++ moves) (next ++ more) answers

@@ -2,14 +2,13 @@
 use Rattle.std.proofs.Common.{◌≡◌, ◌⊎◌, inl, inr, ⊎_elim, ℕ, ◌+◌, ◌≤◌, ◌<◌, Bool, true, false, Option, Some, None, sym, ◌∙◌, arith}
 use Rattle.std.specs.Prelude.{◌==◌, ◌&&◌, ◌||◌, nat_lt, nat_le}
 use Rattle.std.proofs.lemmas.Bool.{and_from, and_parts, cases_lt, eq-eqb, eqb-true, false_from_ne_true, le-leb, leb-true, lt-ltb, ltb-true, or_cases, or_left, or_right, true≢false}
-use Rattle.facet_model.specs.Documents.{Doc}
-use Rattle.facet_words.specs.Commands.{Command, add, refresh, commit}
-use Rattle.facet_replies.specs.Replies.{Reply, placed, numbered}
+use Rattle.facet_model.specs.Histories.{Change}
+use Rattle.facet_output.specs.Effects.{Effect, changes, publishes, persists, Report, says_placed, says_number}
 
--- A document was added at a place; a pair of so many operations was published, as the k-th; a commit of so many
+-- A change was placed; a pair of so many operations was published, as the k-th; a commit of so many
 -- operations was acknowledged, by a session that had seen k publications.
 pub data Deed : Type 0 where
-  add_at : ℕ → Doc → Deed
+  change_at : ℕ → Change → Deed
   publish_of : ℕ → ℕ → Deed
   commit_of : ℕ → ℕ → Deed
 
@@ -17,19 +16,19 @@ pub data Deed : Type 0 where
 abbrev pub Act : Type 0
 Act = ℕ × Deed
 
-abbrev pub said : Deed → Command × Reply
-said (add_at at doc) = (add doc, placed at)
-said (publish_of n k) = (refresh, numbered n)
-said (commit_of n k) = (commit, numbered n)
+abbrev pub said : Deed → Effect × Report
+said (change_at at change) = (changes change, says_placed at)
+said (publish_of n k) = (publishes, says_number n)
+said (commit_of n k) = (persists, says_number n)
 
-abbrev pub told : Act → ℕ × (Command × Reply)
+abbrev pub told : Act → ℕ × (Effect × Report)
 told a = (a.0, said a.1)
 
-abbrev pub is_add : Act → Bool
-is_add a = by a.1
+abbrev pub is_change : Act → Bool
+is_change a = by a.1
   where
     by : Deed → Bool
-    by (add_at at doc) = true
+    by (change_at at change) = true
     by (publish_of n k) = false
     by (commit_of n k) = false
 
@@ -37,20 +36,20 @@ abbrev pub is_publish : Act → Bool
 is_publish a = by a.1
   where
     by : Deed → Bool
-    by (add_at at doc) = false
+    by (change_at at change) = false
     by (publish_of n k) = true
     by (commit_of n k) = false
 
 abbrev pub commit_number : Deed → Option ℕ
-commit_number (add_at at doc) = None
+commit_number (change_at at change) = None
 commit_number (publish_of n k) = None
 commit_number (commit_of n k) = Some n
 
 -- ---- the order
 
--- twice the number of operations, and one more while one is added; then the number of publications
+-- twice the number of operations, and one more while a change is placed; then the number of publications
 abbrev pub point : Deed → ℕ × ℕ
-point (add_at at doc) = (at + at + 1, 0)
+point (change_at at change) = (at + at + 1, 0)
 point (publish_of n k) = (n + n, k)
 point (commit_of n k) = (n + n, k)
 

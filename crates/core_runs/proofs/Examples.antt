@@ -1,20 +1,20 @@
 -- Moves of two sessions, replayed by the definitions, and events that are not possible.
-use Rattle.std.proofs.Common.{◌≡◌, Bool, true, false, List, [], ◌∷◌, length, refl}
+use Rattle.std.proofs.Common.{◌≡◌, Bool, true, false, List, [], ◌∷◌, ◌++◌, length, refl}
 use Rattle.std.specs.Prelude.{codes}
 use Rattle.facet_model.specs.Core.{CoreEvent, label, append, take_index, take_labels, publish, begin_commit, device}
 use Rattle.facet_model.proofs.Samples.{author, bob, lisa}
-use Rattle.facet_words.specs.Commands.{add, refresh, commit}
-use Rattle.facet_replies.specs.Replies.{placed, numbered}
+use Rattle.facet_model.specs.Histories.{add, delete, docs, replace}
+use Rattle.facet_output.specs.Effects.{changes, publishes, persists, says_placed, says_number}
 use Rattle.facet_output.specs.Seen.{entered_by}
 use Rattle.facet_output.proofs.Samples.{empty_store}
 use Rattle.core_runs.specs.CoreRuns.{core_after, opened_core}
-use Rattle.core_runs.specs.Moves.{Move, adds, answers_in, commits, enters, events_in, labels_in, refreshes}
+use Rattle.core_runs.specs.Moves.{Move, answers_in, appends, commits, enters, events_in, labels_in, refreshes}
 use Rattle.core_runs.specs.Possible.{are_possible}
 
 -- session 1 adds Bob's book and session 2 adds Lisa's, each refreshes, and session 1 commits in between
 abbrev moves : List Move
-moves = enters 1 (codes "Author" ∷ []) ∷ enters 1 (author (codes "Bob")) ∷ adds 1 bob ∷ refreshes 2 ∷ enters 2 (author (codes "Lisa"))
-    ∷ commits 1 ∷ adds 2 lisa ∷ refreshes 1 ∷ []
+moves = enters 1 (codes "Author" ∷ []) ∷ enters 1 (author (codes "Bob")) ∷ appends 1 (add bob) ∷ refreshes 2 ∷ enters 2 (author (codes "Lisa"))
+    ∷ commits 1 ∷ appends 2 (add lisa) ∷ refreshes 1 ∷ []
 
 all_possible : are_possible (opened_core empty_store) (events_in moves) ≡ true
 all_possible = refl
@@ -28,11 +28,25 @@ acknowledged = refl
 labels_entered : length (labels_in moves) ≡ 3
 labels_entered = refl
 
-of_first : entered_by 1 (answers_in (opened_core empty_store) moves) ≡ (1, (add bob, placed 0)) ∷ (1, (commit, numbered 1)) ∷ (1, (refresh, numbered 2)) ∷ []
+of_first : entered_by 1 (answers_in (opened_core empty_store) moves) ≡ (1, (changes (add bob), says_placed 0)) ∷ (1, (persists, says_number 1)) ∷ (1, (publishes, says_number 2)) ∷ []
 of_first = refl
 
-of_second : entered_by 2 (answers_in (opened_core empty_store) moves) ≡ (2, (refresh, numbered 1)) ∷ (2, (add lisa, placed 1)) ∷ []
+of_second : entered_by 2 (answers_in (opened_core empty_store) moves) ≡ (2, (publishes, says_number 1)) ∷ (2, (changes (add lisa), says_placed 1)) ∷ []
 of_second = refl
+
+-- session 2 deletes Bob's book, and session 1 replaces Lisa's by itself
+abbrev more : List Move
+more = moves ++ appends 2 (delete bob.id) ∷ appends 1 (replace lisa) ∷ []
+
+more_possible : are_possible (opened_core empty_store) (events_in more) ≡ true
+more_possible = refl
+
+left : docs (core_after empty_store more).history ≡ lisa ∷ []
+left = refl
+
+of_second_more : entered_by 2 (answers_in (opened_core empty_store) more)
+    ≡ (2, (publishes, says_number 1)) ∷ (2, (changes (add lisa), says_placed 1)) ∷ (2, (changes (delete bob.id), says_placed 2)) ∷ []
+of_second_more = refl
 
 -- ---- what is not possible
 
@@ -40,7 +54,7 @@ abbrev possible : List CoreEvent → Bool
 possible events = are_possible (opened_core empty_store) events
 
 -- a document before its labels, a label before its parent, and one that is there
-without_labels : possible (append 1 bob ∷ []) ≡ false
+without_labels : possible (append 1 (add bob) ∷ []) ≡ false
 without_labels = refl
 
 without_parent : possible (label 1 (author (codes "Bob")) ∷ []) ≡ false

@@ -3,11 +3,10 @@ use Rattle.std.proofs.Common.{◌≡◌, ⊎_elim, ℕ, suc, ◌+◌, ◌≤◌,
 use Rattle.std.specs.Prelude.{nat_le}
 use Rattle.std.proofs.lemmas.Bool.{and_parts, eq-eqb, leb-true}
 use Rattle.std.proofs.lemmas.List.Elements.{filter-append}
-use Rattle.facet_model.specs.Documents.{Doc}
-use Rattle.facet_model.specs.Histories.{never_falls}
+use Rattle.facet_model.specs.Histories.{Change, never_falls}
 use Rattle.facet_output.specs.Seen.{Entries, entered_by}
 use Rattle.facet_output.proofs.Among.{In}
-use Rattle.core_runs.proofs.Deeds.{Act, Deed, add_at, before, lex_not, point, publish_of}
+use Rattle.core_runs.proofs.Deeds.{Act, Deed, before, change_at, lex_not, point, publish_of}
 use Rattle.core_runs.proofs.Sorting.{Strict}
 
 module _ {A : Type 0} (f : ℕ → A → Deed) where
@@ -48,15 +47,15 @@ module _ {A : Type 0} (f : ℕ → A → Deed) where
 abbrev pub pub_at : ℕ → ℕ × ℕ → Deed
 pub_at k p = publish_of p.0 k
 
-adds_from : (k : ℕ) (xs : Entries Doc) (z : Act) → In z (each_at add_at k xs) → k + k + 1 ≤ (point z.1).0
-adds_from k [] z there = absurd there
-adds_from k (x ∷ xs) z there = ⊎_elim
+changes_from : (k : ℕ) (xs : Entries Change) (z : Act) → In z (each_at change_at k xs) → k + k + 1 ≤ (point z.1).0
+changes_from k [] z there = absurd there
+changes_from k (x ∷ xs) z there = ⊎_elim
     (λ is. let e = ap (λ (a : Act). (point a.1).0) is in omega arith)
-    (λ later. let l = adds_from (k + 1) xs z later in omega arith) there
+    (λ later. let l = changes_from (k + 1) xs z later in omega arith) there
 
-pub adds_strict : (k : ℕ) (xs : Entries Doc) → Strict before (each_at add_at k xs)
-adds_strict k [] = tt
-adds_strict k (x ∷ xs) = ((λ z there. let l = adds_from (k + 1) xs z there in lex_not (point z.1) (k + k + 1, 0) (λ o. ⊎_elim (λ lt. omega arith) (λ e. let f = e.0 in omega arith) o)), adds_strict (k + 1) xs)
+pub changes_strict : (k : ℕ) (xs : Entries Change) → Strict before (each_at change_at k xs)
+changes_strict k [] = tt
+changes_strict k (x ∷ xs) = ((λ z there. let l = changes_from (k + 1) xs z there in lex_not (point z.1) (k + k + 1, 0) (λ o. ⊎_elim (λ lt. omega arith) (λ e. let f = e.0 in omega arith) o)), changes_strict (k + 1) xs)
 
 pubs_from : (n k : ℕ) (xs : Entries (ℕ × ℕ)) → never_falls (n ∷ map (λ p. p.0) (map (λ (e : ℕ × (ℕ × ℕ)). e.1) xs)) ≡ true → (z : Act) → In z (each_at pub_at k xs) → (n + n ≤ (point z.1).0) × (k ≤ (point z.1).1)
 pubs_from n k [] rise z there = absurd there

@@ -37,7 +37,7 @@ no_device s done (Some c) e = absurd cc
 
 pub changes_nothing : (s : State) (event : CoreEvent) → is_possible s event ≡ false → step s event ≡ s
 changes_nothing s (label session path) e = rw e refl
-changes_nothing s (append session doc) e = rw e refl
+changes_nothing s (append session change) e = rw e refl
 changes_nothing s (take_index session) e = no_index s session s.refresh e
 changes_nothing s (take_labels session) e = no_labels s session s.refresh e
 changes_nothing s (publish session) e = no_publication s session s.refresh e

@@ -5,9 +5,8 @@ use Rattle.std.specs.List.{cons_option}
 use Rattle.std.proofs.lemmas.Bool.{cases_lt, le-ltb, lt-ltb}
 use Rattle.facet_model.specs.Core.{State}
 use Rattle.facet_core.specs.Laws.{ran as ran_core}
-use Rattle.facet_words.specs.Commands.{Command}
-use Rattle.facet_replies.specs.Replies.{Reply}
 use Rattle.facet_output.specs.Answered.{Answered}
+use Rattle.facet_output.specs.Effects.{Effect, Report}
 use Rattle.facet_output.specs.Seen.{Seen, Sees}
 use Rattle.facet_output.specs.Sessions.{PhasesRan, steps_of}
 use Rattle.facet_output.specs.Steps.{Step}
@@ -96,7 +95,7 @@ first_answers n (x ∷ first) later below above =
 -- ---- moves in two parts, by their answers
 
 abbrev Answer : Type 0
-Answer = ℕ × (Command × Reply)
+Answer = ℕ × (Effect × Report)
 
 pub split_moves : (s : State) (moves : List Move) (xs ys : List Answer) → answers_in s moves ≡ xs ++ ys
     → (first : List Move) × (later : List Move) × (moves ≡ first ++ later) × (answers_in s first ≡ xs)

@@ -2,6 +2,7 @@
 use Rattle.std.proofs.Common.{◌≡◌, ◌⊎◌, inl, inr, ⊎_elim, ℕ, ◌+◌, ◌-◌, ◌≤◌, eqb, cond, Bool, true, false, List, [], ◌∷◌, ◌++◌, length, map, take, Option, Some, None, refl, sym, ap, ◌∙◌, subst, arith, append_assoc, length-append, length-take-le}
 use Rattle.std.specs.Prelude.{◌==◌, ◌&&◌, count_by, drop, filter, filter_map, nat_le, nat_lt, option_map, option_to_list, unwrap_or}
 use Rattle.std.specs.List.{cons_option, list_all}
+use Rattle.std.specs.Option.{option_map_or}
 use Rattle.std.proofs.lemmas.Bool.{and_parts, lt-ltb, or_left}
 use Rattle.std.proofs.lemmas.List.{append_cancel_left, length-map, map-append, take-append-drop}
 use Rattle.std.proofs.lemmas.List.Elements.{filter-append, filter_map-append}
@@ -10,7 +11,8 @@ use Rattle.facet_names.specs.Labels.{IsLabelList}
 use Rattle.facet_names.proofs.LabelLists.{front_labels}
 use Rattle.facet_model.specs.Core.{State}
 use Rattle.facet_model.specs.Documents.{Doc}
-use Rattle.facet_model.specs.Histories.{Operation, covers, docs, is_pair, knows, never_falls}
+use Rattle.facet_model.specs.Histories.{Change, Operation, add, brought, covers, doc_of, is_pair, knows, never_falls, opened as opened_history}
+use Rattle.facet_model.proofs.Changes.{weaker_of}
 use Rattle.facet_words.specs.Commands.{Settings, Order}
 use Rattle.facet_output.specs.Answered.{Answered, comes_after, is_of, of_session}
 use Rattle.facet_output.specs.Output.{Opened, IsOutput, opened_operations, opened_pair}
@@ -25,14 +27,14 @@ use Rattle.facet_output.proofs.Known.{after_sees, facts}
 use Rattle.facet_output.proofs.Lifting.{still_knows}
 use Rattle.facet_output.proofs.Placing.{of_own, own_answers}
 use Rattle.chronicle.proofs.Prefixes.{prefix_length}
-use Rattle.core_runs.specs.CoreRuns.{AreMovesOf, IsCoreRun, SessionsAreCoreRuns, answer_of, changes, core_after, opened_core}
+use Rattle.core_runs.specs.CoreRuns.{AreMovesOf, IsCoreRun, SessionsAreCoreRuns, answer_of, core_after, has_move, opened_core}
 use Rattle.core_runs.specs.Moves.{Move, answers_in}
-use Rattle.core_runs.proofs.Acting.{acts_of, acts_rise, bound_more, counted_acts, entered_add, entered_none, entered_publish, gathered, own_acts, part_of, told_acts}
+use Rattle.core_runs.proofs.Acting.{acts_of, acts_rise, bound_more, counted_acts, entered_change, entered_none, entered_publish, gathered, own_acts, part_of, told_acts}
 use Rattle.core_runs.proofs.Alike.{alike}
 use Rattle.core_runs.proofs.Calm.{Leads, Stored, calm, enter_then, entering}
-use Rattle.core_runs.proofs.Deeds.{Act, Lex, add_at, before, before_then, before_total, commit_number, is_add, is_publish, lex_from, lex_then, point, publish_of, told}
-use Rattle.core_runs.proofs.Doing.{Did, Does, act_of, add_of, bound, did, publish_in}
-use Rattle.core_runs.proofs.Gather.{adds_strict, each_append, each_at, pub_at, pubs_strict}
+use Rattle.core_runs.proofs.Deeds.{Act, Lex, before, before_then, before_total, change_at, commit_number, is_change, is_publish, lex_from, lex_then, point, publish_of, told}
+use Rattle.core_runs.proofs.Doing.{Did, Does, act_of, bound, did, placed_of, publish_in}
+use Rattle.core_runs.proofs.Gather.{changes_strict, each_append, each_at, pub_at, pubs_strict}
 use Rattle.core_runs.proofs.Opening.{opened_valid}
 use Rattle.core_runs.proofs.Phases.{Split, first_answers, rises_front, sorted_parts, split_moves, split_phases}
 use Rattle.core_runs.proofs.Sorting.{Rises, counted_sorted, in_sorted, rises_filter, rises_sorted, sorted, sorted_own}
@@ -71,10 +73,10 @@ counted_some n (a ∷ acts) = by (commit_number a.1) (counted_some n acts) ∙ s
     by None rest = rest ∙ (let e : count_by (λ (a : Act). is_number n (commit_number a.1)) acts ≡ 0 + count_by (λ (a : Act). is_number n (commit_number a.1)) acts = omega arith in e)
     by (Some k) rest = sum_by-cons (λ j. cond (j == n) 1 0) k (filter_map (λ (a : Act). commit_number a.1) acts) ∙ ap (λ m. cond (k == n) 1 0 + m) rest
 
-its_act : (k : ℕ) (xs : Entries Doc) (o : ℕ × Doc) → In o xs → (at : ℕ) × In (o.0, add_at at o.1) (each_at add_at k xs)
+its_act : (k : ℕ) (xs : Entries Change) (o : ℕ × Change) → In o xs → (at : ℕ) × In (o.0, change_at at o.1) (each_at change_at k xs)
 its_act k [] o there = absurd there
 its_act k (x ∷ xs) o there = ⊎_elim
-    (λ is. (k, inl (λ i. ((is i).0, add_at k (is i).1))))
+    (λ is. (k, inl (λ i. ((is i).0, change_at k (is i).1))))
     (λ later. let r = its_act (k + 1) xs o later in (r.0, inr r.1)) there
 
 module _ (settings : Settings) (phases : List (List Order)) (opened : Opened) (ran : List (List Step)) (last : Seen) (all : AllRan settings phases opened ran last) where
@@ -115,32 +117,32 @@ module _ (settings : Settings) (phases : List (List Order)) (opened : Opened) (r
 
   -- ---- operations
 
-  abbrev added : Entries Doc
-  added = (opened_seen opened).operations
+  abbrev placed : Entries Change
+  placed = (opened_seen opened).operations
 
-  abbrev more : Entries Doc
+  abbrev more : Entries Change
   more = begins.operations.0
 
-  own_adds : (n : ℕ) → entered_by n (each_at add_at (length added) more) ≡ filter_map add_of (own_steps n steps)
-  own_adds n =
-      let whole : entered_by n (each_at add_at 0 last.operations) ≡ entered_by n (each_at add_at 0 added) ++ filter_map add_of (own_steps n steps) =
-      gathered settings n (λ s. entered_by n (each_at add_at 0 s.operations)) add_of
-      (λ a b told. entered_none add_at n 0 a.operations b.operations (told.sees.operations, told.operations))
-      (λ held x own step. subst (λ (m : ℕ). entered_by n (each_at add_at 0 x.after.operations) ≡ entered_by n (each_at add_at 0 x.before.operations) ++ option_to_list (option_map {U = Act} (λ p. (m, add_at p.0 p.1.doc)) (placed_operation x.answered))) (sym own)
-      (entered_add n (placed_operation x.answered) x.before.operations x.after.operations (subst (λ (m : ℕ). EntersOperation m (placed_operation x.answered) x.before.operations x.after.operations) own step.operations)))
+  own_changes : (n : ℕ) → entered_by n (each_at change_at (length placed) more) ≡ filter_map placed_of (own_steps n steps)
+  own_changes n =
+      let whole : entered_by n (each_at change_at 0 last.operations) ≡ entered_by n (each_at change_at 0 placed) ++ filter_map placed_of (own_steps n steps) =
+      gathered settings n (λ s. entered_by n (each_at change_at 0 s.operations)) placed_of
+      (λ a b told. entered_none change_at n 0 a.operations b.operations (told.sees.operations, told.operations))
+      (λ held x own step. subst (λ (m : ℕ). entered_by n (each_at change_at 0 x.after.operations) ≡ entered_by n (each_at change_at 0 x.before.operations) ++ option_to_list (option_map {U = Act} (λ p. (m, change_at p.0 p.1.change)) (placed_operation x.answered))) (sym own)
+      (entered_change n (placed_operation x.answered) x.before.operations x.after.operations (subst (λ (m : ℕ). EntersOperation m (placed_operation x.answered) x.before.operations x.after.operations) own step.operations)))
       [] (opened_seen opened) (own_steps n steps) last (all.sessions n) (of_own settings phases opened ran last all n) in
-      let split : entered_by n (each_at add_at 0 last.operations) ≡ entered_by n (each_at add_at 0 added) ++ entered_by n (each_at add_at (0 + length added) more) =
-      ap (λ (l : Entries Doc). entered_by n (each_at add_at 0 l)) (sym begins.operations.1) ∙ ap (entered_by n) (each_append add_at 0 added more)
-      ∙ filter-append (λ e. eqb e.0 n) (each_at add_at 0 added) (each_at add_at (0 + length added) more) in
-      ap (λ k. entered_by n (each_at add_at k more)) (let e : length added ≡ 0 + length added = omega arith in e)
-      ∙ append_cancel_left (entered_by n (each_at add_at 0 added)) _ _ (sym split ∙ whole)
+      let split : entered_by n (each_at change_at 0 last.operations) ≡ entered_by n (each_at change_at 0 placed) ++ entered_by n (each_at change_at (0 + length placed) more) =
+      ap (λ (l : Entries Change). entered_by n (each_at change_at 0 l)) (sym begins.operations.1) ∙ ap (entered_by n) (each_append change_at 0 placed more)
+      ∙ filter-append (λ e. eqb e.0 n) (each_at change_at 0 placed) (each_at change_at (0 + length placed) more) in
+      ap (λ k. entered_by n (each_at change_at k more)) (let e : length placed ≡ 0 + length placed = omega arith in e)
+      ∙ append_cancel_left (entered_by n (each_at change_at 0 placed)) _ _ (sym split ∙ whole)
 
-  add_part : (n : ℕ) (x : Step) → In x (own_steps n steps) → ((a : Act) × (act_of x ≡ Some a) × (add_of x ≡ cond (is_add a) (Some a) None)) ⊎ ((act_of x ≡ None) × (add_of x ≡ None))
-  add_part n x there = ⊎_elim (λ d. inl ((x.answered.order.session, d.0), d.1.act, d.1.adds)) (λ i. inr (i.act, i.adds)) (own_did n x there)
+  change_part : (n : ℕ) (x : Step) → In x (own_steps n steps) → ((a : Act) × (act_of x ≡ Some a) × (placed_of x ≡ cond (is_change a) (Some a) None)) ⊎ ((act_of x ≡ None) × (placed_of x ≡ None))
+  change_part n x there = ⊎_elim (λ d. inl ((x.answered.order.session, d.0), d.1.act, d.1.places)) (λ i. inr (i.act, i.places)) (own_did n x there)
 
-  all_adds : filter is_add acts ≡ each_at add_at (length added) more
-  all_adds = alike (λ (a : Act). a.0) before (filter is_add acts) (each_at add_at (length added) more) (rises_filter before is_add acts all_rise) (adds_strict (length added) more)
-      (λ n. own_part is_add add_of n (add_part n) ∙ sym (own_adds n))
+  all_changes : filter is_change acts ≡ each_at change_at (length placed) more
+  all_changes = alike (λ (a : Act). a.0) before (filter is_change acts) (each_at change_at (length placed) more) (rises_filter before is_change acts all_rise) (changes_strict (length placed) more)
+      (λ n. own_part is_change placed_of n (change_part n) ∙ sym (own_changes n))
 
   -- ---- publications
 
@@ -200,11 +202,11 @@ module _ (settings : Settings) (phases : List (List Order)) (opened : Opened) (r
   its_step a there =
       let r = in_filter_map act_of steps a (in_sorted before (acts_of steps) a there) in (r.0, r.1, deed_at r.0 r.1 a r.2)
 
-  low_so : (a : Act) → In a acts → length added + length added ≤ (point a.1).0 + 1
+  low_so : (a : Act) → In a acts → length placed + length placed ≤ (point a.1).0 + 1
   low_so a there =
       let s = its_step a there in
       let f = facts settings phases opened ran last all s.0 s.1 in
-      let le = prefix_length added s.0.before.operations f.0.operations in
+      let le = prefix_length placed s.0.before.operations f.0.operations in
       ⊎_elim (λ lt. omega arith) (λ e. let g = e.0 in omega arith) s.2.low
 
   high_so : (a : Act) → In a acts → (point a.1).0 ≤ length last.operations + length last.operations
@@ -214,12 +216,13 @@ module _ (settings : Settings) (phases : List (List Order)) (opened : Opened) (r
       let le = prefix_length s.0.after.operations last.operations f.1.operations in
       ⊎_elim (λ lt. omega arith) (λ e. let g = e.0 in omega arith) s.2.high
 
-  known_so : (o : ℕ × Doc) → In o more → knows (labels_of last) o.1 ≡ true
+  known_so : (o : ℕ × Change) → In o more → option_map_or (knows (labels_of last)) (doc_of o.1) true ≡ true
   known_so o there =
-      let a = its_act (length added) more o there in
-      let s = its_step (o.0, add_at a.0 o.1) (of_filter is_add acts (o.0, add_at a.0 o.1) (subst (In (o.0, add_at a.0 o.1)) (sym all_adds) a.1)).0 in
+      let a = its_act (length placed) more o there in
+      let s = its_step (o.0, change_at a.0 o.1) (of_filter is_change acts (o.0, change_at a.0 o.1) (subst (In (o.0, change_at a.0 o.1)) (sym all_changes) a.1)).0 in
       let f = facts settings phases opened ran last all s.0 s.1 in
-      still_knows (labels_of s.0.after) (labels_of last) o.1 (labels_begin settings phases opened ran last all s.0.after last f.1) s.2.known
+      weaker_of (knows (labels_of s.0.after)) (knows (labels_of last))
+      (λ (doc : Doc) h. still_knows (labels_of s.0.after) (labels_of last) doc (labels_begin settings phases opened ran last all s.0.after last f.1) h) (doc_of o.1) s.2.known
 
   -- ---- the walk
 
@@ -250,7 +253,7 @@ module _ (settings : Settings) (phases : List (List Order)) (opened : Opened) (r
   limits : (length opened.labels ≤ limit whole last.operations last.pairs later) × (limit whole last.operations last.pairs later ≤ length whole)
   limits = limit_after whole last.operations last.pairs all.label_list pairs_good first_pair [] later begins.pairs.1 all_labels_rise
 
-  left : Left whole last.operations last.pairs (front ++ next) after_next added more (first_pair ∷ []) later 2 acts
+  left : Left whole last.operations last.pairs (front ++ next) after_next placed more (first_pair ∷ []) later 2 acts
   left =
       let l = limits.0 in
       let m = limits.1 in
@@ -266,7 +269,7 @@ module _ (settings : Settings) (phases : List (List Order)) (opened : Opened) (r
         some = omega arith;
         many = (let e : length (front ++ next) ≡ limit whole last.operations last.pairs later = omega arith in e);
         rises = all_rise;
-        adds = all_adds;
+        operations = all_changes;
         publishes = all_publishes;
         low = low_so;
         high = high_so;
@@ -274,8 +277,8 @@ module _ (settings : Settings) (phases : List (List Order)) (opened : Opened) (r
         known = known_so;
       }
 
-  walked : (d : Stored) → Walked whole last.operations last.pairs (front ++ next) after_next added (first_pair ∷ []) d acts
-  walked d = walk whole last.operations last.pairs all.label_list pairs_good acts (front ++ next) after_next added more (first_pair ∷ []) later 2 d left
+  walked : (d : Stored) → Walked whole last.operations last.pairs (front ++ next) after_next placed (first_pair ∷ []) d acts
+  walked d = walk whole last.operations last.pairs all.label_list pairs_good acts (front ++ next) after_next placed more (first_pair ∷ []) later 2 d left
 
   -- ---- the core that was opened
 
@@ -288,14 +291,14 @@ module _ (settings : Settings) (phases : List (List Order)) (opened : Opened) (r
     idx_may = opened_pair opened ∷ [];
   }
 
-  same_docs : (ds : List Doc) → operations_in (map (λ doc. (0, doc)) ds) ≡ map {B = Operation} (λ doc. record { session = 0; doc = doc }) ds
+  same_docs : (ds : List Doc) → operations_in (map (λ doc. (0, add doc)) ds) ≡ opened_history ds
   same_docs [] = refl
-  same_docs (d ∷ ds) = ap (λ (l : List Operation). (record { session = 0; doc = d }) ∷ l) (same_docs ds)
+  same_docs (d ∷ ds) = ap (λ (l : List Operation). (record { session = 0; change = add d }) ∷ l) (same_docs ds)
 
-  start : calm (paths_in front) (operations_in added) (opened_pair opened ∷ []) stored ≡ opened_core opened
+  start : calm (paths_in front) (operations_in placed) (opened_pair opened ∷ []) stored ≡ opened_core opened
   start = λ i. calm (opened_first settings phases opened ran last all i) (same_docs opened.docs i) (opened_pair opened ∷ []) stored
 
-  abbrev w : Walked whole last.operations last.pairs (front ++ next) after_next added (first_pair ∷ []) stored acts
+  abbrev w : Walked whole last.operations last.pairs (front ++ next) after_next placed (first_pair ∷ []) stored acts
   w = walked stored
 
   abbrev moves : List Move
@@ -304,19 +307,19 @@ module _ (settings : Settings) (phases : List (List Order)) (opened : Opened) (r
   abbrev end : State
   end = calm (labels_of last) (history_of last) (pairs_in last.pairs) w.stored
 
-  entered_first : Leads (calm (paths_in front) (operations_in added) (opened_pair opened ∷ []) stored) end moves (next ++ after_next) (map told acts)
+  entered_first : Leads (calm (paths_in front) (operations_in placed) (opened_pair opened ∷ []) stored) end moves (next ++ after_next) (map told acts)
   entered_first =
       let joined : paths_in (front ++ next) ≡ paths_in front ++ paths_in next = map-append (λ (e : ℕ × List (List ℕ)). e.1) front next in
       let parts : labels_of last ≡ paths_in front ++ (paths_in next ++ paths_in after_next) =
       ap paths_in (sym all_parts ∙ ap (λ l. front ++ l) (sym both_parts)) ∙ map-append (λ (e : ℕ × List (List ℕ)). e.1) front (next ++ after_next)
       ∙ ap (λ l. paths_in front ++ l) (map-append (λ (e : ℕ × List (List ℕ)). e.1) next after_next) in
-      enter_then (paths_in front) next (paths_in after_next) (operations_in added) (opened_pair opened ∷ []) stored end w.moves after_next (map told acts)
+      enter_then (paths_in front) next (paths_in after_next) (operations_in placed) (opened_pair opened ∷ []) stored end w.moves after_next (map told acts)
       (subst IsLabelList parts all.label_list) (omega arith)
-      (subst (λ (l : List (List (List ℕ))). Leads (calm l (operations_in added) (opened_pair opened ∷ []) stored) end w.moves after_next (map told acts)) joined w.leads)
+      (subst (λ (l : List (List (List ℕ))). Leads (calm l (operations_in placed) (opened_pair opened ∷ []) stored) end w.moves after_next (map told acts)) joined w.leads)
 
   leads : Leads (opened_core opened) end moves rest (map told acts)
   leads = subst (λ (s : State). Leads s end moves rest (map told acts)) start
-      (subst (λ (l : Entries (List (List ℕ))). Leads (calm (paths_in front) (operations_in added) (opened_pair opened ∷ []) stored) end moves l (map told acts)) both_parts entered_first)
+      (subst (λ (l : Entries (List (List ℕ))). Leads (calm (paths_in front) (operations_in placed) (opened_pair opened ∷ []) stored) end moves l (map told acts)) both_parts entered_first)
 
   -- ---- the law
 
@@ -327,7 +330,7 @@ module _ (settings : Settings) (phases : List (List Order)) (opened : Opened) (r
       let n : length whole ≡ length (labels_of last) = sym (length-map whole (λ (e : ℕ × List (List ℕ)). e.1)) in
       subst IsLabelList output.opened_labels (front_labels (labels_of last) all.label_list (length opened.labels) (omega arith) (omega arith))
 
-  opened_known : list_all (knows opened.labels) (docs (opened_operations opened)) ≡ true
+  opened_known : list_all (knows opened.labels) (brought (opened_operations opened)) ≡ true
   opened_known =
       let pair : is_pair (labels_of last) (history_of last) (opened_pair opened) ≡ true =
       (and_parts (is_pair (labels_of last) (history_of last) (opened_pair opened)) _ (subst (λ (l : Entries (ℕ × ℕ)). list_all (is_pair (labels_of last) (history_of last)) (pairs_in l) ≡ true) (sym begins.pairs.1) pairs_good)).0 in
@@ -335,12 +338,12 @@ module _ (settings : Settings) (phases : List (List Order)) (opened : Opened) (r
       (and_parts (nat_le (length opened.docs) (length (history_of last)) && nat_le (length opened.labels) (length (labels_of last))) _ pair).1 in
       let labels = sym output.opened_labels in
       let operations = sym output.opened_docs in
-      (λ i. list_all (knows (labels i)) (docs (operations i))) ∙ covered
+      (λ i. list_all (knows (labels i)) (brought (operations i))) ∙ covered
 
-  sessions_so : (n : ℕ) → entered_by n (answers_in (opened_core opened) moves) ≡ map answer_of (filter changes (of_session n (answers_of ran)))
+  sessions_so : (n : ℕ) → entered_by n (answers_in (opened_core opened) moves) ≡ map answer_of (filter has_move (of_session n (answers_of ran)))
   sessions_so n =
       ap (entered_by n) leads.answered ∙ filter-map told (λ e. eqb e.0 n) acts ∙ ap (map told) (own_order n) ∙ told_acts (own_steps n steps) (own_did n)
-      ∙ ap (λ l. map answer_of (filter changes l)) (own_answers settings phases opened ran last all n)
+      ∙ ap (λ l. map answer_of (filter has_move l)) (own_answers settings phases opened ran last all n)
 
   -- ---- the first phases
 
@@ -399,8 +402,8 @@ module _ (settings : Settings) (phases : List (List Order)) (opened : Opened) (r
         λ session.
             ap (entered_by session) r.3 ∙ filter-map told (λ e. eqb e.0 session) (sorted before (acts_of (parts n).first)) ∙ ap (map told) (first_order n session)
             ∙ told_acts (own_steps session (parts n).first) (λ x there. each_did x (first_in n x (of_filter (is_by session) (parts n).first x there).0))
-            ∙ ap (λ l. map answer_of (filter changes l)) (sym (filter-map (λ (x : Step). x.answered) (is_of session) (parts n).first))
-            ∙ ap (λ l. map answer_of (filter changes (of_session session l))) (sym answers),
+            ∙ ap (λ l. map answer_of (filter has_move l)) (sym (filter-map (λ (x : Step). x.answered) (is_of session) (parts n).first))
+            ∙ ap (λ l. map answer_of (filter has_move (of_session session l))) (sym answers),
       )
 
   acknowledged_so : (n : ℕ) → count_by (λ (p : ℕ × ℕ). p.0 == n) (drop 1 (core_after opened moves).acknowledged) ≡ count_by (λ a. is_number n (durable a)) (answers_of ran)

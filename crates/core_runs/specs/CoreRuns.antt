@@ -4,9 +4,9 @@ use Rattle.std.specs.Prelude.{count_by, nat_lt, IsTrue, None, is_none}
 use Rattle.facet_model.specs.Core.{State}
 use Rattle.facet_model.specs.CoreStates.{Valid}
 use Rattle.facet_core.specs.Laws.{ran}
-use Rattle.facet_words.specs.Commands.{Settings, Command, Order}
-use Rattle.facet_replies.specs.Replies.{Reply}
+use Rattle.facet_words.specs.Commands.{Settings, Order}
 use Rattle.facet_output.specs.Answered.{Answered, of_session}
+use Rattle.facet_output.specs.Effects.{Effect, effect, Report, report}
 use Rattle.facet_output.specs.Output.{Opened, opened_operations, opened_pair, pairs_of}
 use Rattle.facet_output.specs.Reported.{placed_operation, refreshed, durable, is_number}
 use Rattle.facet_output.specs.Seen.{Seen, labels_of, history_of, opened_seen, entered_by}
@@ -36,18 +36,19 @@ opened_core opened = record {
 abbrev pub core_after : Opened → List Move → State
 core_after opened moves = ran (opened_core opened) (events_in moves)
 
--- an add that was placed, a refresh that published, a commit that was acknowledged
-abbrev pub changes : Answered → Bool
-changes a = not (is_none (placed_operation a)) || not (is_none (refreshed a)) || not (is_none (durable a))
+-- a change that was placed, a refresh that published, a commit that was acknowledged
+abbrev pub has_move : Answered → Bool
+has_move a = not (is_none (placed_operation a)) || not (is_none (refreshed a)) || not (is_none (durable a))
 
--- its session, with its command and its reply
-abbrev pub answer_of : Answered → ℕ × (Command × Reply)
-answer_of a = (a.order.session, (a.order.command, a.reply))
+-- its session, with the effect of its command and what its reply reports
+abbrev pub answer_of : Answered → ℕ × (Effect × Report)
+answer_of a = (a.order.session, (effect a.order.command, report a.reply))
 
--- the moves of the session are those of its commands that changed something, in their order, each with its reply
+-- The moves of the session are those of its commands that changed something, in their order. Each has the effect of its
+-- command, and gives what the reply reports.
 abbrev pub AreMovesOf : Opened → List Answered → ℕ → List Move → Type 0
 AreMovesOf opened answered session moves = entered_by session (answers_in (opened_core opened) moves)
-    ≡ map answer_of (filter changes (of_session session answered))
+    ≡ map answer_of (filter has_move (of_session session answered))
 
 -- These moves, from what was opened, are what the commands with these replies did in the core, and this is the state
 -- at the end.

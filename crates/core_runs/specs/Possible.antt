@@ -1,16 +1,16 @@
 -- Where an event of the core is possible.
 use Rattle.std.specs.Prelude.{◌≡◌, ◌==◌, ◌*◌, ◌&&◌, nat_lt, not, Bool, true, false, List, [], ◌∷◌, length, is_none}
-use Rattle.std.specs.List.{list_all}
 use Rattle.std.specs.Option.{option_map_or}
 use Rattle.facet_names.specs.Labels.{stands, above}
 use Rattle.facet_model.specs.Core.{State, CoreEvent, label, append, take_index, take_labels, publish, drop_refresh}
 use Rattle.facet_model.specs.Core.{begin_commit, drop_commit, device, crash, step}
+use Rattle.facet_model.specs.Histories.{labels_stand}
 
 -- The condition that the definition of the core gives for each event. Where it does not hold, the event changes
 -- nothing.
 abbrev pub is_possible : State → CoreEvent → Bool
 is_possible s (label session path) = not (stands s.labels path) && stands s.labels (above path)
-is_possible s (append session doc) = list_all (stands s.labels) doc.labels
+is_possible s (append session change) = labels_stand s.labels change
 is_possible s (take_index session) = is_none s.refresh
 is_possible s (take_labels session) = option_map_or (λ r. r.session == session && is_none r.labels) s.refresh false
 is_possible s (publish session) = option_map_or (λ r. r.session == session && not (is_none r.labels)) s.refresh false

@@ -11,7 +11,7 @@ use Rattle.facet_core.proofs.KeptCrash.{keeps_crash}
 
 pub keeps_step : (s : State) (e : CoreEvent) → Valid s → Valid (step s e)
 keeps_step s (label session path) v = keeps_label s path v
-keeps_step s (append session doc) v = keeps_append s session doc v
+keeps_step s (append session change) v = keeps_append s session change v
 keeps_step s (take_index session) v = keeps_take_index s session s.refresh v
 keeps_step s (take_labels session) v = keeps_take_labels s session s.refresh refl v
 keeps_step s (publish session) v = keeps_publish s session s.refresh refl v

@@ -7,7 +7,8 @@ use Rattle.std.proofs.lemmas.Bool.{and_parts, and_from, le-leb}
 use Rattle.std.proofs.lemmas.List.Folds.{list_all-map, list_all-append}
 use Rattle.facet_names.specs.Labels.{stands}
 use Rattle.facet_model.proofs.Fronts.{weaker, knows_its_labels}
-use Rattle.facet_model.specs.Histories.{Operation, docs, knows, covers, never_falls, is_pair, are_publications}
+use Rattle.facet_model.specs.Histories.{Operation, doc_of, labels_stand, brought, knows, covers, never_falls, is_pair, are_publications}
+use Rattle.facet_model.proofs.Changes.{weaker_of, all_brought}
 use Rattle.facet_model.specs.Core.{State, Refresh, Commit, with_index, with_labels_taken, publish_pair, with_publication, without_refresh, with_commit, without_commit}
 use Rattle.facet_model.specs.CoreStates.{Valid, is_at_least, operations_of, labels_of, are_labels_taken, is_good_refresh, is_good_index}
 use Rattle.facet_model.proofs.Histories.{never_falls_push}
@@ -40,15 +41,16 @@ indexes_below s v = list_all-map (λ k. nat_le k (length s.history)) (λ (p : �
     ∙ weaker (is_good_index s) (λ p. nat_le p.0 (length s.history)) (λ p h. (and_parts (nat_le p.0 (length s.history)) (covers s.labels p.1 s.history p.0) (and_parts (nat_le p.0 (length s.history) && covers s.labels p.1 s.history p.0) _ h).0).0) s.idx_may v.idx_may
 
 -- the labels of the history have all their prefixes in the list
-pub all_known : (s : State) → Valid s → list_all (λ o. knows s.labels o.doc) s.history ≡ true
-all_known s v = weaker (λ o. list_all (stands s.labels) o.doc.labels) (λ o. knows s.labels o.doc) (λ (o : Operation) each. knows_its_labels s.labels v.labels o.doc each) s.history v.known
+pub all_known : (s : State) → Valid s → list_all (λ o. option_map_or (knows s.labels) (doc_of o.change) true) s.history ≡ true
+all_known s v = weaker (λ o. labels_stand s.labels o.change) (λ o. option_map_or (knows s.labels) (doc_of o.change) true)
+    (λ (o : Operation) each. weaker_of (λ doc. list_all (stands s.labels) doc.labels) (knows s.labels) (λ doc h. knows_its_labels s.labels v.labels doc h) (doc_of o.change) each) s.history v.known
 
 -- all labels cover whatever was taken
 pub all_cover : (s : State) (n : ℕ) → Valid s → covers s.labels (length s.labels) s.history n ≡ true
 all_cover s n v =
-    ap (λ labels. list_all (knows labels) (docs (take n s.history))) (take_all (length s.labels) s.labels (omega arith))
-    ∙ list_all-map (knows s.labels) (λ (o : Operation). o.doc) (take n s.history)
-    ∙ all_taken (λ o. knows s.labels o.doc) n s.history (all_known s v)
+    ap (λ labels. list_all (knows labels) (brought (take n s.history))) (take_all (length s.labels) s.labels (omega arith))
+    ∙ all_brought (knows s.labels) (take n s.history)
+    ∙ all_taken (λ o. option_map_or (knows s.labels) (doc_of o.change) true) n s.history (all_known s v)
 
 -- ---- the events
 

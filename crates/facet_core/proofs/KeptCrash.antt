@@ -5,10 +5,10 @@ use Rattle.std.specs.Prelude.{◌==◌, ◌&&◌, ◌||◌, not, nat_lt, nat_le,
 use Rattle.std.specs.List.{list_all, enumerate_from}
 use Rattle.std.proofs.lemmas.Bool.{and_parts, and_from, le-leb, leb-true, ltb-true, lt-ltb, eq-eqb}
 use Rattle.std.proofs.lemmas.List.Sums.{AllPass-from_list_all}
-use Rattle.std.proofs.lemmas.List.Folds.{list_all-map}
 use Rattle.facet_names.specs.Labels.{above, stands, is_in_place, IsLabelList, prefixes}
 use Rattle.facet_model.specs.Documents.{Doc}
-use Rattle.facet_model.specs.Histories.{Operation, docs, knows, covers}
+use Rattle.facet_model.specs.Histories.{brought, knows, covers}
+use Rattle.facet_model.proofs.Changes.{all_brought}
 use Rattle.facet_model.specs.Core.{State, after_crash, with_crash}
 use Rattle.facet_model.specs.CoreStates.{Valid, is_good_index, is_kept}
 use Rattle.facet_model.proofs.Fronts.{weaker, take_less, among_more, own_stands}
@@ -42,22 +42,22 @@ module _ (s : State) (a : ℕ) (i : ℕ × ℕ) (v : Valid s) (least : 1 ≤ a) 
   knows_more doc h = weaker (λ label. list_all (stands (take i.1 s.labels)) (prefixes label)) (λ label. list_all (stands (take a s.labels)) (prefixes label))
       (λ label each. weaker (stands (take i.1 s.labels)) (stands (take a s.labels)) (λ p some. among_more i.1 (take a s.labels) p (ap (λ ls. stands ls p) same_front ∙ some)) (prefixes label) each) doc.labels h
 
-  kept_known : list_all (knows (take a s.labels)) (docs (take i.0 s.history)) ≡ true
-  kept_known = weaker (knows (take i.1 s.labels)) (knows (take a s.labels)) knows_more (docs (take i.0 s.history)) covered
+  kept_known : list_all (knows (take a s.labels)) (brought (take i.0 s.history)) ≡ true
+  kept_known = weaker (knows (take i.1 s.labels)) (knows (take a s.labels)) knows_more (brought (take i.0 s.history)) covered
 
   kept_list : IsLabelList (take a s.labels)
   kept_list = and_from _ _ (lt-ltb 0 (length (take a s.labels)) (omega (arith, all_labels, least)))
       (front_in_place s.labels a a 0 s.labels (omega arith) (and_parts (nat_lt 0 (length s.labels)) _ v.labels).1)
 
-  kept_stand : list_all (λ doc. list_all (stands (take a s.labels)) doc.labels) (docs (take i.0 s.history)) ≡ true
+  kept_stand : list_all (λ doc. list_all (stands (take a s.labels)) doc.labels) (brought (take i.0 s.history)) ≡ true
   kept_stand = weaker (knows (take a s.labels)) (λ doc. list_all (stands (take a s.labels)) doc.labels)
-      (λ (doc : Doc) h. weaker (λ label. list_all (stands (take a s.labels)) (prefixes label)) (stands (take a s.labels)) (own_stands (take a s.labels) kept_list) doc.labels h) (docs (take i.0 s.history)) kept_known
+      (λ (doc : Doc) h. weaker (λ label. list_all (stands (take a s.labels)) (prefixes label)) (stands (take a s.labels)) (own_stands (take a s.labels) kept_list) doc.labels h) (brought (take i.0 s.history)) kept_known
 
   pair_covers : covers (take a s.labels) a (take i.0 s.history) i.0 ≡ true
-  pair_covers = (λ j. list_all (knows (take_less a a s.labels (omega arith) j)) (docs (take_less i.0 i.0 s.history (omega arith) j))) ∙ kept_known
+  pair_covers = (λ j. list_all (knows (take_less a a s.labels (omega arith) j)) (brought (take_less i.0 i.0 s.history (omega arith) j))) ∙ kept_known
 
   index_covers : covers (take a s.labels) i.1 (take i.0 s.history) i.0 ≡ true
-  index_covers = (λ j. list_all (knows (same_front j)) (docs (take_less i.0 i.0 s.history (omega arith) j))) ∙ covered
+  index_covers = (λ j. list_all (knows (same_front j)) (brought (take_less i.0 i.0 s.history (omega arith) j))) ∙ covered
 
   enough_labels : nat_le a (length (take a s.labels)) ≡ true
   enough_labels = le-leb a (length (take a s.labels)) (omega (arith, all_labels))
@@ -68,7 +68,7 @@ module _ (s : State) (a : ℕ) (i : ℕ × ℕ) (v : Valid s) (least : 1 ≤ a) 
   crash_valid : list_all (is_kept (after_crash s a i)) s.acknowledged ≡ true → Valid (after_crash s a i)
   crash_valid kept = record {
     labels = kept_list;
-    known = sym (list_all-map (λ doc. list_all (stands (take a s.labels)) doc.labels) (λ (o : Operation). o.doc) (take i.0 s.history)) ∙ kept_stand;
+    known = sym (all_brought (λ doc. list_all (stands (take a s.labels)) doc.labels) (take i.0 s.history)) ∙ kept_stand;
     published = and_from _ true (and_from _ _ (and_from _ _ enough_operations enough_labels) pair_covers) refl;
     refresh = refl;
     commit = refl;

@@ -9,7 +9,8 @@ use Rattle.std.proofs.Math.ListN.{length-append}
 use Rattle.facet_names.specs.Paths.{path_eq}
 use Rattle.facet_names.specs.Labels.{above, stands, is_in_place, IsLabelList, prefixes}
 use Rattle.facet_model.specs.Documents.{Doc}
-use Rattle.facet_model.specs.Histories.{Operation, docs, knows, covers, never_falls, is_pair}
+use Rattle.facet_model.specs.Histories.{Operation, doc_of, labels_stand, brought, knows, covers, never_falls, is_pair}
+use Rattle.facet_model.proofs.Changes.{weaker_of}
 use Rattle.facet_model.specs.Core.{State, Refresh, Commit, with_label}
 use Rattle.facet_model.specs.CoreStates.{Valid, is_at_least, operations_of, labels_of, are_labels_taken, is_good_refresh, is_good_commit, is_good_index}
 use Rattle.facet_model.proofs.Fronts.{weaker}
@@ -66,8 +67,8 @@ still_le more labels m h = le-leb m (length (labels ++ more)) (let le : m ≤ le
 
 still_covers : (more : List (List (List ℕ))) (labels : List (List (List ℕ))) (m : ℕ) (history : List Operation) (n : ℕ) → covers labels m history n ≡ true → covers (labels ++ more) m history n ≡ true
 still_covers more labels m history n h =
-    ap (λ front. list_all (knows front) (docs (take n history))) (take_both m labels more)
-    ∙ weaker (knows (take m labels)) (knows (take m labels ++ take (m - length labels) more)) (still_knows (take (m - length labels) more) (take m labels)) (docs (take n history)) h
+    ap (λ front. list_all (knows front) (brought (take n history))) (take_both m labels more)
+    ∙ weaker (knows (take m labels)) (knows (take m labels ++ take (m - length labels) more)) (still_knows (take (m - length labels) more) (take m labels)) (brought (take n history)) h
 
 module _ (s : State) (path : List (List ℕ)) where
   abbrev more : List (List (List ℕ))
@@ -112,7 +113,8 @@ module _ (s : State) (path : List (List ℕ)) where
       let pairs = and_parts (never_falls (operations_of s.published) && never_falls (labels_of s.published)) (list_all (is_pair s.labels s.history) s.published) v.published in
       record {
         labels = longer_list s.labels path v.labels new parent;
-        known = weaker (λ o. list_all (stands s.labels) o.doc.labels) (λ o. list_all (stands (s.labels ++ path ∷ [])) o.doc.labels) (λ (o : Operation) h. weaker (stands s.labels) (stands (s.labels ++ path ∷ [])) (still_stands (path ∷ []) s.labels) o.doc.labels h) s.history v.known;
+        known = weaker (λ o. labels_stand s.labels o.change) (λ o. labels_stand (s.labels ++ path ∷ []) o.change) (λ (o : Operation) h. weaker_of (λ doc. list_all (stands s.labels) doc.labels) (λ doc. list_all (stands (s.labels ++ path ∷ [])) doc.labels)
+            (λ doc h. weaker (stands s.labels) (stands (s.labels ++ path ∷ [])) (still_stands (path ∷ []) s.labels) doc.labels h) (doc_of o.change) h) s.history v.known;
         published = and_from _ _ pairs.0 (weaker (is_pair s.labels s.history) (is_pair (s.labels ++ path ∷ []) s.history) still_pair s.published pairs.1);
         refresh = still_refresh s.refresh v.refresh;
         commit = still_commit s.commit v.commit;

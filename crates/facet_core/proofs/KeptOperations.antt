@@ -6,9 +6,7 @@ use Rattle.std.specs.Option.{option_map_or}
 use Rattle.std.proofs.lemmas.Bool.{and_parts, and_from, le-leb, leb-true}
 use Rattle.std.proofs.lemmas.List.Folds.{list_all-append}
 use Rattle.std.proofs.Math.ListN.{length-append}
-use Rattle.facet_names.specs.Labels.{stands}
-use Rattle.facet_model.specs.Documents.{Doc}
-use Rattle.facet_model.specs.Histories.{Operation, docs, knows, covers, never_falls, is_pair}
+use Rattle.facet_model.specs.Histories.{Change, Operation, labels_stand, brought, knows, covers, never_falls, is_pair}
 use Rattle.facet_model.specs.Core.{State, Refresh, Commit, with_operation}
 use Rattle.facet_model.specs.CoreStates.{Valid, is_at_least, operations_of, labels_of, are_labels_taken, is_good_refresh, is_good_commit, is_good_index}
 use Rattle.facet_model.proofs.Fronts.{weaker}
@@ -20,7 +18,7 @@ still_le : (more history : List Operation) (n : ℕ) → nat_le n (length histor
 still_le more history n h = le-leb n (length (history ++ more)) (let le : n ≤ length history = leb-true n (length history) h in omega (arith, le, length-append history more))
 
 still_covers : (more : List Operation) (labels : List (List (List ℕ))) (m : ℕ) (history : List Operation) (n : ℕ) → nat_le n (length history) ≡ true → covers labels m history n ≡ true → covers labels m (history ++ more) n ≡ true
-still_covers more labels m history n le h = ap (λ front. list_all (knows (take m labels)) (docs front)) (take-append-le n history more (leb-true n (length history) le)) ∙ h
+still_covers more labels m history n le h = ap (λ front. list_all (knows (take m labels)) (brought front)) (take-append-le n history more (leb-true n (length history) le)) ∙ h
 
 module _ (s : State) (o : Operation) where
   abbrev longer : State
@@ -59,12 +57,12 @@ module _ (s : State) (o : Operation) where
       let parts = and_parts (nat_le i.0 (length s.history)) (covers s.labels i.1 s.history i.0) both.0 in
       and_from _ _ (and_from _ _ (still_le (o ∷ []) s.history i.0 parts.0) (still_covers (o ∷ []) s.labels i.1 s.history i.0 parts.0 parts.1)) both.1
 
-  longer_valid : Valid s → list_all (stands s.labels) o.doc.labels ≡ true → Valid longer
+  longer_valid : Valid s → labels_stand s.labels o.change ≡ true → Valid longer
   longer_valid v known =
       let pairs = and_parts (never_falls (operations_of s.published) && never_falls (labels_of s.published)) (list_all (is_pair s.labels s.history) s.published) v.published in
       record {
         labels = v.labels;
-        known = list_all-append (λ (o : Operation). list_all (stands s.labels) o.doc.labels) s.history (o ∷ []) ∙ and_from _ _ v.known (and_from _ true known refl);
+        known = list_all-append (λ (o : Operation). labels_stand s.labels o.change) s.history (o ∷ []) ∙ and_from _ _ v.known (and_from _ true known refl);
         published = and_from _ _ pairs.0 (weaker (is_pair s.labels s.history) (is_pair s.labels (s.history ++ o ∷ [])) still_pair s.published pairs.1);
         refresh = still_refresh s.refresh v.refresh;
         commit = still_commit s.commit v.commit;
@@ -77,9 +75,9 @@ module _ (s : State) (o : Operation) where
         idx_read = v.idx_read;
       }
 
-pub keeps_append : (s : State) (session : ℕ) (doc : Doc) → Valid s → Valid (with_operation s session doc)
-keeps_append s session doc v = by (list_all (stands s.labels) doc.labels) refl
+pub keeps_append : (s : State) (session : ℕ) (change : Change) → Valid s → Valid (with_operation s session change)
+keeps_append s session change v = by (labels_stand s.labels change) refl
   where
-    by : (b : Bool) → list_all (stands s.labels) doc.labels ≡ b → Valid (with_operation s session doc)
-    by true e = rw e (longer_valid s (record { session = session; doc = doc }) v e)
+    by : (b : Bool) → labels_stand s.labels change ≡ b → Valid (with_operation s session change)
+    by true e = rw e (longer_valid s (record { session = session; change = change }) v e)
     by false e = rw e v

@@ -8,6 +8,7 @@ use Rattle.std.proofs.lemmas.List.Sums.{AllPass-from_list_all}
 use Rattle.facet_names.specs.Labels.{stands, prefixes}
 use Rattle.facet_model.specs.Documents.{Doc}
 use Rattle.facet_model.specs.Histories.{docs, knows, covers, never_falls, is_pair}
+use Rattle.facet_model.proofs.Changes.{all_docs}
 use Rattle.facet_model.specs.Core.{State, crash, step, with_crash, after_crash}
 use Rattle.facet_model.specs.CoreStates.{Valid, is_kept, is_good_index, operations_of, labels_of}
 use Rattle.facet_core.specs.Laws.{ran, Keeps, CrashesKeepAcknowledged, NamesItsLabels, PublishedLabelsStand, PublicationsNeverFall}
@@ -65,7 +66,7 @@ names_its_labels s p h =
     let of_doc = λ (doc : Doc). all_from (λ label. list_all (stands among) (prefixes label)) (λ label. All (λ path. IsTrue (stands among path)) (prefixes label)) of_label doc.labels in (
       leb-true p.0 (length s.history) bounds.0,
       leb-true p.1 (length s.labels) bounds.1,
-      all_from (knows among) (λ doc. All (λ label. All (λ path. IsTrue (stands among path)) (prefixes label)) doc.labels) of_doc (docs (take p.0 s.history)) parts.1,
+      all_from (knows among) (λ doc. All (λ label. All (λ path. IsTrue (stands among path)) (prefixes label)) doc.labels) of_doc (docs (take p.0 s.history)) (all_docs (knows among) (take p.0 s.history) parts.1),
     )
 
 pub published_stand : PublishedLabelsStand

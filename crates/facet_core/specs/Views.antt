@@ -3,6 +3,7 @@ use Rattle.std.specs.Prelude.{ℕ, ◌*◌, ◌/◌, ◌%◌, nat_lt, if◌then�
 use Rattle.std.specs.Prelude.{Some, None}
 use Rattle.facet_model.specs.Core as plain
 use Rattle.facet_model.specs.Histories as histories
+use Rattle.facet_model.specs.ChangeViews.{change_view}
 use Rattle.facet_core.specs.declared.event.Event.{Event}
 use Rattle.facet_core.specs.declared.event.Event.TheVariants.{Label, Append, TakeIndex, TakeLabels, Publish}
 use Rattle.facet_core.specs.declared.event.Event.TheVariants.{DropRefresh, BeginCommit, DropCommit, Device, Crash}
@@ -13,7 +14,7 @@ use Rattle.facet_core.specs.declared.parts.Commit.{Commit}
 
 abbrev pub event_view : Event → plain.CoreEvent
 event_view (Label session path) = plain.label session path
-event_view (Append session doc) = plain.append session doc
+event_view (Append session change) = plain.append session (change_view change)
 event_view (TakeIndex session) = plain.take_index session
 event_view (TakeLabels session) = plain.take_labels session
 event_view (Publish session) = plain.publish session
@@ -27,7 +28,7 @@ abbrev pub pair : Publication → ℕ × ℕ
 pair p = (p.operations, p.labels)
 
 abbrev pub operation_view : Operation → histories.Operation
-operation_view o = record { session = o.session; doc = o.doc }
+operation_view o = record { session = o.session; change = change_view o.change }
 
 abbrev pub refresh_view : Refresh → plain.Refresh
 refresh_view r = record { session = r.session; operations = r.operations; labels = r.labels }

@@ -1,4 +1,4 @@
-use facet_model::Document;
+use facet_model::Change;
 use facet_names::Path;
 
 /// What can happen to the core. Sessions are identified by their numbers. An event that is not possible changes
@@ -7,8 +7,8 @@ use facet_names::Path;
 pub enum Event {
     /// A session adds a path to the label list. Possible if the list does not have it and has its parent.
     Label { session: u32, path: Path },
-    /// A session adds a document. Possible if all its labels are in the list.
-    Append { session: u32, doc: Document },
+    /// A session makes a change. Possible if all labels of the change's document, where it has one, are in the list.
+    Append { session: u32, change: Change },
     /// A session begins a refresh and takes the number of operations. Possible if no refresh is in progress.
     TakeIndex { session: u32 },
     /// The refresh of a session takes the number of labels. Possible once, after it took the operations.

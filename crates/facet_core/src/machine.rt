@@ -2,6 +2,8 @@ ghost use Rattle.std.specs.Prelude.{◌≡◌, ◌<◌, ◌≤◌, [], ◌∷◌
 ghost use Rattle.std.specs.List.{list_all};
 ghost use Rattle.facet_names.specs.Labels.{stands, above};
 ghost use Rattle.facet_core.specs.Views.{pair, commit_view, kept_by};
+ghost use Rattle.facet_model.specs.ChangeViews.{change_view};
+ghost use Rattle.facet_model.specs.Histories.{labels_stand};
 ghost use Rattle.facet_model.specs.Core.{empty_core, with_label, with_operation, with_index, with_labels_taken};
 ghost use Rattle.facet_model.specs.Core.{with_publication, without_refresh, with_commit, without_commit};
 ghost use Rattle.facet_model.specs.Core.{labels_of_commit, with_device, device_done, device_failed, with_crash};
@@ -12,7 +14,7 @@ use crate::parts::{
     Commit, Operation, Publication, RENAME_LABELS, RENAME_OPERATIONS, Refresh, SYNC_LABELS,
     SYNC_OPERATIONS,
 };
-use facet_model::Document;
+use facet_model::Change;
 use facet_names::{NoMemory, Path};
 use std::alloc::Global;
 use std::marker::Model;
@@ -171,18 +173,28 @@ impl Core {
         Ok(())
     }
 
+    // Each label of the change's document, if it has one, is there.
+    fn stands_for(&self, change: &Change) -> bool
+        ensures { result ≡ labels_stand self.now.labels (change_view change.now) }
+    {
+        match change.document() {
+            Some(doc) => self.stand(doc.facets()),
+            None => true,
+        }
+    }
+
     pub(crate) fn add_operation(
         &mut self,
         alloc: Global,
         session: u32,
-        doc: &Document,
+        change: &Change,
     ) -> Result<(), NoMemory>
-        ensures ok { OnOk result (self.new ≡ with_operation self.old session doc.now) }
+        ensures ok { OnOk result (self.new ≡ with_operation self.old session (change_view change.now)) }
         ensures err { OnErr result (self.new ≡ self.old) }
     {
-        if self.stand(doc.facets()) {
-            let doc = doc.dup(alloc)?;
-            self.history.push(Operation { session, doc })?;
+        if self.stands_for(change) {
+            let change = change.dup(alloc)?;
+            self.history.push(Operation { session, change })?;
         }
         Ok(())
     }

@@ -1,4 +1,4 @@
-use facet_model::Document;
+use facet_model::Change;
 
 /// A number of operations, and the number of labels that covers them.
 #[derive(Clone, Copy, Debug, PartialEq, Eq)]
@@ -12,7 +12,7 @@ pub struct Publication {
 #[derive(Debug, Drop)]
 pub(crate) struct Operation {
     pub(crate) session: u32,
-    pub(crate) doc: Document,
+    pub(crate) change: Change,
 }
 
 #[derive(Clone, Copy, Debug)]

@@ -15,7 +15,7 @@ fn apply(alloc: Global, core: &mut Core, event: &Event) -> Result<(), NoMemory>
 {
     match event {
         Event::Label { path, .. } => core.add_label(alloc, path),
-        Event::Append { session, doc } => core.add_operation(alloc, *session, doc),
+        Event::Append { session, change } => core.add_operation(alloc, *session, change),
         Event::TakeIndex { session } => {
             core.take_index(*session);
             Ok(())

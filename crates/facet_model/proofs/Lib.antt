@@ -6,5 +6,6 @@ pub mod ConfigTexts
 pub mod Drills
 pub mod Each
 pub mod Histories
+pub mod Changes
 pub mod WordOrder
 pub mod Samples

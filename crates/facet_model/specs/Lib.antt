@@ -9,6 +9,7 @@ pub mod Laws
 pub mod Asks
 pub mod ResultViews
 pub mod AskViews
+pub mod ChangeViews
 pub mod Shapes
 pub mod Histories
 pub mod Core

@@ -3,6 +3,7 @@
 #![tactic(auto)]
 
 mod ask;
+mod change;
 mod counted;
 mod document;
 mod drill;
@@ -14,6 +15,7 @@ mod word;
 mod word_list;
 
 pub use ask::Ask;
+pub use change::Change;
 pub use counted::{Counted, Resolved};
 pub use document::{DocShape, Document, dup_paths};
 pub use drill::{Drill, path_term};

@@ -1,5 +1,6 @@
 use crate::making::{document, path};
 use facet_core::{Core, Event, Publication, run, step};
+use facet_model::Change;
 use std::alloc::Global;
 use std::test::Fail;
 
@@ -10,7 +11,10 @@ fn label(alloc: Global, text: &str) -> Result<Event, Fail> {
 
 fn append(alloc: Global, id: &str, text: &str) -> Result<Event, Fail> {
     let doc = document(alloc, id, &[text])?;
-    Ok(Event::Append { session: 1, doc })
+    Ok(Event::Append {
+        session: 1,
+        change: Change::Add(doc),
+    })
 }
 
 /// Returns the events that add a document with one label: the label's parent, the label and the document.
