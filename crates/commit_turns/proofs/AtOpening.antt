@@ -1,9 +1,9 @@
 -- The value when the chronicle is opened.
-use Rattle.std.proofs.Common.{◌≡◌, List, [], ◌∷◌, length, Some, None, refl, sym, ap, subst, ◌∙◌, arith, All}
+use Rattle.std.proofs.Common.{◌≡◌, List, [], ◌∷◌, length, take, Some, None, refl, sym, subst, ◌∙◌, arith, All}
 use Rattle.std.proofs.lemmas.List.Elements.{All-push, All-nil}
 use Rattle.facet_disk.specs.Images.{Image, Told}
 use Rattle.facet_disk.specs.declared.disk.Disk.{Ghosts}
-use Rattle.facet_model.specs.Documents.{Doc}
+use Rattle.facet_model.specs.Histories.{Operation, docs}
 use Rattle.facet_names.proofs.LabelLists.{Labels}
 use Rattle.seg_documents.specs.Decoding.{docs_in}
 use Rattle.seg_documents.proofs.Prefixes.{stays}
@@ -15,51 +15,51 @@ use Rattle.commit_turns.specs.Commits.{Keeps, Stands}
 use Rattle.commit_turns.specs.DiskStates.{DiskState, state_of}
 use Rattle.commit_turns.specs.Opening.{IsOpenedAs, WasSettled}
 use Rattle.commit_turns.specs.Points.{made}
-use Rattle.commit_turns.specs.Recovery.{AreFirst, Holds, HoldsJust}
+use Rattle.commit_turns.specs.Recovery.{Holds, HoldsJust}
 use Rattle.pair_manager.specs.declared.point.CommitPoint.{CommitPoint}
 use Rattle.commit_turns.proofs.Imaged.{holds_found, just_found}
 use Rattle.commit_turns.proofs.Pointed.{Below}
-use Rattle.commit_turns.proofs.Prefixed.{first_all}
+use Rattle.commit_turns.proofs.Prefixed.{docs_all}
 use Rattle.commit_turns.proofs.Surviving.{OnlyNow, marked, survive_first}
 
 all_one : (P : CommitPoint → Type 0) (p : CommitPoint) → P p → All P (p ∷ [])
 all_one P p holds = All-push P [] p (All-nil P) holds
 
-module _ {D : Type 0} (disk : Ghosts D) (only_now : OnlyNow disk) (told settled : Type 0) (quiet : DiskState → Type 0) (start : D) (committer : CommitterView D) (labels : Labels) (docs : List Doc)
-    (o : IsOpenedAs disk start committer labels docs) (was_told : told → (s : Told) × (disk.told start ≡ Some s)) (was_settled : settled → WasSettled disk committer.config start)
+module _ {D : Type 0} (disk : Ghosts D) (only_now : OnlyNow disk) (told settled : Type 0) (quiet : DiskState → Type 0) (start : D) (committer : CommitterView D) (labels : Labels) (history : List Operation)
+    (o : IsOpenedAs disk start committer labels (docs history)) (was_told : told → (s : Told) × (disk.told start ≡ Some s)) (was_settled : settled → WasSettled disk committer.config start)
     (is_quiet : quiet (state_of disk committer.disk)) where
   abbrev point : CommitPoint
-  point = made (length docs) (length labels)
+  point = made (length history) (length labels)
 
   abbrev Holding : Image → Type 0
-  Holding c = Holds committer.config labels docs point c
+  Holding c = Holds committer.config labels history point c
 
-  first : AreFirst (docs_in labels o.segments) docs
-  first = subst (λ (d : List Doc). AreFirst d docs) (sym o.documents) (first_all docs)
+  just : docs_in labels o.segments ≡ docs (take (length history) history)
+  just = o.documents ∙ docs_all history
 
   has_all : (c : Image) → HasFiles committer.config labels o.segments c → Holding c
-  has_all c has = holds_found committer.config labels labels docs o.segments point c has (stays labels) first (omega arith) (omega (arith, ap length o.documents))
+  has_all c has = holds_found committer.config labels labels history o.segments (length history) point c has (stays labels) (omega arith) just (omega arith) (omega arith)
 
   at_first : settled → (c : Image) → disk.may_leave start c → Holding c
   at_first is c left = let w = was_settled is in has_all c (w.settled.same c left ∙ o.opened.has w.told w.tells)
 
-  just_first : settled → (c : Image) → disk.may_leave start c → HoldsJust committer.config labels docs point c
+  just_first : settled → (c : Image) → disk.may_leave start c → HoldsJust committer.config labels history point c
   just_first is c left =
       let w = was_settled is in
-      just_found committer.config labels labels docs o.segments point c (w.settled.same c left ∙ o.opened.has w.told w.tells) (stays labels) first refl (ap length o.documents)
+      just_found committer.config labels labels history o.segments (length history) point c (w.settled.same c left ∙ o.opened.has w.told w.tells) (stays labels) (omega arith) just refl refl
 
   -- opening has changed no image
   still : (P : Image → Type 0) → ((c : Image) → disk.may_leave start c → P c) → (c : Image) → disk.may_leave committer.disk c → P c
   still P at c left = let before = o.opened.quiet.passes.now c left in subst P (sym before.2) (at before.0 before.1)
 
-  keeps : settled → Keeps disk start committer labels docs (point ∷ []) (marked committer.disk point)
+  keeps : settled → Keeps disk start committer labels history (point ∷ []) (marked committer.disk point)
   keeps is = record {
     moments = leaves_by disk only_now IsUnchanged Holding start committer.disk o.opened.quiet.passes (at_first is) (λ c d left same. subst Holding (sym same) (at_first is c left));
-    now = all_one (λ (p : CommitPoint). (c : Image) → disk.may_leave committer.disk c → Holds committer.config labels docs p c) point (still Holding (at_first is));
-    survive = survive_first disk committer.config only_now labels docs point committer.disk (still Holding (at_first is)) (λ unfailed. still (HoldsJust committer.config labels docs point) (just_first is));
+    now = all_one (λ (p : CommitPoint). (c : Image) → disk.may_leave committer.disk c → Holds committer.config labels history p c) point (still Holding (at_first is));
+    survive = survive_first disk committer.config only_now labels history point committer.disk (still Holding (at_first is)) (λ unfailed. still (HoldsJust committer.config labels history point) (just_first is));
   }
 
-  pub stands_opened : Stands disk told settled quiet (record { start = start; begun = committer.state; committer = committer; last = point; labels = labels; docs = docs }) (point ∷ []) (marked committer.disk point)
+  pub stands_opened : Stands disk told settled quiet (record { start = start; begun = committer.state; committer = committer; last = point; labels = labels; history = history }) (point ∷ []) (marked committer.disk point)
   stands_opened = record {
     points = record {
       before = [];
@@ -91,8 +91,8 @@ module _ {D : Type 0} (disk : Ghosts D) (only_now : OnlyNow disk) (told settled 
       many = refl;
       decodes = o.opened.decodes;
       some = o.opened.some;
-      first = first;
-      count = ap length o.documents;
+      within = omega arith;
+      just = just;
     };
     untouched = λ few. is_quiet;
   }

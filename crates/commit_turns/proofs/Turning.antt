@@ -1,5 +1,5 @@
 -- What the value stands for after a commit.
-use Rattle.std.proofs.Common.{◌≡◌, List, [], ◌++◌, subst}
+use Rattle.std.proofs.Common.{List, [], ◌++◌, subst}
 use Rattle.std.proofs.lemmas.List.{append-nil}
 use Rattle.facet_disk.specs.declared.disk.Disk.{Ghosts as Disks}
 use Rattle.commit_turns.specs.Surviving.{marks_of}

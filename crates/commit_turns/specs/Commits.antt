@@ -1,9 +1,9 @@
 -- Which points the value of the commits chronicle represents.
-use Rattle.std.specs.Prelude.{◌≡◌, ◌≤◌, ◌+◌, ◌*◌, ℕ, List, [], ◌∷◌, ◌++◌, All, Some, None, length}
+use Rattle.std.specs.Prelude.{◌≡◌, ◌≤◌, ◌+◌, ◌*◌, ℕ, List, [], ◌∷◌, ◌++◌, All, Some, None, length, take}
 use Rattle.facet_disk.specs.Calls.{Rose}
 use Rattle.facet_disk.specs.Images.{Image, Told}
 use Rattle.facet_disk.specs.declared.disk.Disk.{Ghosts}
-use Rattle.facet_model.specs.Documents.{Doc}
+use Rattle.facet_model.specs.Histories.{Operation, docs}
 use Rattle.facet_model.specs.Stored.{Records, Decodes}
 use Rattle.facet_names.specs.Labels.{GoesOn, IsLabelList}
 use Rattle.seg_documents.specs.Decoding.{docs_in}
@@ -15,7 +15,7 @@ use Rattle.commit_store.specs.Committers.{CommitterView}
 use Rattle.commit_store.specs.Promised.{HasNamed, IsHere}
 use Rattle.commit_turns.specs.DiskStates.{DiskState, state_of}
 use Rattle.commit_turns.specs.Points.{count_after, first_of}
-use Rattle.commit_turns.specs.Recovery.{AreFirst, Holds}
+use Rattle.commit_turns.specs.Recovery.{Holds}
 use Rattle.commit_turns.specs.Surviving.{Survive}
 use Rattle.pair_manager.specs.declared.point.CommitPoint.{CommitPoint}
 
@@ -36,20 +36,20 @@ pub record IsTrueOf (state : Committed) (files : Image) : Type 0 where
   pub fresh : Below state.next files
 
 -- What the value has: the disk when opening began and what was found on it, the committer, the last point, and the
--- labels and the documents that were noted.
+-- labels and the operations that were noted.
 pub record CommitState (D : Type 0) : Type 0 where
   pub start : D
   pub begun : Committed
   pub committer : CommitterView D
   pub last : CommitPoint
   pub labels : List (List (List ℕ))
-  pub docs : List Doc
+  pub history : List Operation
 
 module _ {D : Type 0} (disk : Ghosts D) where
-  -- What was committed last is the first of the labels and the first of the documents, as many as the point says; every
-  -- image now has just that.
+  -- What was committed last is the first of the labels and what the first of the operations leave, as many as the point
+  -- says; every image now has just that.
   pub record IsLast (committer : CommitterView D) (p : CommitPoint) (labels : List (List (List ℕ)))
-      (docs : List Doc) : Type 0 where
+      (history : List Operation) : Type 0 where
     pub known : List (List (List ℕ))
     pub segments : List Records
     pub tells : (s : Told) × (disk.told committer.disk ≡ Some s)
@@ -59,16 +59,16 @@ module _ {D : Type 0} (disk : Ghosts D) where
     pub many : length known ≡ p.labels
     pub decodes : Decodes known committer.config segments (docs_in known segments)
     pub some : docs_in known segments ≡ [] → segments ≡ []
-    pub first : AreFirst (docs_in known segments) docs
-    pub count : length (docs_in known segments) ≡ p.operations
+    pub within : p.operations ≤ length history
+    pub just : docs_in known segments ≡ docs (take p.operations history)
 
   -- At each moment since opening began every image opens as the first of what was noted, no less than the opened point.
   -- Now it holds each point, and so it did at each moment since the point was entered.
-  pub record Keeps (start : D) (committer : CommitterView D) (labels : List (List (List ℕ))) (docs : List Doc)
+  pub record Keeps (start : D) (committer : CommitterView D) (labels : List (List (List ℕ))) (history : List Operation)
       (es : List CommitPoint) (marks : List (D × CommitPoint)) : Type 0 where
-    pub moments : LeavesOnly disk start committer.disk (Holds committer.config labels docs (first_of es))
-    pub now : All (λ p. (c : Image) → disk.may_leave committer.disk c → Holds committer.config labels docs p c) es
-    pub survive : Survive disk committer.config labels docs es marks committer.disk
+    pub moments : LeavesOnly disk start committer.disk (Holds committer.config labels history (first_of es))
+    pub now : All (λ p. (c : Image) → disk.may_leave committer.disk c → Holds committer.config labels history p c) es
+    pub survive : Survive disk committer.config labels history es marks committer.disk
 
   -- While no commit has failed on the disk, what is known of the files is true of those that it reports, and the device
   -- has not failed. Where one has, the device failed.
@@ -83,7 +83,7 @@ module _ {D : Type 0} (disk : Ghosts D) where
   -- opening began.
   pub record Stands (told settled : Type 0) (quiet : DiskState → Type 0) (v : CommitState D)
       (es : List CommitPoint) (marks : List (D × CommitPoint)) : Type 0 where
-    pub points : ArePoints (disk.faults v.committer.disk) (length v.labels) (length v.docs) v.last es
+    pub points : ArePoints (disk.faults v.committer.disk) (length v.labels) (length v.history) v.last es
     pub closed : v.last.failed ≡ v.committer.closed
     pub counted : disk.faults v.start ≤ disk.faults v.committer.disk
     pub exact : disk.faults v.committer.disk ≡ count_after (disk.faults v.start) v.last.failed
@@ -91,6 +91,6 @@ module _ {D : Type 0} (disk : Ghosts D) where
     pub numbers : v.committer.state.next + 1000003 ≤ v.begun.next + 1000003 * length es
     pub tells : told → (s : Told) × (disk.told v.committer.disk ≡ Some s)
     pub followed : told → IsFollowed v.start v.committer
-    pub keeps : settled → Keeps v.start v.committer v.labels v.docs es marks
-    pub committed : settled → v.committer.closed ≡ None → IsLast v.committer v.last v.labels v.docs
+    pub keeps : settled → Keeps v.start v.committer v.labels v.history es marks
+    pub committed : settled → v.committer.closed ≡ None → IsLast v.committer v.last v.labels v.history
     pub untouched : length es ≤ 1 → quiet (state_of disk v.committer.disk)

@@ -5,7 +5,7 @@ use Rattle.chronicle.specs.Shown.{Shown, SameToken, SeesOn}
 use Rattle.facet_model.specs.Documents.{Doc}
 use Rattle.facet_model.specs.Histories.{Operation, docs}
 
--- the documents that a token of the operations has seen
+-- the documents that the operations leave that a token has seen
 abbrev pub docs_of : List (ℕ × Operation) → List Doc
 docs_of seen = docs (entries seen)
 

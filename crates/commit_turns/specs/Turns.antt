@@ -1,11 +1,11 @@
 -- The value of the commits chronicle, by its fields.
 use Rattle.std.specs.Prelude.{◌≡◌, ◌++◌, List}
 use Rattle.chronicle.specs.Frame.{Frame}
+use Rattle.chronicle.specs.History.{entries}
 use Rattle.facet_disk.specs.declared.disk.Disk.{Ghosts as Disks}
 use Rattle.commit_turns.specs.Commits.{CommitState, Stands}
 use Rattle.commit_turns.specs.Frames.{commits_frame}
 use Rattle.taxo_cache.specs.Seen.{labels_of}
-use Rattle.commit_turns.specs.Seen.{docs_of}
 use Rattle.commit_turns.specs.Surviving.{marks_of}
 use Rattle.commit_turns.specs.declared.start.Start.{Ghosts as Names}
 use Rattle.pair_manager.specs.declared.point.CommitPoint.{CommitPoint}
@@ -20,7 +20,7 @@ module _ {D N : Type 0} {d : Disks D} {n : Names N} where
     committer = v.committer;
     last = v.last;
     labels = labels_of v.labels.seen;
-    docs = docs_of v.operations.seen;
+    history = entries v.operations.seen;
   }
 
   -- the value represents these points, each of which was entered on such a disk

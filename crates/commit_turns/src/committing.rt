@@ -1,10 +1,14 @@
-ghost use Rattle.std.specs.Prelude.{◌≡◌, ◌≤◌, ◌<◌, ◌^◌, ◌*◌, ◌+◌, ◌∷◌, [], ◌↔◌, ℕ, Some, Err, IfErr, IfOk, length, map};
+ghost use Rattle.std.specs.Prelude.{◌≡◌, ◌≤◌, ◌<◌, ◌^◌, ◌*◌, ◌+◌, ◌∷◌, [], ◌↔◌, ℕ, Some, Err, IfErr, IfOk};
+ghost use Rattle.std.specs.Prelude.{IsTrue, length, map};
 ghost use Rattle.std.specs.Arc.{arc_value};
+ghost use Rattle.std.specs.List.{list_all};
 ghost use mathlib.Core.List.{IsPrefix};
+ghost use Rattle.chronicle.specs.History.{entries};
 ghost use Rattle.chronicle.specs.Shown.{MayTake, SameToken};
 ghost use Rattle.facet_disk.specs.Calls.{Rose};
 ghost use Rattle.facet_model.specs.ConfigTexts.{config_texts};
 ghost use Rattle.facet_model.specs.Flags.{Config};
+ghost use Rattle.facet_model.specs.Histories.{is_add};
 ghost use Rattle.facet_model.specs.Stored.{Decodes};
 ghost use Rattle.facet_names.specs.Labels.{IsLabelList};
 ghost use Rattle.seg_documents.specs.Decoding.{records_in};
@@ -65,6 +69,7 @@ fn take_snapshots<N: Name, R: Wait>(
     ensures view { IfOk result (λ t. t.view ≡ labels_of seen_labels.new.seen) }
     ensures own { IfOk result (λ t. AreOwn (map arc_value t.segments.items)) }
     ensures count { IfOk result (λ t. t.operations ≡ length seen_operations.new.seen) }
+    ensures adds { IfOk result (λ t. IsTrue (list_all (λ o. is_add o.change) (entries seen_operations.new.seen))) }
     ensures decodes { IfOk result (λ t. (config : Config) → config_texts config ≡ seen_operations.old.frame.texts
         → Decodes t.view config (map arc_value t.segments.items) (docs_of seen_operations.new.seen)) }
 {
@@ -76,6 +81,7 @@ fn take_snapshots<N: Name, R: Wait>(
         segments: shared,
         operations,
         labels: covered,
+        ..
     } = manager.take_index(rt, seen_operations)?;
     manager.writer().meet(seen_labels, covered);
     let view = manager.writer().snapshot(rt, seen_labels)?;

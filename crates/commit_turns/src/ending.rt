@@ -10,7 +10,7 @@ ghost use Rattle.commit_turns.specs.DiskStates.{state_of};
 ghost use Rattle.commit_turns.specs.Ending.{Lasts, FailsWith};
 ghost use Rattle.commit_turns.specs.Frames.{HasNumbers};
 ghost use Rattle.commit_turns.specs.Points.{count_after, last_of};
-ghost use Rattle.commit_turns.specs.Seen.{docs_of, ComesBack};
+ghost use Rattle.commit_turns.specs.Seen.{ComesBack};
 
 use crate::start::Start;
 use crate::turn::CommitTurn;
@@ -65,7 +65,7 @@ pub fn end_commits<
     ensures lasts { (config : Config) (first moment faults failures : ℕ) → N.settled
         → config_texts config ≡ token.old.frame.texts
         → HasNumbers first moment faults failures token.old.frame
-        → Lasts D.Disk config moment (labels_of seen_labels.new.seen) (docs_of seen_operations.new.seen)
+        → Lasts D.Disk config moment (labels_of seen_labels.new.seen) (entries seen_operations.new.seen)
         (entries token.new.seen) result }
 
     // Where no commit has entered a point after the opened one, the disk is as it was when opening began.

@@ -1,5 +1,8 @@
-ghost use Rattle.std.specs.Prelude.{◌≡◌, ◌≤◌, ◌<◌, ◌^◌, ◌+◌, ◌↔◌, ℕ, Some, Err, IfErr, IfOk, length, map};
+ghost use Rattle.std.specs.Prelude.{◌≡◌, ◌≤◌, ◌<◌, ◌^◌, ◌+◌, ◌↔◌, ℕ, Some, Err, IfErr, IfOk, IsTrue, length, map};
 ghost use Rattle.std.specs.Arc.{arc_value};
+ghost use Rattle.std.specs.List.{list_all};
+ghost use Rattle.chronicle.specs.History.{entries};
+ghost use Rattle.facet_model.specs.Histories.{is_add};
 ghost use Rattle.facet_model.specs.Stored.{Decodes};
 ghost use Rattle.facet_names.specs.Labels.{IsLabelList};
 ghost use Rattle.facet_disk.specs.Calls.{Rose};
@@ -36,6 +39,7 @@ impl<D: Disk, N: Start> CommitTurn<D, N> {
             (docs_of self.old.operations.seen) }
         requires labels { view.now ≡ labels_of self.old.labels.seen }
         requires operations { operations ≡ length self.old.operations.seen }
+        requires adds { IsTrue (list_all (λ o. is_add o.change) (entries self.old.operations.seen)) }
 
         // That point is marked with the disk as it then is, and the points before it stay marked as they were.
         ensures stands { StandsOn self.old self.new (entered self.old.last (length view.now) result) }

@@ -86,8 +86,8 @@ pub fn begin<D: Disk>(
     })
 }
 
-/// Opens the commits chronicle over a committer, whose labels and documents are what the tokens have seen. The opening
-/// point has their numbers.
+/// Opens the commits chronicle over a committer. The token of the labels has seen its labels, and the operations that
+/// the other token has seen leave its documents. The opening point has the numbers of both.
 ///
 /// Errors: out of memory. The error is the disk.
 pub fn open_commits<D: Disk, N: Start, L: Standing<Entry = Path>, I: Standing<Entry = Operation>>(

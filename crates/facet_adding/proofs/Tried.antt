@@ -3,7 +3,7 @@ use Rattle.std.proofs.Common.{◌≡◌, ◌≢◌, ◌∙◌, ℕ, true, List, 
 use Rattle.chronicle.specs.Shown.{Shown, SeesOn}
 use Rattle.chronicle.proofs.Prefixes.{prefix_self}
 use Rattle.facet_model.specs.Documents.{Doc}
-use Rattle.facet_model.specs.Histories.{Operation, knows}
+use Rattle.facet_model.specs.Histories.{Change, Operation, knows}
 use Rattle.facet_names.proofs.LabelLists.{Labels}
 use Rattle.pair_manager.specs.declared.pass.Pass.{Pass}
 use Rattle.pair_manager.specs.Appended.{HasNoRoom, IsPlaced}
@@ -27,13 +27,13 @@ full_for size limit labels paths fault is full = subst (λ (f : TaxoFault). IsFu
 
 -- ---- from the resolved labels on
 
-module _ (limit session : ℕ) (doc : Doc) (old mid new : Pass) (entered : Doc) (is : entered ≡ doc) (operations : mid.operations ≡ old.operations) (labels : new.labels ≡ mid.labels)
+module _ (limit session : ℕ) (brings : Doc → Change) (doc : Doc) (old mid new : Pass) (entered : Doc) (is : entered ≡ doc) (operations : mid.operations ≡ old.operations) (labels : new.labels ≡ mid.labels)
     (known : knows (labels_of mid.labels.seen) doc ≡ true) where
   still_known : knows (labels_of new.labels.seen) doc ≡ true
   still_known = subst (λ (t : Shown (List (List ℕ))). knows (labels_of t.seen) doc ≡ true) (sym labels) known
 
-  pub tried_placed : (at : ℕ) → IsPlaced at (record { session = session; doc = entered }) mid.operations new.operations → HasTried limit (record { session = session; doc = doc }) old new (Ok at)
-  tried_placed at there = (still_known, subst (λ (T : Type 0). T) (λ i. IsPlaced at (record { session = session; doc = is i }) (operations i) new.operations) there)
+  pub tried_placed : (at : ℕ) → IsPlaced at (record { session = session; change = brings entered }) mid.operations new.operations → HasTried limit session (brings doc) doc old new (Ok at)
+  tried_placed at there = (still_known, subst (λ (T : Type 0). T) (λ i. IsPlaced at (record { session = session; change = brings (is i) }) (operations i) new.operations) there)
 
-  pub tried_full : (count : ℕ) → SeesOn mid.operations new.operations → HasNoRoom count new.operations → HasTried limit (record { session = session; doc = doc }) old new (Err (adds.DocsFull count))
-  tried_full count on full = (subst (λ (t : Shown Operation). SeesOn t new.operations) operations on, still_known, full)
+  pub tried_full : (count : ℕ) → SeesOn mid.operations new.operations → HasNoRoom (brings entered) count new.operations → HasTried limit session (brings doc) doc old new (Err (adds.DocsFull count))
+  tried_full count on full = (subst (λ (t : Shown Operation). SeesOn t new.operations) operations on, still_known, subst (λ (d : Doc). HasNoRoom (brings d) count new.operations) is full)

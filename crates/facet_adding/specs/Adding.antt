@@ -4,7 +4,7 @@ use Rattle.chronicle.specs.Shown.{SeesOn}
 use Rattle.facet_model.specs.CountedPaths.{AreResolved}
 use Rattle.facet_model.specs.Documents.{Doc}
 use Rattle.facet_model.specs.Flags.{Config}
-use Rattle.facet_model.specs.Histories.{Operation, knows}
+use Rattle.facet_model.specs.Histories.{Change, knows}
 use Rattle.facet_names.specs.Labels.{IsLabelList}
 use Rattle.pair_manager.specs.declared.pass.Pass.{Pass}
 use Rattle.pair_manager.specs.Appended.{HasNoRoom, IsPlaced}
@@ -30,13 +30,13 @@ IsEntryWhere config resolved e = (labels : List (List (List ℕ))) → IsLabelLi
 abbrev pub SeesLabelsOf : Pass → Doc → Type 0
 SeesLabelsOf pass doc = IsTrue (knows (labels_of pass.labels.seen) doc)
 
--- What adding a document that the config accepts did, by its result.
-abbrev pub HasTried : ℕ → Operation → Pass → Pass → Result ℕ AddFault → Type 0
-HasTried limit added old new (Ok at) = SeesLabelsOf new added.doc × IsPlaced at added old.operations new.operations
-HasTried limit added old new (Err (adds.Broken fault)) = ⊥
-HasTried limit added old new (Err (adds.LabelsFull size)) =
-    SeesOn old.operations new.operations
-    × IsFullForOne (ListFull size) limit (labels_of new.labels.seen) added.doc.labels
-HasTried limit added old new (Err (adds.DocsFull count)) = SeesOn old.operations new.operations
-    × SeesLabelsOf new added.doc × HasNoRoom count new.operations
-HasTried limit added old new (Err adds.NoMemory) = SeesOn old.operations new.operations
+-- What a session's change did that adds this document, which the config accepts, by its result.
+abbrev pub HasTried : ℕ → ℕ → Change → Doc → Pass → Pass → Result ℕ AddFault → Type 0
+HasTried limit session change doc old new (Ok at) = SeesLabelsOf new doc
+    × IsPlaced at (record { session = session; change = change }) old.operations new.operations
+HasTried limit session change doc old new (Err (adds.Broken fault)) = ⊥
+HasTried limit session change doc old new (Err (adds.LabelsFull size)) = SeesOn old.operations new.operations
+    × IsFullForOne (ListFull size) limit (labels_of new.labels.seen) doc.labels
+HasTried limit session change doc old new (Err (adds.DocsFull count)) = SeesOn old.operations new.operations
+    × SeesLabelsOf new doc × HasNoRoom change count new.operations
+HasTried limit session change doc old new (Err adds.NoMemory) = SeesOn old.operations new.operations

@@ -4,6 +4,7 @@ ghost use Rattle.facet_config.specs.Expanding.{AreAsLong};
 ghost use Rattle.facet_model.specs.Accepts.{Accepts};
 ghost use Rattle.facet_model.specs.ConfigTexts.{config_texts};
 ghost use Rattle.facet_model.specs.CountedPaths.{AreResolved};
+ghost use Rattle.facet_model.specs.Histories.{add};
 ghost use Rattle.facet_names.specs.Labels.{IsLabelList, prefixes};
 ghost use Rattle.seg_documents.specs.Entries.{IsShort};
 ghost use Rattle.taxo_adding.specs.Several.{AddsInTurn};
@@ -101,10 +102,7 @@ pub fn add_to<N: Name, R: Wait>(
     ensures rest { (pass.new.pairs ≡ pass.old.pairs) × (pass.new.commits ≡ pass.old.commits) }
     ensures more { IsPrefix pass.old.labels.seen pass.new.labels.seen }
     ensures adds { AddsInTurn (flat_map prefixes doc.labels) manager.now.writer.limit pass.old.labels pass.new.labels }
-    ensures tried { HasTried manager.now.writer.limit (record {
-      session = session;
-      doc = doc;
-    }) pass.old pass.new result }
+    ensures tried { HasTried manager.now.writer.limit session (add doc) doc pass.old pass.new result }
 {
     let resolved = match manager.resolve_each(rt, pass, doc.facets()) {
         Ok(resolved) => resolved,

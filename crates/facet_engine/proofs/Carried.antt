@@ -32,15 +32,15 @@ held_less E name held pass n phase line = numbers_without held name
 
 module _ (engine : Engine) (old new : Session) where
   -- a command that holds and releases nothing leaves what is held
-  pub holds_still : (command : Command) (took : Option (ℕ × ℕ)) (place : Option ℕ) (reply : Reply) → after_command command took (numbers_held old.held) ≡ numbers_held old.held → new.held ≡ old.held
-      → HoldsAfter old new (step_of command took place reply old.pass new.pass)
-  holds_still command took place reply leaves is phase line = ap numbers_held is ∙ by (is_numbered reply)
+  pub holds_still : (command : Command) (took : Option (ℕ × ℕ)) (place saw : Option ℕ) (reply : Reply) → after_command command took (numbers_held old.held) ≡ numbers_held old.held → new.held ≡ old.held
+      → HoldsAfter old new (step_of command took place saw reply old.pass new.pass)
+  holds_still command took place saw reply leaves is phase line = ap numbers_held is ∙ by (is_numbered reply)
     where
       by : (b : Bool) → numbers_held old.held ≡ cond b (after_command command took (numbers_held old.held)) (numbers_held old.held)
       by true = sym leaves
       by false = refl
 
   -- a call was carried out that is such a step
-  pub carried : (command : Command) (took : Option (ℕ × ℕ)) (place : Option ℕ) (reply given : Reply) → given ≡ reply → SameSession old new → HoldsAfter old new (step_of command took place reply old.pass new.pass)
-      → IsCall engine old (step_of command took place reply old.pass new.pass) → SpendsWithin old.pass new.pass reply → IsCarriedOut engine old new command given
-  carried command took place reply given is same holds step spent = subst (λ (r : Reply). IsCarriedOut engine old new command r) (sym is) (record { same = same; took = took; place = place; step = step; holds = holds; spent = spent })
+  pub carried : (command : Command) (took : Option (ℕ × ℕ)) (place saw : Option ℕ) (reply given : Reply) → given ≡ reply → SameSession old new → HoldsAfter old new (step_of command took place saw reply old.pass new.pass)
+      → IsCall engine old (step_of command took place saw reply old.pass new.pass) → SpendsWithin old.pass new.pass reply → IsCarriedOut engine old new command given
+  carried command took place saw reply given is same holds step spent = subst (λ (r : Reply). IsCarriedOut engine old new command r) (sym is) (record { same = same; took = took; place = place; saw = saw; step = step; holds = holds; spent = spent })

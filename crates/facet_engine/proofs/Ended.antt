@@ -2,21 +2,21 @@
 use Rattle.std.proofs.Common.{◌≡◌, ◌∙◌, ◌≤◌, ℕ, false, List, [], ◌∷◌, length, take, map, refl, sym, ap, subst}
 use Rattle.std.specs.Prelude.{All, nat_le, ◌&&◌}
 use Rattle.std.specs.List.{list_all}
-use Rattle.std.proofs.lemmas.List.{length-map, take-map}
+use Rattle.std.proofs.lemmas.List.{length-map}
+use mathlib.Core.List.{IsPrefix}
 use Rattle.std.proofs.lemmas.List.Elements.{All-map, All-weaker}
 use Rattle.chronicle.specs.History.{own_of, entries, NumbersUpTo}
 use Rattle.chronicle.specs.Shown.{Shown, SeesOn, EndsWith, IsNoteOf, IsCounted}
 use Rattle.chronicle.proofs.Prefixes.{prefix_trans}
 use Rattle.facet_disk.specs.Images.{Image}
 use Rattle.facet_disk.specs.declared.disk.Disk.{Ghosts}
-use Rattle.facet_model.specs.Documents.{Doc}
 use Rattle.facet_model.specs.Flags.{Config}
-use Rattle.facet_model.specs.Histories.{Operation, docs, knows, never_falls, is_pair, are_publications}
+use Rattle.facet_model.specs.Histories.{Operation, brought, knows, never_falls, is_pair, are_publications}
 use Rattle.facet_names.specs.Labels.{GoesOn}
 use Rattle.facet_names.proofs.LabelLists.{Labels}
 use Rattle.commit_turns.specs.Ending.{Lasts}
 use Rattle.commit_turns.specs.Points.{first_of, last_of}
-use Rattle.commit_turns.specs.Recovery.{AreFirst, Holds}
+use Rattle.commit_turns.specs.Recovery.{Holds}
 use Rattle.commit_turns.specs.Seen.{ComesBack}
 use Rattle.commit_turns.proofs.Imaged.{holds_more, just_more}
 use Rattle.commit_turns.proofs.Surviving.{survive_more}
@@ -31,6 +31,7 @@ use Rattle.facet_engine.specs.Notes.{noted}
 use Rattle.facet_engine.specs.Sessions.{HaveOneNumber, NamesSession}
 use Rattle.facet_engine.specs.Steps.{seen_of, point_of}
 use Rattle.facet_engine.specs.Exchange.{HaveMade}
+use Rattle.facet_engine.proofs.Plain.{many_plain, brought_taken}
 use Rattle.facet_engine.proofs.Seeing.{told, told_none}
 use Rattle.facet_engine.proofs.SeenPairs.{sees_self}
 
@@ -93,7 +94,7 @@ module _ (first : Pass) (have : HaveOneNumber 0 first) (notes : Notes) (labels :
   no_labels = ends_none 0 first.labels labels notes.labels first.labels_rest.0 have.0 labels_end
 
   no_operations : EntersNone 0 (seen_of first).operations (noted notes).operations
-  no_operations = told_none (λ (o : Operation). o.doc) 0 first.operations.seen notes.operations.seen (ends_none 0 first.operations operations notes.operations first.operations_rest.0 have.1 operations_end)
+  no_operations = told_none (λ (o : Operation). o.change) 0 first.operations.seen notes.operations.seen (ends_none 0 first.operations operations notes.operations first.operations_rest.0 have.1 operations_end)
 
   no_pairs : EntersNone 0 (seen_of first).pairs (noted notes).pairs
   no_pairs = told_none numbers 0 first.pairs.seen notes.pairs.seen (ends_none 0 first.pairs pairs notes.pairs first.pairs_rest.0 have.2 pairs_end)
@@ -122,30 +123,20 @@ module _ (first : Pass) (have : HaveOneNumber 0 first) (notes : Notes) (labels :
   pub ended_up_to : (made : ℕ) → HaveMade made first → AreUpTo made (noted notes)
   ended_up_to made many = record {
     labels = ends_up_to made first.labels labels notes.labels first.labels_rest.0 have.0 many.0 labels_end;
-    operations = told_up_to (λ (o : Operation). o.doc) made notes.operations.seen (ends_up_to made first.operations operations notes.operations first.operations_rest.0 have.1 many.1 operations_end);
+    operations = told_up_to (λ (o : Operation). o.change) made notes.operations.seen (ends_up_to made first.operations operations notes.operations first.operations_rest.0 have.1 many.1 operations_end);
     pairs = told_up_to numbers made notes.pairs.seen (ends_up_to made first.pairs pairs notes.pairs first.pairs_rest.0 have.2 many.2 pairs_end);
     commits = told_up_to point_of made notes.commits.seen (ends_up_to made first.commits commits notes.commits first.commits_rest.0 have.3 many.3 commits_end);
   }
 
 -- ---- publications, as plain data
 
--- they are right over any operations that added these documents
-module _ (labels : Labels) (h k : List Operation) (same : docs h ≡ docs k) where
-  as_many : length h ≡ length k
-  as_many = let doc : Operation → Doc = λ o. o.doc in sym (length-map h doc) ∙ ap length same ∙ length-map k doc
-
-  front : (n : ℕ) → docs (take n h) ≡ docs (take n k)
-  front n = let doc : Operation → Doc = λ o. o.doc in sym (take-map doc n h) ∙ ap (take n) same ∙ take-map doc n k
-
+-- they are right over any operations that brought these documents
+module _ (labels : Labels) (h k : List Operation) (as_many : length h ≡ length k) (front : (n : ℕ) → brought (take n h) ≡ brought (take n k)) where
   same_pair : (p : ℕ × ℕ) → is_pair labels h p ≡ is_pair labels k p
   same_pair p = λ i. nat_le p.0 (as_many i) && nat_le p.1 (length labels) && list_all (knows (take p.1 labels)) (front p.0 i)
 
   pub same_publications : (ps : List (ℕ × ℕ)) → are_publications labels h ps ≡ are_publications labels k ps
   same_publications ps = λ i. never_falls (map (λ p. p.0) ps) && never_falls (map (λ p. p.1) ps) && list_all (λ p. same_pair p i) ps
-
-plain_docs : (ops : List (ℕ × Operation)) → docs (map (λ (e : ℕ × Doc). record { session = e.0; doc = e.1 }) (told (λ (o : Operation). o.doc) ops)) ≡ docs (entries ops)
-plain_docs [] = refl
-plain_docs (x ∷ ops) = ap (λ l. x.1.doc ∷ l) (plain_docs ops)
 
 plain_pairs : (ps : List (ℕ × Publication)) → map (λ (e : ℕ × (ℕ × ℕ)). e.1) (told numbers ps) ≡ map numbers (entries ps)
 plain_pairs [] = refl
@@ -158,20 +149,21 @@ sessions_are (x ∷ ops) = ap (λ l. x.1.session ∷ l) (sessions_are ops)
 
 pub are_published : (notes : Notes) → ArePublished (noted notes)
 are_published notes =
-    same_publications ([] ∷ entries notes.labels.seen) (history_of (noted notes)) (entries notes.operations.seen) (plain_docs notes.operations.seen) (map (λ (e : ℕ × (ℕ × ℕ)). e.1) (noted notes).pairs)
+    same_publications ([] ∷ entries notes.labels.seen) (history_of (noted notes)) (entries notes.operations.seen)
+    (many_plain notes.operations.seen ∙ sym (length-map notes.operations.seen (λ (e : ℕ × Operation). e.1))) (λ n. brought_taken n notes.operations.seen) (map (λ (e : ℕ × (ℕ × ℕ)). e.1) (noted notes).pairs)
     ∙ ap (are_publications ([] ∷ entries notes.labels.seen) (entries notes.operations.seen)) (plain_pairs notes.pairs.seen)
     ∙ notes.right
 
--- ---- labels and documents may go on
+-- ---- labels and operations may go on
 
-module _ (config : Config) (labels more : Labels) (docs docs' : List Doc) (on : GoesOn labels more) (first : AreFirst docs docs') where
-  pub lasts_more : {D : Type 0} (disk : Ghosts D) (moment : ℕ) (points : List Point) (now : D) → Lasts disk config moment labels docs points now → Lasts disk config moment more docs' points now
+module _ (config : Config) (labels more : Labels) (history longer : List Operation) (on : GoesOn labels more) (first : IsPrefix history longer) where
+  pub lasts_more : {D : Type 0} (disk : Ghosts D) (moment : ℕ) (points : List Point) (now : D) → Lasts disk config moment labels history points now → Lasts disk config moment more longer points now
   lasts_more disk moment points now lasts = record {
-    opened = λ c left. holds_more config labels more docs docs' (first_of points) c on first (lasts.opened c left);
+    opened = λ c left. holds_more config labels more history longer (first_of points) c on first (lasts.opened c left);
     marks = lasts.marks;
-    moments = survive_more disk config labels more docs docs' points lasts.marks now on first lasts.moments;
-    exit = All-weaker (λ (p : Point). (c : Image) → disk.may_leave now c → Holds config labels docs p c) (λ p. (c : Image) → disk.may_leave now c → Holds config more docs' p c)
-        (λ p holds c left. holds_more config labels more docs docs' p c on first (holds c left)) points lasts.exit;
-    exact = λ none c left. just_more config labels more docs docs' (last_of points) c on first (lasts.exact none c left);
+    moments = survive_more disk config labels more history longer points lasts.marks now on first lasts.moments;
+    exit = All-weaker (λ (p : Point). (c : Image) → disk.may_leave now c → Holds config labels history p c) (λ p. (c : Image) → disk.may_leave now c → Holds config more longer p c)
+        (λ p holds c left. holds_more config labels more history longer p c on first (holds c left)) points lasts.exit;
+    exact = λ none c left. just_more config labels more history longer (last_of points) c on first (lasts.exact none c left);
     settled = lasts.settled;
   }

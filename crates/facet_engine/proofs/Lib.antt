@@ -1,3 +1,4 @@
+pub mod Plain
 pub mod Seeing
 pub mod Refreshed
 pub mod Merged

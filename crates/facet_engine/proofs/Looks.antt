@@ -69,8 +69,8 @@ module _ (settings : Settings) (held : List HeldPair) (phase line number : ℕ) 
   refreshes_none : (e : Effect) (on : Option (List ℕ)) (said : Report) → e ≡ looks on → refreshed_in e said ≡ None
   refreshes_none e on said is = ap (λ (f : Effect). refreshed_in f said) is
 
-  stands_none : (e : Effect) (on : Option (List ℕ)) (said : Report) → e ≡ looks on → stood_in e said ≡ None
-  stands_none e on said is = ap (λ (f : Effect). stood_in f said) is
+  stands_none : (e : Effect) (on : Option (List ℕ)) (said : Report) → e ≡ looks on → stood_in e None said ≡ None
+  stands_none e on said is = ap (λ (f : Effect). stood_in f None said) is
 
   enters_none : (command : Command) (on : Option (List ℕ)) (reply : Reply) → effect command ≡ looks on → EntersNone n (seen_of old).commits (seen_of new).commits → EntersPoints n (length (plain_labels (seen_of old))) command reply (seen_of old).commits (seen_of new).commits
   enters_none command on reply is none = subst (λ (e : Effect). EntersBy n (length (plain_labels (seen_of old))) e (report reply) (seen_of old).commits (seen_of new).commits) (sym is) none
@@ -83,8 +83,8 @@ module _ (settings : Settings) (held : List HeldPair) (phase line number : ℕ) 
       (places_none (effect command) on (report reply) is) (refreshes_none (effect command) on (report reply) is) (stands_none (effect command) on (report reply) is) (enters_none command on reply is)
 
   right_by : (command : Command) (on : Option (List ℕ)) (took : Option (ℕ × ℕ)) (reply : Reply) → effect command ≡ looks on
-      → IsRightBy settings (plain_labels (seen_of new)) (history_of (seen_of new)) (numbers_held held) n (looks on) command took reply → IsRight settings (plain_labels (seen_of new)) (history_of (seen_of new)) (numbers_held held) n command took reply
-  right_by command on took reply is right = subst (λ (e : Effect). IsRightBy settings (plain_labels (seen_of new)) (history_of (seen_of new)) (numbers_held held) n e command took reply) (sym is) right
+      → IsRightBy settings (plain_labels (seen_of new)) (history_of (seen_of new)) (numbers_held held) n (looks on) command took None reply → IsRight settings (plain_labels (seen_of new)) (history_of (seen_of new)) (numbers_held held) n command took None reply
+  right_by command on took reply is right = subst (λ (e : Effect). IsRightBy settings (plain_labels (seen_of new)) (history_of (seen_of new)) (numbers_held held) n e command took None reply) (sym is) right
 
   module _ (pair : Published) (seen : HasSeen new pair) where
     many : (publication_of pair).operations ≤ length new.operations.seen

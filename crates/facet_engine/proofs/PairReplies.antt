@@ -1,5 +1,5 @@
 -- The replies to commands that see a pair.
-use Rattle.std.proofs.Common.{◌≡◌, ◌≢◌, ◌∙◌, inl, inr, ◌≤◌, ℕ, zero, suc, List, [], ◌∷◌, length, map, Option, Some, None, option_map, slice_get, Result, Ok, Err, refl, sym, ap, subst, arith}
+use Rattle.std.proofs.Common.{◌≡◌, ◌≢◌, ◌∙◌, inl, inr, ◌≤◌, ℕ, List, length, Option, Some, None, option_map, slice_get, Result, Ok, Err, refl, sym, ap, subst, arith}
 use Rattle.std.specs.Prelude.{take}
 use Rattle.std.proofs.lemmas.List.{length-map}
 use Rattle.chronicle.specs.History.{entries}
@@ -7,7 +7,7 @@ use Rattle.chronicle.specs.Shown.{SeesOn}
 use Rattle.chronicle.proofs.Prefixes.{prefix_length}
 use Rattle.facet_model.specs.Documents.{Doc}
 use Rattle.facet_model.specs.Flags.{Config}
-use Rattle.facet_model.specs.Histories.{Operation, docs}
+use Rattle.facet_model.specs.Histories.{docs}
 use Rattle.taxo_cache.specs.Seen.{labels_of}
 use Rattle.pair_manager.specs.declared.manager.Stats.{Stats}
 use Rattle.pair_manager.specs.declared.pass.Pass.{Pass}
@@ -37,8 +37,8 @@ use Rattle.facet_engine.specs.Sessions.{HaveOneNumber, HasSeen}
 use Rattle.pair_search.specs.Showing.{IsShownIn}
 use Rattle.facet_engine.specs.Steps.{seen_of, taking, last_pair, pair_held, searched, documented, counted}
 use Rattle.facet_engine.proofs.Naming.{numbers_under}
-use Rattle.facet_engine.proofs.Seeing.{told}
 use Rattle.taxo_adding.proofs.Growing.{seen_goes_on}
+use Rattle.facet_engine.proofs.Plain.{docs_taken}
 use Rattle.facet_engine.proofs.SeenPairs.{begins}
 use Rattle.facet_engine.proofs.Taking.{taking_last, taking_none, docs_seen}
 
@@ -57,12 +57,6 @@ shown_right : (pass : Pass) (pair : Published) (at : ℕ) (reply : Reply) → Ha
 shown_right pass pair at reply seen shown =
     subst (λ (ds : List Doc). IsShown (plain_labels (seen_of pass)) (numbers_of pair).0 ds at (slice_get ds at) reply) (sym (docs_seen pass pair seen)) (shown (labels_of pass.labels.seen) pass.list (seen_goes_on pair.labels.seen pass.labels.seen (begins pair.labels.seen pass.labels.seen seen.labels)))
 
--- the documents of the first operations that were seen
-docs_taken : (k : ℕ) (seen : List (ℕ × Operation)) → docs (take k (entries seen)) ≡ docs (take k (map (λ (e : ℕ × Doc). record { session = e.0; doc = e.1 }) (told (λ (o : Operation). o.doc) seen)))
-docs_taken zero seen = refl
-docs_taken (suc k) [] = refl
-docs_taken (suc k) (x ∷ seen) = ap (λ l. x.1.doc ∷ l) (docs_taken k seen)
-
 -- ---- the steps
 
 module _ (settings : Settings) (held : List HeldPair) (phase line number : ℕ) (old new : Pass) (have : HaveOneNumber number old) (same : SamePass old new) (labels : SeesOn old.labels new.labels) (operations : SeesOn old.operations new.operations)
@@ -72,13 +66,13 @@ module _ (settings : Settings) (held : List HeldPair) (phase line number : ℕ) 
 
   -- a right reply of the last pair
   last_step : (command : Command) (reply : Reply) (p : Publication) → IsLast p (entries new.pairs.seen) → p.operations ≤ length new.operations.seen → p.labels ≤ length (labels_of new.labels.seen)
-      → IsRight settings (plain_labels (seen_of new)) (history_of (seen_of new)) (numbers_held held) n command (Some (numbers p)) reply → placed_by n command reply ≡ None → refreshed_by command reply ≡ None → stood_by command reply ≡ None
+      → IsRight settings (plain_labels (seen_of new)) (history_of (seen_of new)) (numbers_held held) n command (Some (numbers p)) None reply → placed_by n command reply ≡ None → refreshed_by command reply ≡ None → stood_by command None reply ≡ None
       → (EntersNone n (seen_of old).commits (seen_of new).commits → EntersPoints n (length (plain_labels (seen_of old))) command reply (seen_of old).commits (seen_of new).commits) → IsStep settings (numbers_held held) (taking command (last_pair new) reply old new phase line)
   last_step command reply p last few_operations few_labels right placed refreshed stood points =
       taking_last settings (numbers_held held) phase line number old new have same labels operations pairs commits command reply p last few_operations few_labels (inl right) placed refreshed stood points
 
   -- a right reply, or one that there was no memory, of no pair that was taken
-  none_step : (command : Command) (reply : Reply) → RightReply settings (plain_labels (seen_of new)) (history_of (seen_of new)) (numbers_held held) (taking command None reply old new phase line).answered → placed_by n command reply ≡ None → refreshed_by command reply ≡ None → stood_by command reply ≡ None
+  none_step : (command : Command) (reply : Reply) → RightReply settings (plain_labels (seen_of new)) (history_of (seen_of new)) (numbers_held held) (taking command None reply old new phase line).answered → placed_by n command reply ≡ None → refreshed_by command reply ≡ None → stood_by command None reply ≡ None
       → (EntersNone n (seen_of old).commits (seen_of new).commits → EntersPoints n (length (plain_labels (seen_of old))) command reply (seen_of old).commits (seen_of new).commits) → IsStep settings (numbers_held held) (taking command None reply old new phase line)
   none_step = taking_none settings (numbers_held held) phase line number old new have same labels operations pairs commits
 
@@ -192,5 +186,5 @@ module _ (settings : Settings) (held : List HeldPair) (phase line number : ℕ) 
       → s.operations ≤ length new.operations.seen → s.labels ≤ length (labels_of new.labels.seen) → IsStep settings (numbers_held held) (counted {E = E} None old new (Ok s) phase line)
   stats_last E s last documents few_operations few_labels =
       let right : stats_reply {E = E} (Ok s) ≡ reply_of (history_of (seen_of new)) (s.operations, s.labels) =
-      λ i. replies.stats (record { operations = s.operations; labels = s.labels; documents = (documents ∙ ap length (docs_taken s.operations new.operations.seen)) i }) in
+      λ i. replies.stats (record { operations = s.operations; labels = s.labels; documents = (documents ∙ ap length (sym (docs_taken s.operations new.operations.seen))) i }) in
       last_step (stats None) (stats_reply {E = E} (Ok s)) (record { operations = s.operations; labels = s.labels }) last few_operations few_labels right refl refl refl (λ none. none)

@@ -5,8 +5,7 @@ use Rattle.std.proofs.lemmas.List.{length-map, length-append}
 use mathlib.Core.List.{IsPrefix}
 use Rattle.chronicle.specs.Shown.{Shown, mine, SeesOn, EntersBehind}
 use Rattle.chronicle.proofs.Prefixes.{prefix_length}
-use Rattle.facet_model.specs.Documents.{Doc}
-use Rattle.facet_model.specs.Histories.{Operation}
+use Rattle.facet_model.specs.Histories.{Change, Operation}
 use Rattle.facet_words.specs.Commands.{Settings}
 use Rattle.taxo_cache.specs.Seen.{labels_of}
 use Rattle.pair_manager.specs.declared.pass.Pass.{Pass}
@@ -19,15 +18,16 @@ use Rattle.facet_output.specs.Steps.{IsStep}
 use Rattle.facet_output.proofs.TwoRan.{no_new}
 use Rattle.facet_engine.specs.Sessions.{HaveOneNumber}
 use Rattle.facet_engine.specs.Steps.{seen_of, refreshed}
+use Rattle.facet_engine.proofs.Plain.{many_plain}
 use Rattle.facet_engine.proofs.Between.{same_since, labels_since, operations_since}
 use Rattle.facet_engine.proofs.Seeing.{enters_behind, told, told_begins, told_behind, labels_none, operations_none, pairs_none, commits_none}
 use Rattle.facet_adding.proofs.Tried.{same_sees_on}
 
-pub many_operations : (seen : List (ℕ × Operation)) → length (told (λ (o : Operation). o.doc) seen) ≡ length seen
-many_operations seen = let doc : ℕ × Operation → ℕ × Doc = λ e. (e.0, e.1.doc) in length-map seen doc
+pub many_operations : (seen : List (ℕ × Operation)) → length (told (λ (o : Operation). o.change) seen) ≡ length seen
+many_operations seen = let change : ℕ × Operation → ℕ × Change = λ e. (e.0, e.1.change) in length-map seen change
 
 pub many_in_history : (pass : Pass) → length (history_of (seen_of pass)) ≡ length pass.operations.seen
-many_in_history pass = length-map (seen_of pass).operations (λ (e : ℕ × Doc). record { session = e.0; doc = e.1 }) ∙ many_operations pass.operations.seen
+many_in_history pass = many_plain pass.operations.seen
 
 -- who has seen more has seen no fewer labels
 pub more_labels : (xs ys : List (ℕ × List (List ℕ))) → IsPrefix xs ys → length (labels_of xs) ≤ length (labels_of ys)

@@ -54,7 +54,7 @@ module _ (number : ℕ) (old new : Pass) (have : HaveOneNumber number old) (same
   labels_none on = enters_none old.labels new.labels n old.labels_rest.0 refl same.labels on
 
   pub operations_none : SeesOn old.operations new.operations → EntersNone n (seen_of old).operations (seen_of new).operations
-  operations_none on = told_none (λ (o : Operation). o.doc) n old.operations.seen new.operations.seen (enters_none old.operations new.operations n old.operations_rest.0 (have.1 ∙ sym have.0) same.operations on)
+  operations_none on = told_none (λ (o : Operation). o.change) n old.operations.seen new.operations.seen (enters_none old.operations new.operations n old.operations_rest.0 (have.1 ∙ sym have.0) same.operations on)
 
   pub pairs_none : SeesOn old.pairs new.pairs → EntersNone n (seen_of old).pairs (seen_of new).pairs
   pairs_none on = told_none numbers n old.pairs.seen new.pairs.seen (enters_none old.pairs new.pairs n old.pairs_rest.0 (have.2 ∙ sym have.0) same.pairs on)

@@ -1,11 +1,10 @@
 -- A command that sees a pair is a step: it takes the last one, or sees one that is held.
-use Rattle.std.proofs.Common.{◌≡◌, ◌∙◌, ◌+◌, ◌≤◌, ℕ, true, List, [], ◌∷◌, ◌++◌, length, map, Option, Some, None, option_map, slice_get, refl, sym, ap, subst, arith}
+use Rattle.std.proofs.Common.{◌≡◌, ◌∙◌, ◌+◌, ◌≤◌, ℕ, true, List, [], ◌∷◌, ◌++◌, length, Option, Some, None, option_map, slice_get, refl, sym, ap, subst, arith}
 use Rattle.std.specs.Prelude.{◌&&◌, IfSome, is_none, take}
 use Rattle.std.proofs.lemmas.List.{length-map, length-append}
 use Rattle.chronicle.specs.History.{entries}
 use Rattle.chronicle.specs.Shown.{SeesOn}
-use Rattle.facet_model.specs.Documents.{Doc}
-use Rattle.facet_model.specs.Histories.{Operation as Added, docs}
+use Rattle.facet_model.specs.Histories.{Operation, docs}
 use Rattle.taxo_cache.specs.Seen.{labels_of}
 use Rattle.pair_manager.specs.declared.pass.Pass.{Pass}
 use Rattle.pair_manager.specs.declared.publication.Publication.{Publication}
@@ -23,6 +22,7 @@ use Rattle.facet_output.proofs.TwoRan.{no_new}
 use Rattle.facet_engine.specs.HeldPairs.{numbers_of}
 use Rattle.facet_engine.specs.Sessions.{HaveOneNumber, HasSeen}
 use Rattle.facet_engine.specs.Steps.{seen_of, taking, last_pair, last_place}
+use Rattle.facet_engine.proofs.Plain.{plain, docs_front}
 use Rattle.facet_engine.proofs.Refreshed.{many_operations}
 use Rattle.facet_engine.proofs.SeenPairs.{begins}
 use Rattle.facet_engine.proofs.Seeing.{told, labels_none, operations_none, pairs_none, commits_none}
@@ -69,15 +69,11 @@ is_last_pair pass p last operations labels =
 
 -- ---- the documents of a pair
 
-front_docs : (front rest : List (ℕ × Added)) → docs (take (length front) (map (λ (e : ℕ × Doc). record { session = e.0; doc = e.1 }) (told (λ (o : Added). o.doc) (front ++ rest)))) ≡ docs (entries front)
-front_docs [] rest = refl
-front_docs (x ∷ front) rest = ap (λ l. x.1.doc ∷ l) (front_docs front rest)
-
 -- a pair's documents are those of the first operations that were seen
 pub docs_seen : (pass : Pass) (pair : Published) → HasSeen pass pair → docs_of (history_of (seen_of pass)) (numbers_of pair) ≡ docs (entries pair.history.seen)
 docs_seen pass pair seen =
     let on = begins pair.history.seen pass.operations.seen seen.operations in
-    sym (ap (λ (l : List (ℕ × Added)). docs (take (length pair.history.seen) (map (λ (e : ℕ × Doc). record { session = e.0; doc = e.1 }) (told (λ (o : Added). o.doc) l)))) on.1) ∙ front_docs pair.history.seen on.0
+    sym (ap (λ (l : List (ℕ × Operation)). docs (take (length pair.history.seen) (plain l))) on.1) ∙ docs_front pair.history.seen on.0
 
 -- ---- the step
 
@@ -103,7 +99,7 @@ module _ (settings : Settings) (held : Held) (phase line number : ℕ) (old new 
 
   -- a command that enters nothing, and takes no pair
   pub taking_none : (command : Command) (reply : Reply) → RightReply settings (plain_labels (seen_of new)) (history_of (seen_of new)) held (taking command None reply old new phase line).answered
-      → placed_by n command reply ≡ None → refreshed_by command reply ≡ None → stood_by command reply ≡ None
+      → placed_by n command reply ≡ None → refreshed_by command reply ≡ None → stood_by command None reply ≡ None
       → (EntersNone n (seen_of old).commits (seen_of new).commits → EntersPoints n (length (plain_labels (seen_of old))) command reply (seen_of old).commits (seen_of new).commits)
       → IsStep settings held (taking command None reply old new phase line)
   taking_none command reply right placed refreshed stood points = record {
@@ -121,7 +117,7 @@ module _ (settings : Settings) (held : Held) (phase line number : ℕ) (old new 
   -- a command that enters nothing, and takes the last pair
   pub taking_last : (command : Command) (reply : Reply) (p : Publication) → IsLast p (entries new.pairs.seen) → p.operations ≤ length new.operations.seen → p.labels ≤ length (labels_of new.labels.seen)
       → RightReply settings (plain_labels (seen_of new)) (history_of (seen_of new)) held (taking command (Some (numbers p)) reply old new phase line).answered
-      → placed_by n command reply ≡ None → refreshed_by command reply ≡ None → stood_by command reply ≡ None
+      → placed_by n command reply ≡ None → refreshed_by command reply ≡ None → stood_by command None reply ≡ None
       → (EntersNone n (seen_of old).commits (seen_of new).commits → EntersPoints n (length (plain_labels (seen_of old))) command reply (seen_of old).commits (seen_of new).commits)
       → IsStep settings held (taking command (last_pair new) reply old new phase line)
   taking_last command reply p last within_operations within_labels right placed refreshed stood points =

@@ -125,7 +125,7 @@ module _ (number : ℕ) (old new : Pass) (notes : Notes) (have : HaveOneNumber n
   knows : Sees (noted notes) (seen_of new)
   knows = record {
     labels = labels.told;
-    operations = told_begins (λ (o : Operation). o.doc) notes.operations.seen new.operations.seen operations.told;
+    operations = told_begins (λ (o : Operation). o.change) notes.operations.seen new.operations.seen operations.told;
     pairs = told_begins numbers notes.pairs.seen new.pairs.seen pairs.told;
     commits = told_begins point_of notes.commits.seen new.commits.seen commits.told;
   }
@@ -133,14 +133,14 @@ module _ (number : ℕ) (old new : Pass) (notes : Notes) (have : HaveOneNumber n
   meets_just : Sees (seen_of old) (noted notes) → seen_of new ≡ noted notes
   meets_just sees =
       let l : new.labels.seen ≡ notes.labels.seen = labels.longest ∙ longer_is old.labels.seen notes.labels.seen labels.one (prefix_length old.labels.seen notes.labels.seen sees.labels) in
-      let o = meets_all (λ (x : Operation). x.doc) old.operations new.operations notes.operations operations sees.operations in
+      let o = meets_all (λ (x : Operation). x.change) old.operations new.operations notes.operations operations sees.operations in
       let p = meets_all numbers old.pairs new.pairs notes.pairs pairs sees.pairs in
       let c = meets_all point_of old.commits new.commits notes.commits commits sees.commits in
-      λ i. record { labels = l i; operations = told (λ (x : Operation). x.doc) (o i); pairs = told numbers (p i); commits = told point_of (c i) }
+      λ i. record { labels = l i; operations = told (λ (x : Operation). x.change) (o i); pairs = told numbers (p i); commits = told point_of (c i) }
 
   longest : seen_of new ≡ longer_of (seen_of old) (noted notes)
   longest =
-      let o = ap (told (λ (x : Operation). x.doc)) operations.longest ∙ told_longer (λ (x : Operation). x.doc) old.operations.seen notes.operations.seen in
+      let o = ap (told (λ (x : Operation). x.change)) operations.longest ∙ told_longer (λ (x : Operation). x.change) old.operations.seen notes.operations.seen in
       let p = ap (told numbers) pairs.longest ∙ told_longer numbers old.pairs.seen notes.pairs.seen in
       let c = ap (told point_of) commits.longest ∙ told_longer point_of old.commits.seen notes.commits.seen in
       λ i. record { labels = labels.longest i; operations = o i; pairs = p i; commits = c i }

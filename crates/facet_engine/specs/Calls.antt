@@ -39,12 +39,13 @@ SpendsWithin old new reply =
     (next moment faults failures : ℕ) → HasNumbers next moment faults failures old.commits.frame
     → IsSpentWithin next reply (seen_of new)
 
--- A command was carried out with this reply: with the pair that it took and its place, it is a step of the same
--- session, which then holds what it has to.
+-- A command was carried out with this reply: with the pair that it took and its place, and with how many operations it
+-- saw when it was refused for documents, it is a step of the same session, which then holds what it has to.
 pub record IsCarriedOut (engine : Engine) (old new : Session) (command : Command) (reply : Reply) : Type 0 where
   pub same : SameSession old new
   pub took : Option (ℕ × ℕ)
   pub place : Option ℕ
-  pub step : IsCall engine old (step_of command took place reply old.pass new.pass)
-  pub holds : HoldsAfter old new (step_of command took place reply old.pass new.pass)
+  pub saw : Option ℕ
+  pub step : IsCall engine old (step_of command took place saw reply old.pass new.pass)
+  pub holds : HoldsAfter old new (step_of command took place saw reply old.pass new.pass)
   pub spent : SpendsWithin old.pass new.pass reply

@@ -10,7 +10,7 @@ use Rattle.facet_engine.specs.Systems.{Engine}
 abbrev pub noted : Notes → Seen
 noted notes = record {
   labels = notes.labels.seen;
-  operations = map (λ e. (e.0, e.1.doc)) notes.operations.seen;
+  operations = map (λ e. (e.0, e.1.change)) notes.operations.seen;
   pairs = map (λ e. (e.0, numbers e.1)) notes.pairs.seen;
   commits = map (λ e. (e.0, point_of e.1)) notes.commits.seen;
 }

@@ -14,6 +14,7 @@ use Rattle.pair_manager.specs.declared.pass.Pass.{Pass}
 use Rattle.pair_manager.specs.declared.point.CommitPoint.{CommitPoint as Point}
 use Rattle.pair_manager.specs.Published.{numbers}
 use Rattle.facet_adding.specs.declared.adding.AddFault.{AddFault}
+use Rattle.facet_adding.specs.declared.adding.AddFault.TheVariants as adds
 use Rattle.facet_engine.specs.declared.holding.HoldFault.{HoldFault}
 use Rattle.pair_search.specs.declared.ranging.RangesAnswer.{RangesAnswer}
 use Rattle.pair_search.specs.declared.ranging.RangesFault.{RangesFault}
@@ -35,28 +36,34 @@ point_of p = record { operations = p.operations; labels = p.labels; failed = p.f
 abbrev pub seen_of : Pass → Seen
 seen_of pass = record {
   labels = pass.labels.seen;
-  operations = map (λ e. (e.0, e.1.doc)) pass.operations.seen;
+  operations = map (λ e. (e.0, e.1.change)) pass.operations.seen;
   pairs = map (λ e. (e.0, numbers e.1)) pass.pairs.seen;
   commits = map (λ e. (e.0, point_of e.1)) pass.commits.seen;
 }
 
 -- The step of the session of the pass: its command, the pair that it took, the place of the pair that it took or
--- published, and the reply.
-abbrev pub step_of : Command → Option (ℕ × ℕ) → Option ℕ → Reply → Pass → Pass → ℕ → ℕ → Step
-step_of command took place reply old new phase line = record {
+-- published, how many operations it saw when it was refused for documents, and the reply.
+abbrev pub step_of : Command → Option (ℕ × ℕ) → Option ℕ → Option ℕ → Reply → Pass → Pass → ℕ → ℕ → Step
+step_of command took place saw reply old new phase line = record {
   answered = record {
     phase = phase;
     order = record { session = old.labels.number; line = line; command = command };
     took = took;
     place = place;
+    saw = saw;
     reply = reply;
   };
   before = seen_of old;
   after = seen_of new;
 }
 
+-- a change that was refused for documents saw all operations that its session has seen then
+abbrev pub operations_seen : Pass → Result ℕ AddFault → Option ℕ
+operations_seen pass (Err (adds.DocsFull count)) = Some (length pass.operations.seen)
+operations_seen pass _ = None
+
 abbrev pub added : Doc → Pass → Pass → Result ℕ AddFault → ℕ → ℕ → Step
-added doc old new result = step_of (add doc) None None (add_reply result) old new
+added doc old new result = step_of (add doc) None None (operations_seen new result) (add_reply result) old new
 
 -- the place of the last pair that was seen
 abbrev pub last_place : Pass → ℕ
@@ -68,14 +75,15 @@ refresh_place last (Ok n) = Some last
 refresh_place last (Err fault) = None
 
 abbrev pub refreshed : {E : Type 0} → Pass → Pass → Result ℕ E → ℕ → ℕ → Step
-refreshed old new result = step_of refresh None (refresh_place (last_place new) result) (refresh_reply result) old new
+refreshed old new result =
+    step_of refresh None (refresh_place (last_place new) result) None (refresh_reply result) old new
 
 abbrev pub committed : Pass → Pass → Result ℕ CommitFault → ℕ → ℕ → Step
-committed old new result = step_of commit None None (commit_reply result) old new
+committed old new result = step_of commit None None None (commit_reply result) old new
 
 -- a merge takes no pair, and publishes none
 abbrev pub segments_merged : {E : Type 0} → Pass → Pass → Result (Unit {0}) E → ℕ → ℕ → Step
-segments_merged old new result = step_of merge None None (merge_reply result) old new
+segments_merged old new result = step_of merge None None None (merge_reply result) old new
 
 -- ---- a pair is taken
 
@@ -91,7 +99,8 @@ pair_taken (Some name) reply pass = None
 
 -- The step of a command that takes such a pair.
 abbrev pub taking : Command → Option (ℕ × ℕ) → Reply → Pass → Pass → ℕ → ℕ → Step
-taking command took reply old new = step_of command took (option_map (λ pair. last_place new) took) reply old new
+taking command took reply old new =
+    step_of command took (option_map (λ pair. last_place new) took) None reply old new
 
 -- a hold takes the pair that it holds
 abbrev pub hold_took : {E : Type 0} → Result ℕ E → Pass → Option (ℕ × ℕ)

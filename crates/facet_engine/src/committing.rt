@@ -20,7 +20,7 @@ impl<D: Disk, N: Name + Start> System<D, N> {
     /// pair.
     ///
     /// Locks: that of the commits, for the whole call. In it, that of the operations and then that of the labels; both
-    /// are released before the disk is called, so adds and searches do not wait for the disk.
+    /// are released before the disk is called, so changes and searches do not wait for the disk.
     /// With `auto_merge` it first merges segments if there are too many, before it takes these locks. If memory is
     /// short for that, it merges none.
     ///

@@ -10,7 +10,6 @@ ghost use Rattle.commit_turns.specs.DiskStates.{state_of};
 ghost use Rattle.commit_turns.specs.Ending.{Lasts, FailsWith};
 ghost use Rattle.commit_turns.specs.Frames.{HasNumbers};
 ghost use Rattle.commit_turns.specs.Points.{count_after, last_of};
-ghost use Rattle.commit_turns.specs.Seen.{docs_of};
 ghost use Rattle.facet_engine.specs.Ending.{AreUpTo, ArePublished, NamesOwn};
 ghost use Rattle.facet_engine.specs.Notes.{noted, AreOf};
 ghost use Rattle.facet_engine.specs.Sessions.{HaveOneNumber, NamesSession};
@@ -27,7 +26,7 @@ use std::sync::Wait;
 use taxo_cache::Name;
 use taxo_list::Taxonomy;
 
-/// What sessions have added: the labels, and for each operation the number of its session, in order.
+/// What sessions have entered: the labels, and for each operation the number of its session, in order.
 #[derive(Drop)]
 pub struct Trace {
     /// All labels, with the root.
@@ -93,7 +92,7 @@ impl<D: Disk, N: Name + Start> System<D, N> {
         ensures lasts { (config : Config) (next moment faults failures : ℕ) → N.settled
             → config_texts config ≡ first.commits.frame.texts
             → HasNumbers next moment faults failures first.commits.frame
-            → Lasts D.Disk config moment (labels_of (noted result.notes)) (docs_of result.notes.operations.seen)
+            → Lasts D.Disk config moment (labels_of (noted result.notes)) (entries result.notes.operations.seen)
             (entries result.notes.commits.seen) result.disk }
 
         // Where there is no point of a commit but the opened one, nothing was written.

@@ -4,8 +4,8 @@ ghost use Rattle.facet_engine.specs.Sessions.{HaveOneNumber, HasSeen, NamesSessi
 use crate::held::HeldPairs;
 use pair_manager::Pass;
 
-/// A session: its number, its token of each chronicle, and the pairs that it holds. All operations that it adds have
-/// its number.
+/// A session: its number, its token of each chronicle, and the pairs that it holds. All operations that it enters
+/// have its number.
 ///
 /// Use each session on one thread at a time. Sessions on different threads work concurrently.
 #[derive(Drop)]

@@ -10,18 +10,18 @@ use Rattle.facet_names.specs.Paths.{path_eq}
 use Rattle.facet_names.proofs.LabelLists.{fresh}
 use Rattle.facet_model.specs.Accepts.{Broken, first_broken}
 use Rattle.facet_model.specs.Documents.{Doc}
-use Rattle.facet_model.specs.Histories.{knows}
+use Rattle.facet_model.specs.Histories.{Change, doc_of, knows}
 use Rattle.facet_words.specs.Commands.{Settings, Order}
-use Rattle.facet_output.specs.Effects.{Effect, adds, publishes, holds, releases, persists, merges, looks, effect, Report, report}
+use Rattle.facet_output.specs.Effects.{Effect, changes, publishes, holds, releases, persists, merges, looks, effect, Report, report}
 use Rattle.facet_output.specs.Held.{Held, held_after}
-use Rattle.facet_output.specs.OneSession.{LeavesFirst, AddLeaves, EffectLeaves, Leaves, AreExactLabels, OneSessionHasItsLabels, room, is_resolved}
+use Rattle.facet_output.specs.OneSession.{LeavesFirst, AddLeaves, ChangeLeaves, EffectLeaves, Leaves, AreExactLabels, OneSessionHasItsLabels, room, is_resolved}
 use Rattle.facet_output.specs.Output.{Opened}
 use Rattle.facet_replies.specs.Replies.{Reply, refused, no_memory}
-use Rattle.facet_output.specs.Replying.{IsAdded, IsResolved, IsRight, IsRightBy}
+use Rattle.facet_output.specs.Replying.{IsChanged, IsAdded, IsResolved, IsRight, IsRightBy}
 use Rattle.facet_output.specs.Seen.{Entries, Seen, Sees, IsTold, entered_by, opened_seen, labels_of, history_of}
 use Rattle.facet_output.specs.Sessions.{SessionRan, AllRan, steps_of, own_steps, is_by}
 use Rattle.facet_output.specs.Steps.{Step, IsStep, IsLastPair, IsEntered, IsEnteredBy, EntersPair}
-use Rattle.facet_output.specs.Reported.{brought, says_full, refreshed, refreshed_in}
+use Rattle.facet_output.specs.Reported.{has_prefix, prefixes_of, brought, says_full, refreshed, refreshed_in}
 use Rattle.facet_output.proofs.Among.{In, of_all, of_append}
 use Rattle.facet_output.proofs.Answers.{of_get_map}
 use Rattle.facet_output.proofs.Bringing.{full_added, labels_begin, opened_first}
@@ -111,15 +111,17 @@ module _ (settings : Settings) (phases : List (List Order)) (opened : Opened) (r
         absurd (none r.0.1 (enters (length x.before.labels) r.0.0 r.0.1 r.1 (omega arith)).0))
         (λ le. le) (cases_lt (length before) (length after))))
 
-    module _ (doc : Doc) (reply : Reply) (accepted : first_broken settings.config doc ≡ None) (enters : EachBy (adds doc)) where
+    module _ (change : Change) (doc : Doc) (reply : Reply) (accepted : first_broken settings.config doc ≡ None) (enters : EachBy (changes change)) (is_doc : doc_of change ≡ Some doc) where
       next_path : Enters after (once x until) before (flat_map prefixes doc.labels)
       next_path zero p le at = let s = labels_size x.before in absurd (omega arith)
       next_path (suc k) p le at =
           let s = labels_size x.before in
           let e = of_get_map (λ (e : ℕ × List (List ℕ)). e.1) x.after.labels k p at in
-          let is = subst (λ (q : List (List ℕ)). IsEnteredBy settings (adds doc) after k q) (sym e.2) (enters k e.0.0 e.0.1 e.1 (omega arith)) in (
-            (and_parts (is_none (first_broken settings.config doc)) (stands (flat_map prefixes doc.labels) p) is.0).1,
-            subst (λ (n : ℕ). skips_none (take n after) (flat_map prefixes doc.labels) p ≡ true) (let n : k + 1 ≡ suc k = omega arith in n) is.2,
+          let is = subst (λ (q : List (List ℕ)). IsEnteredBy settings (changes change) after k q) (sym e.2) (enters k e.0.0 e.0.1 e.1 (omega arith)) in
+          let has : has_prefix settings.config p (Some doc) ≡ true = subst (λ (d : Option Doc). has_prefix settings.config p d ≡ true) is_doc is.0 in
+          let skips : skips_none (take (k + 1) after) (prefixes_of (Some doc)) p ≡ true = subst (λ (d : Option Doc). skips_none (take (k + 1) after) (prefixes_of d) p ≡ true) is_doc is.2 in (
+            (and_parts (is_none (first_broken settings.config doc)) (stands (flat_map prefixes doc.labels) p) has).1,
+            subst (λ (n : ℕ). skips_none (take n after) (flat_map prefixes doc.labels) p ≡ true) (let n : k + 1 ≡ suc k = omega arith in n) skips,
           )
 
       high : length after ≤ room settings before
@@ -132,17 +134,17 @@ module _ (settings : Settings) (phases : List (List Order)) (opened : Opened) (r
               let r = get_there x.after.labels k (omega arith) in
               let limit = (enters k r.0.0 r.0.1 r.1 (omega arith)).1 in omega arith
 
-      resolved : (b : Bool) → knows after doc ≡ b → IsResolved settings after (history_of x.after) session doc b reply → is_resolved reply ≡ true → knows after doc ≡ true
+      resolved : (b : Bool) → knows after doc ≡ b → IsResolved settings after (history_of x.after) session change x.answered.saw b reply → is_resolved reply ≡ true → knows after doc ≡ true
       resolved true e r is = e
       resolved false e r is = let no_match : false ≡ true = sym (ap is_resolved r.1) ∙ is in absurd cc
 
-      leaves_first : IsAdded settings after (history_of x.after) session doc None reply ⊎ (reply ≡ refused no_memory) → LeavesFirst settings before doc reply after
+      leaves_first : IsAdded settings after (history_of x.after) session change x.answered.saw doc None reply ⊎ (reply ≡ refused no_memory) → LeavesFirst settings before doc reply after
       leaves_first right = record {
         first = first_missing after (once x until) (flat_map prefixes doc.labels) before begins next_path;
         low = prefix_length before after begins;
         high = high;
         full = λ says. (let enough : settings.max_labels ≤ length after = ⊎_elim
-            (λ r. full_added settings after (history_of x.after) held session x.answered.took reply says doc None r)
+            (λ r. full_added settings after (history_of x.after) session change x.answered.saw reply says doc None r)
             (λ lacks. let no_match : false ≡ true = sym (ap says_full lacks) ∙ says in absurd cc) right in
             let h = high in let l = prefix_length before after begins in omega arith);
         whole = λ is. ⊎_elim
@@ -150,14 +152,19 @@ module _ (settings : Settings) (phases : List (List Order)) (opened : Opened) (r
             (λ lacks. let no_match : false ≡ true = sym (ap is_resolved lacks) ∙ is in absurd cc) right;
       }
 
-    add_leaves : (doc : Doc) (reply : Reply) (o : Option Broken) → first_broken settings.config doc ≡ o → EachBy (adds doc) → IsAdded settings after (history_of x.after) session doc o reply ⊎ (reply ≡ refused no_memory) → AddLeaves settings before doc o reply after
-    add_leaves doc reply (Some b) e enters right = left (adds doc) enters (λ p brought.
-        let is = (and_parts (is_none (first_broken settings.config doc)) (stands (flat_map prefixes doc.labels) p) brought).0 in
+    add_leaves : (change : Change) (doc : Doc) (reply : Reply) (o : Option Broken) → first_broken settings.config doc ≡ o → EachBy (changes change) → doc_of change ≡ Some doc → IsAdded settings after (history_of x.after) session change x.answered.saw doc o reply ⊎ (reply ≡ refused no_memory) → AddLeaves settings before doc o reply after
+    add_leaves change doc reply (Some b) e enters is_doc right = left (changes change) enters (λ p brought.
+        let has : has_prefix settings.config p (Some doc) ≡ true = subst (λ (d : Option Doc). has_prefix settings.config p d ≡ true) is_doc brought in
+        let is = (and_parts (is_none (first_broken settings.config doc)) (stands (flat_map prefixes doc.labels) p) has).0 in
         let no_match : false ≡ true = sym (ap is_none e) ∙ is in absurd cc)
-    add_leaves doc reply None e enters right = leaves_first doc reply e enters right
+    add_leaves change doc reply None e enters is_doc right = leaves_first change doc reply e enters is_doc right
 
-    leaves : (e : Effect) (reply : Reply) → EachBy e → IsRightBy settings after (history_of x.after) held session e x.answered.order.command x.answered.took reply ⊎ (reply ≡ refused no_memory) → EffectLeaves settings before e reply after
-    leaves (adds doc) reply enters right = add_leaves doc reply (first_broken settings.config doc) refl enters right
+    change_leaves : (change : Change) (reply : Reply) (d : Option Doc) → doc_of change ≡ d → EachBy (changes change) → IsChanged settings after (history_of x.after) session change x.answered.saw d reply ⊎ (reply ≡ refused no_memory) → ChangeLeaves settings before d reply after
+    change_leaves change reply None is_doc enters right = left (changes change) enters (λ p brought. let no_match : false ≡ true = sym (ap (has_prefix settings.config p) is_doc) ∙ brought in absurd cc)
+    change_leaves change reply (Some doc) is_doc enters right = add_leaves change doc reply (first_broken settings.config doc) refl enters is_doc right
+
+    leaves : (e : Effect) (reply : Reply) → EachBy e → IsRightBy settings after (history_of x.after) held session e x.answered.order.command x.answered.took x.answered.saw reply ⊎ (reply ≡ refused no_memory) → EffectLeaves settings before e reply after
+    leaves (changes change) reply enters right = change_leaves change reply (doc_of change) refl enters right
     leaves publishes reply enters right = left publishes enters (λ p h. absurd cc)
     leaves (holds name) reply enters right = left (holds name) enters (λ p h. absurd cc)
     leaves (releases name) reply enters right = left (releases name) enters (λ p h. absurd cc)
@@ -167,7 +174,7 @@ module _ (settings : Settings) (phases : List (List Order)) (opened : Opened) (r
 
     pub step_leaves : Leaves settings before x.answered.order.command x.answered.reply after
     step_leaves = leaves (effect x.answered.order.command) x.answered.reply entered_at (⊎_elim
-        (λ right. inl (subst (λ (n : ℕ). IsRight settings after (history_of x.after) held n x.answered.order.command x.answered.took x.answered.reply) (own x there) right))
+        (λ right. inl (subst (λ (n : ℕ). IsRight settings after (history_of x.after) held n x.answered.order.command x.answered.took x.answered.saw x.answered.reply) (own x there) right))
         (λ lacks. inr lacks.1) step.right)
 
     refresh_left : (e : Effect) (said : Report) (n : ℕ) → refreshed_in e said ≡ Some n → EachBy e → after ≡ before

@@ -6,20 +6,20 @@ use Rattle.std.proofs.lemmas.Bool.{and_from, cases_lt}
 use mathlib.Core.List.{IsPrefix}
 use Rattle.facet_model.specs.Accepts.{Broken, first_broken}
 use Rattle.facet_model.specs.Documents.{Doc}
-use Rattle.facet_model.specs.Histories.{Operation, knows}
+use Rattle.facet_model.specs.Histories.{Change, Operation, doc_of, knows}
 use Rattle.facet_words.specs.Commands.{Settings, Command, Order}
 use Rattle.facet_output.specs.Effects.{Effect, effect, report}
 use Rattle.facet_replies.specs.Replies.{Reply, refused, no_memory}
 use Rattle.facet_output.specs.Answered.{Answered, comes_after}
 use Rattle.facet_output.specs.Held.{Held}
 use Rattle.facet_output.specs.Output.{Opened, is_brought, was_full}
-use Rattle.facet_output.specs.Replying.{IsAdded, IsResolved, IsRight, IsRightBy}
+use Rattle.facet_output.specs.Replying.{IsChanged, IsAdded, IsResolved, IsRight, IsRightBy}
 use Rattle.facet_output.specs.Reported.{brings, says_full, is_refused_for_labels}
 use Rattle.facet_output.specs.Seen.{Seen, Sees, opened_seen, labels_of, history_of}
 use Rattle.facet_output.specs.Steps.{Step, IsEntered}
 use Rattle.facet_output.specs.Sessions.{AllRan, steps_of, own_steps}
 use Rattle.facet_output.proofs.Chain.{sees_last, sees_trans}
-use Rattle.facet_output.proofs.Effects.{add_rejected}
+use Rattle.facet_output.proofs.Effects.{change_rejected}
 use Rattle.facet_output.proofs.Among.{In, all_in}
 use Rattle.facet_output.proofs.Answers.{answers, all_steps, any_step, in_drop, of_get_map}
 use Rattle.facet_output.proofs.Fresh.{implied}
@@ -27,24 +27,28 @@ use Rattle.facet_output.proofs.Fronts.{prefix_whole, map_prefix, take_prefix, ge
 use Rattle.facet_output.proofs.Known.{facts, after_sees, entered}
 use Rattle.chronicle.proofs.Prefixes.{prefix_length}
 
--- an add that is refused for labels has seen as many as there may be
-module _ (settings : Settings) (labels : List (List (List ℕ))) (history : List Operation) (held : Held) (session : ℕ) (took : Option (ℕ × ℕ)) (reply : Reply) (says : says_full reply ≡ true) where
-  full_resolved : (doc : Doc) (b : Bool) → IsResolved settings labels history session doc b reply → settings.max_labels ≤ length labels
-  full_resolved doc false r = r.0
-  full_resolved doc true r = ⊎_elim (λ p. let e : false ≡ true = sym (ap says_full p.3) ∙ says in absurd cc) (λ n. let e : false ≡ true = sym (ap says_full n.3) ∙ says in absurd cc) r
+-- a change that is refused for labels has seen as many as there may be
+module _ (settings : Settings) (labels : List (List (List ℕ))) (history : List Operation) (session : ℕ) (change : Change) (saw : Option ℕ) (reply : Reply) (says : says_full reply ≡ true) where
+  full_resolved : (b : Bool) → IsResolved settings labels history session change saw b reply → settings.max_labels ≤ length labels
+  full_resolved false r = r.0
+  full_resolved true r = ⊎_elim (λ p. let e : false ≡ true = sym (ap says_full p.3) ∙ says in absurd cc) (λ n. let e : false ≡ true = sym (ap says_full n.4) ∙ says in absurd cc) r
 
-  pub full_added : (doc : Doc) (o : Option Broken) → IsAdded settings labels history session doc o reply → settings.max_labels ≤ length labels
+  pub full_added : (doc : Doc) (o : Option Broken) → IsAdded settings labels history session change saw doc o reply → settings.max_labels ≤ length labels
   full_added doc (Some b) r = let e : false ≡ true = sym (ap says_full r) ∙ says in absurd cc
-  full_added doc None r = full_resolved doc (knows labels doc) r
+  full_added doc None r = full_resolved (knows labels doc) r
 
-pub full_size : (settings : Settings) (labels : List (List (List ℕ))) (history : List Operation) (held : Held) (session : ℕ) (took : Option (ℕ × ℕ)) (reply : Reply) (command : Command) → is_refused_for_labels command reply ≡ true
-    → IsRight settings labels history held session command took reply → settings.max_labels ≤ length labels
-full_size settings labels history held session took reply command says right =
-    let add = add_rejected (effect command) (report reply) says in
-    full_added settings labels history held session took reply add.2 add.0 (first_broken settings.config add.0) (subst (λ (e : Effect). IsRightBy settings labels history held session e command took reply) add.1 right)
+  full_changed : (d : Option Doc) → IsChanged settings labels history session change saw d reply → settings.max_labels ≤ length labels
+  full_changed None r = let e : false ≡ true = sym (ap says_full r.2) ∙ says in absurd cc
+  full_changed (Some doc) r = full_added doc (first_broken settings.config doc) r
+
+pub full_size : (settings : Settings) (labels : List (List (List ℕ))) (history : List Operation) (held : Held) (session : ℕ) (took : Option (ℕ × ℕ)) (saw : Option ℕ) (reply : Reply) (command : Command) → is_refused_for_labels command reply ≡ true
+    → IsRight settings labels history held session command took saw reply → settings.max_labels ≤ length labels
+full_size settings labels history held session took saw reply command says right =
+    let c = change_rejected (effect command) (report reply) says in
+    full_changed settings labels history session c.0 saw reply c.2 (doc_of c.0) (subst (λ (e : Effect). IsRightBy settings labels history held session e command took saw reply) c.1 right)
 
 lacks_memory : (command : Command) (reply : Reply) → is_refused_for_labels command reply ≡ true → reply ≡ refused no_memory → ⊥
-lacks_memory command reply says e = let no_match : false ≡ true = sym (ap says_full e) ∙ (add_rejected (effect command) (report reply) says).2 in cc
+lacks_memory command reply says e = let no_match : false ≡ true = sym (ap says_full e) ∙ (change_rejected (effect command) (report reply) says).2 in cc
 
 module _ (settings : Settings) (phases : List (List Order)) (opened : Opened) (ran : List (List Step)) (last : Seen) (all : AllRan settings phases opened ran last) where
   -- the first labels are the opened ones
@@ -120,7 +124,7 @@ module _ (settings : Settings) (phases : List (List Order)) (opened : Opened) (r
           let brings_it : brings settings.config label s.0.answered.order.command ≡ true = subst (λ (l : List (List ℕ)). brings settings.config l s.0.answered.order.command ≡ true) (sym e.2) s.3 in
           any_step (steps_of ran) (λ b. brings settings.config label b.order.command && passes b) s.0 s.1 (and_from _ _ brings_it (pass s.0 s.1 k s.2 lt))
 
-  -- after an add that was refused for labels there are no more
+  -- after a change that was refused for labels there are no more
   pub full_last : (x : Step) → In x (steps_of ran) → settings.max_labels ≤ length (labels_of x.after) → labels_of x.after ≡ labels_of last
   full_last x there full =
       let f = facts settings phases opened ran last all x there in
@@ -134,7 +138,7 @@ module _ (settings : Settings) (phases : List (List Order)) (opened : Opened) (r
       implied (is_refused_for_labels a.answered.order.command a.answered.reply) _ (λ says.
       let f = facts settings phases opened ran last all a there in
       let full : settings.max_labels ≤ length (labels_of a.after) = ⊎_elim
-      (λ right. full_size settings (labels_of a.after) (history_of a.after) f.2.0 a.answered.order.session a.answered.took a.answered.reply a.answered.order.command says right)
+      (λ right. full_size settings (labels_of a.after) (history_of a.after) f.2.0 a.answered.order.session a.answered.took a.answered.saw a.answered.reply a.answered.order.command says right)
       (λ lacks. absurd (lacks_memory a.answered.order.command a.answered.reply says lacks.1)) f.2.1.right in
       let whole = ap length (full_last a there full) in let s = labels_size a.after in let t = labels_size last in
       brought_if (λ b. not (comes_after b a.answered)) (λ x among k le lt. before (comes_after x.answered a.answered) (λ after.

@@ -7,18 +7,18 @@ use Rattle.std.proofs.lemmas.Bool.{and_from, le-leb}
 use mathlib.Core.List.{IsPrefix}
 use Rattle.facet_model.specs.Accepts.{Broken, first_broken}
 use Rattle.facet_model.specs.Documents.{Doc}
-use Rattle.facet_model.specs.Histories.{Operation, knows}
+use Rattle.facet_model.specs.Histories.{Change, Operation, doc_of, knows}
 use Rattle.facet_words.specs.Commands.{Settings, Command, Order}
-use Rattle.facet_output.specs.Effects.{Effect, adds, publishes, holds, releases, persists, merges, looks, effect, says_refused, for_memory, report}
+use Rattle.facet_output.specs.Effects.{Effect, changes, publishes, holds, releases, persists, merges, looks, effect, says_refused, for_memory, report}
 use Rattle.facet_output.specs.Answered.{comes_after}
 use Rattle.facet_output.specs.Held.{Held}
 use Rattle.facet_output.specs.Output.{Opened, has_shown, is_entered}
 use Rattle.facet_replies.specs.Replies.{Reply}
-use Rattle.facet_output.specs.Replying.{IsAdded, IsResolved, IsOf, IsLooked, IsRightBy, pair_seen}
+use Rattle.facet_output.specs.Replying.{IsChanged, IsAdded, IsResolved, IsOf, IsLooked, IsRightBy, pair_seen}
 use Rattle.facet_output.specs.Seen.{Seen, labels_of, history_of}
 use Rattle.facet_output.specs.Sessions.{AllRan, steps_of}
 use Rattle.facet_output.specs.Steps.{Step}
-use Rattle.facet_output.specs.Reported.{brings, paths_of, add_among, pair_among, report_among, labels_among}
+use Rattle.facet_output.specs.Reported.{brings, paths_of, add_among, change_among, pair_among, report_among, labels_among}
 use Rattle.facet_output.proofs.Among.{In, all_in}
 use Rattle.facet_output.proofs.Answers.{answers, all_steps, any_step, of_get_map}
 use Rattle.facet_output.proofs.Bringing.{labels_begin, label_entered, opened_size}
@@ -55,24 +55,28 @@ in_numbered n (suc m) (x ∷ xs) e there =
 
 -- ---- what a right reply has shown of the labels
 
-module _ (settings : Settings) (labels these : List (List (List ℕ))) (history : List Operation) (held : Held) (session : ℕ) (took : Option (ℕ × ℕ)) (reply : Reply) (begins : IsPrefix labels these) where
-  resolved_among : (doc : Doc) (b : Bool) → knows labels doc ≡ b → IsResolved settings labels history session doc b reply → add_among doc these (report reply) ≡ true
-  resolved_among doc false e r = subst (λ (q : Reply). add_among doc these (report q) ≡ true) (sym r.1) (le-leb (length labels) (length these) (prefix_length labels these begins))
-  resolved_among doc true e r = ⊎_elim
+module _ (settings : Settings) (labels these : List (List (List ℕ))) (history : List Operation) (held : Held) (session : ℕ) (took : Option (ℕ × ℕ)) (saw : Option ℕ) (reply : Reply) (begins : IsPrefix labels these) where
+  resolved_among : (change : Change) (doc : Doc) (b : Bool) → knows labels doc ≡ b → IsResolved settings labels history session change saw b reply → add_among doc these (report reply) ≡ true
+  resolved_among change doc false e r = subst (λ (q : Reply). add_among doc these (report q) ≡ true) (sym r.1) (le-leb (length labels) (length these) (prefix_length labels these begins))
+  resolved_among change doc true e r = ⊎_elim
       (λ p. subst (λ (q : Reply). add_among doc these (report q) ≡ true) (sym p.3) (still_knows labels these doc begins e))
-      (λ n. subst (λ (q : Reply). add_among doc these (report q) ≡ true) (sym n.3) (still_knows labels these doc begins e)) r
+      (λ n. subst (λ (q : Reply). add_among doc these (report q) ≡ true) (sym n.4) (still_knows labels these doc begins e)) r
 
-  added_among : (doc : Doc) (o : Option Broken) → IsAdded settings labels history session doc o reply → add_among doc these (report reply) ≡ true
-  added_among doc (Some b) r = subst (λ (q : Reply). add_among doc these (report q) ≡ true) (sym r) refl
-  added_among doc None r = resolved_among doc (knows labels doc) refl r
+  added_among : (change : Change) (doc : Doc) (o : Option Broken) → IsAdded settings labels history session change saw doc o reply → add_among doc these (report reply) ≡ true
+  added_among change doc (Some b) r = subst (λ (q : Reply). add_among doc these (report q) ≡ true) (sym r) refl
+  added_among change doc None r = resolved_among change doc (knows labels doc) refl r
+
+  changed_among : (change : Change) (d : Option Doc) → IsChanged settings labels history session change saw d reply → change_among d these (report reply) ≡ true
+  changed_among change None r = refl
+  changed_among change (Some doc) r = added_among change doc (first_broken settings.config doc) r
 
   of_among : (command : Command) (o : Option (ℕ × ℕ)) (on : Option (List ℕ)) → ((pair : ℕ × ℕ) → o ≡ Some pair → pair.1 ≤ length labels) → IsOf (λ pair r. IsLooked settings labels history command pair r) o on reply → pair_among these (report reply) ≡ true
   of_among command (Some pair) on seen r = let l = seen pair refl in let m = prefix_length labels these begins in (looked settings labels history pair reply command r).among these (omega arith)
   of_among command None (Some name) seen r = subst (λ (q : Reply). pair_among these (report q) ≡ true) (sym r) refl
   of_among command None None seen r = absurd r
 
-  right_among : (e : Effect) (command : Command) → ((on : Option (List ℕ)) (pair : ℕ × ℕ) → pair_seen held took on ≡ Some pair → pair.1 ≤ length labels) → IsRightBy settings labels history held session e command took reply → report_among these e (report reply) ≡ true
-  right_among (adds doc) command seen right = added_among doc (first_broken settings.config doc) right
+  right_among : (e : Effect) (command : Command) → ((on : Option (List ℕ)) (pair : ℕ × ℕ) → pair_seen held took on ≡ Some pair → pair.1 ≤ length labels) → IsRightBy settings labels history held session e command took saw reply → report_among these e (report reply) ≡ true
+  right_among (changes change) command seen right = changed_among change (doc_of change) right
   right_among publishes command seen right = refl
   right_among (holds name) command seen right = refl
   right_among (releases name) command seen right = refl
@@ -81,7 +85,11 @@ module _ (settings : Settings) (labels these : List (List (List ℕ))) (history 
   right_among (looks on) command seen right = of_among command (pair_seen held took on) on (seen on) right
 
 lacks_among : (these : List (List (List ℕ))) (e : Effect) → report_among these e (says_refused for_memory) ≡ true
-lacks_among these (adds doc) = refl
+lacks_among these (changes change) = by (doc_of change)
+  where
+    by : (d : Option Doc) → change_among d these (says_refused for_memory) ≡ true
+    by None = refl
+    by (Some doc) = refl
 lacks_among these publishes = refl
 lacks_among these (holds name) = refl
 lacks_among these (releases name) = refl
@@ -97,7 +105,7 @@ module _ (settings : Settings) (phases : List (List Order)) (opened : Opened) (r
       let step = f.2.1 in
       and_from _ _
       (⊎_elim
-      (λ right. right_among settings (labels_of x.after) these (history_of x.after) f.2.0 x.answered.order.session x.answered.took x.answered.reply begins (effect x.answered.order.command) x.answered.order.command
+      (λ right. right_among settings (labels_of x.after) these (history_of x.after) f.2.0 x.answered.order.session x.answered.took x.answered.saw x.answered.reply begins (effect x.answered.order.command) x.answered.order.command
       (λ on pair e. let l = (pair_in settings f.2.0 x on pair step f.2.2 e).1 in let s = labels_size x.after in omega arith) right)
       (λ lacks. subst (λ (q : Reply). report_among these (effect x.answered.order.command) (report q) ≡ true) (sym lacks.1) (lacks_among these (effect x.answered.order.command))) step.right)
       (by_place x.answered.place (λ k e. by_entry (slice_get last.pairs k) (λ g at. let l = pair_labels settings phases opened ran last all x there k e g at in let m = prefix_length (labels_of x.after) these begins in le-leb g.1.1 (length these) (omega arith))))

@@ -6,18 +6,17 @@ use Rattle.std.specs.Option.{option_map_or}
 use Rattle.std.proofs.lemmas.Bool.{and_parts, and_from, or_cases, or_left, or_right, leb-true, ltb-true, eqb-true, eq-eqb, lt-ltb, both_ways}
 use Rattle.std.proofs.lemmas.List.{length-drop, length-take, length-map}
 use Rattle.std.proofs.lemmas.List.Elements.{filter_map-append}
-use Rattle.facet_model.specs.Histories.{Operation}
+use Rattle.facet_model.specs.Histories.{Operation, add}
 use Rattle.facet_model.specs.CoreStates.{is_same_pair}
-use Rattle.facet_words.specs.Commands.{Settings, Command, Order}
-use Rattle.facet_replies.specs.Replies.{Reply}
+use Rattle.facet_words.specs.Commands.{Settings, Order}
 use Rattle.facet_output.specs.Effects.{effect, report}
 use Rattle.facet_output.specs.Answered.{Answered, is_of, of_session, comes_after, may_come_after}
 use Rattle.facet_output.specs.OneSession.{after_placing, AreExact, OneSessionIsExact, OneSessionAPhaseIsExact}
 use Rattle.facet_output.specs.Output.{Opened, IsOutput, is_fresh, has_source}
 use Rattle.facet_words.specs.ScriptOrder.{lines_rise}
-use Rattle.facet_output.specs.Reported.{placed_by, placed_operation, shown_in, shows, stood, stood_in, stood_by, refreshed, refreshed_by, is_number}
+use Rattle.facet_output.specs.Reported.{placed_operation, shown_in, shows, stood, stood_in, refreshed, is_number}
 use Rattle.facet_output.proofs.Among.{In, of_all, in_filter, of_filter, in_left, in_right, in_map, of_append, of_any}
-use Rattle.facet_output.proofs.Effects.{add_placed, refresh_only}
+use Rattle.facet_output.proofs.Effects.{change_placed, refresh_only}
 use Rattle.facet_output.proofs.Fresh.{stood_shown, implied_so}
 use Rattle.facet_output.proofs.Fronts.{get_there}
 use Rattle.facet_output.proofs.Known.{after_parts}
@@ -105,13 +104,13 @@ module _ {A B : Type 0} (f : A → Option B) where
       by (Some p) e rest = ((λ q there. let r = of_kept xs q there in so x r.0 p q (inl refl) (inr r.1) (later.0 r.0 r.1) e r.2), rest)
 
 -- a placed operation shows itself and all before it, and stood at its place
-placed_shows : (session : ℕ) (command : Command) (reply : Reply) (p : ℕ × Operation) → placed_by session command reply ≡ Some p → (shows reply ≡ p.0 + 1) × (stood_by command reply ≡ Some p.0)
-placed_shows session command reply p e =
-    let add = add_placed session (effect command) (report reply) p e in
-    (ap shown_in add.2, λ i. stood_in (add.1 i) (add.2 i))
+placed_shows : (a : Answered) (p : ℕ × Operation) → placed_operation a ≡ Some p → (shows a ≡ p.0 + 1) × (stood a ≡ Some p.0)
+placed_shows a p e =
+    let c = change_placed a.order.session (effect a.order.command) (report a.reply) p e in
+    (ap (shown_in a.saw) c.2, λ i. stood_in (c.1 i) a.saw (c.2 i))
 
-pub refreshed_stood : (command : Command) (reply : Reply) (n : ℕ) → refreshed_by command reply ≡ Some n → stood_by command reply ≡ Some n
-refreshed_stood command reply n e = let r = refresh_only (effect command) (report reply) n e in λ i. stood_in (r.0 i) (r.1 i)
+pub refreshed_stood : (a : Answered) (n : ℕ) → refreshed a ≡ Some n → stood a ≡ Some n
+refreshed_stood a n e = let r = refresh_only (effect a.order.command) (report a.reply) n e in λ i. stood_in (r.0 i) a.saw (r.1 i)
 
 other_way : (n m : ℕ) → eqb n m ≡ false → eqb m n ≡ false
 other_way n m no_match = ne_eqb m n (λ e. both_ways (eqb n m) no_match (eq-eqb n m (sym e)))
@@ -168,15 +167,15 @@ module _ (settings : Settings) (phases : List (List Order)) (opened : Opened) (l
 
   size : length history ≡ first + length rest
   size =
-      let front = ap length o.opened_docs ∙ length-map opened.docs (λ doc. record { session = 0; doc = doc }) in
+      let front = ap length o.opened_docs ∙ length-map opened.docs (λ doc. record { session = 0; change = add doc }) in
       let t = length-take first history in let d = length-drop first history in omega arith
 
-  fresh_at : (a : Answered) → In a answered → (n : ℕ) → stood a ≡ Some n → (first ≤ n) × (n ≤ length history) × ((b : Answered) → In b answered → comes_after a b ≡ true → shows b.reply ≤ n)
+  fresh_at : (a : Answered) → In a answered → (n : ℕ) → stood a ≡ Some n → (first ≤ n) × (n ≤ length history) × ((b : Answered) → In b answered → comes_after a b ≡ true → shows b ≤ n)
   fresh_at a there n e =
       let f = wanted (is_fresh first (length history) answered a) (stood a) n (of_all (λ a. option_map_or (is_fresh first (length history) answered a) (stood a) true) answered a o.fresh there) e in
-      let p = and_parts (nat_le first n && nat_le n (length history)) (list_all (λ b. not (comes_after a b) || nat_le (shows b.reply) n) answered) f in
+      let p = and_parts (nat_le first n && nat_le n (length history)) (list_all (λ b. not (comes_after a b) || nat_le (shows b) n) answered) f in
       let q = and_parts (nat_le first n) (nat_le n (length history)) p.0 in
-      (leb-true first n q.0, leb-true n (length history) q.1, λ b among after. leb-true (shows b.reply) n (implied_so (comes_after a b) (nat_le (shows b.reply) n) (of_all (λ b. not (comes_after a b) || nat_le (shows b.reply) n) answered b p.1 among) after))
+      (leb-true first n q.0, leb-true n (length history) q.1, λ b among after. leb-true (shows b) n (implied_so (comes_after a b) (nat_le (shows b) n) (of_all (λ b. not (comes_after a b) || nat_le (shows b) n) answered b p.1 among) after))
 
   -- those that were placed, with their places
   abbrev placed : List (ℕ × Operation)
@@ -196,8 +195,8 @@ module _ (settings : Settings) (phases : List (List Order)) (opened : Opened) (l
 
   placed_rising : Later IsLess placed
   placed_rising = kept_later placed_operation IsLater IsLess answered (λ a b p q there there' after at at'.
-      let shown = (placed_shows a.order.session a.order.command a.reply p at).0 in
-      let l = (fresh_at b there' q.0 (placed_shows b.order.session b.order.command b.reply q at').1).2 a there after in omega arith) in_order
+      let shown = (placed_shows a p at).0 in
+      let l = (fresh_at b there' q.0 (placed_shows b q at').1).2 a there after in omega arith) in_order
 
   -- the placed operations are all behind the opened ones, with their places
   placed_all : filter_map placed_operation answered ≡ enumerate_from first rest
@@ -235,13 +234,13 @@ module _ (settings : Settings) (phases : List (List Order)) (opened : Opened) (l
     last_shown : (n : ℕ) → stood a ≡ Some n → first + placed_in done ≤ n
     last_shown n s = let f = fresh_at a (in_later a (inl refl)) n s in by (placed_in done) refl f.0 f.2
       where
-        by : (k : ℕ) → placed_in done ≡ k → first ≤ n → ((b : Answered) → In b answered → comes_after a b ≡ true → shows b.reply ≤ n) → first + placed_in done ≤ n
+        by : (k : ℕ) → placed_in done ≡ k → first ≤ n → ((b : Answered) → In b answered → comes_after a b ≡ true → shows b ≤ n) → first + placed_in done ≤ n
         by zero size low each = omega arith
         by (suc k) size low each =
             let r = get_there (filter_map placed_operation done) k (omega arith) in
             let b = of_filter_map placed_operation done k r.0 r.1 in
             let at : r.0.0 ≡ first + k = numbered_at first rest k r.0 (subst (λ (l : List (ℕ × Operation)). slice_get l k ≡ Some r.0) parts (get_front (filter_map placed_operation done) (filter_map placed_operation (a ∷ later)) k r.0 r.1)) in
-            let shown = (placed_shows b.0.order.session b.0.order.command b.0.reply r.0 b.2).0 in
+            let shown = (placed_shows b.0 r.0 b.2).0 in
             let l = each b.0 (in_done b.0 b.1) (before b.0 b.1) in omega arith
 
     not_above : (n : ℕ) → stood a ≡ Some n → n ≤ first + placed_in done
@@ -256,11 +255,11 @@ module _ (settings : Settings) (phases : List (List Order)) (opened : Opened) (l
             let at : slice_get (filter_map placed_operation (a ∷ later)) 0 ≡ Some p = ap (λ (l : List (ℕ × Operation)). slice_get l 0) some in
             let next = next_at p at in
             let b = of_filter_map placed_operation (a ∷ later) 0 p at in
-            let placed = placed_shows b.0.order.session b.0.order.command b.0.reply p b.2 in
+            let placed = placed_shows b.0 p b.2 in
             ⊎_elim
             (λ is. let same : Some n ≡ Some p.0 = sym s ∙ (λ i. stood (sym is i)) ∙ placed.1 in let f : n ≡ p.0 = ap (λ (q : Option ℕ). unwrap_or q n) same in omega arith)
             (λ there. let f = (fresh_at b.0 (in_later b.0 b.1) p.0 placed.1).2 a (in_later a (inl refl)) (behind b.0 there) in
-            let g = stood_shown a.order.command a.reply n s in omega arith) b.1
+            let g = stood_shown a n s in omega arith) b.1
 
     exact_at : (n : ℕ) → stood a ≡ Some n → n ≡ first + placed_in done
     exact_at n s = let l = last_shown n s in let m = not_above n s in omega arith
@@ -314,7 +313,7 @@ module _ (settings : Settings) (phases : List (List Order)) (opened : Opened) (l
           let r = of_any (λ b. is_number pair.0 (refreshed b) && may_come_after a b) answered some in
           let q = and_parts (is_number pair.0 (refreshed r.0)) (may_come_after a r.0) r.2 in
           let is_it = of_number pair.0 (refreshed r.0) q.0 in
-          let low = (fresh_at r.0 r.1 pair.0 (refreshed_stood r.0.order.command r.0.reply pair.0 is_it)).0 in
+          let low = (fresh_at r.0 r.1 pair.0 (refreshed_stood r.0 pair.0 is_it)).0 in
           ⊎_elim
           (λ here. (low, is.newest r.0 here pair.0 is_it))
           (λ behind_or. ⊎_elim
@@ -351,7 +350,7 @@ module _ (settings : Settings) (phases : List (List Order)) (opened : Opened) (l
         source = ⊎_elim (λ s. inl s) (λ s. inr (s.0, in_left done (a ∷ []) s.0 s.1, s.2)) is.source;
       }
       by (Some n) r =
-          let at = exact_at done a later e n (refreshed_stood a.order.command a.reply n r) in record {
+          let at = exact_at done a later e n (refreshed_stood a n r) in record {
             low = (let l = is.low in let h = is.high in omega arith);
             high = (let m = more in omega arith);
             newest = λ b there k f. ⊎_elim

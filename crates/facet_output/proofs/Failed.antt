@@ -8,7 +8,7 @@ use Rattle.facet_output.specs.Answered.{Answered, of_session}
 use Rattle.facet_output.specs.Replying.{RightReplies}
 use Rattle.facet_output.specs.Output.{IsOutput, pairs_of}
 use Rattle.facet_model.proofs.Samples.{author, doc, bob, lisa}
-use Rattle.facet_output.proofs.Samples.{empty_store, plain_settings, order, answer, answer_at, by_one, each_session, bobs_labels}
+use Rattle.facet_output.proofs.Samples.{empty_store, plain_settings, order, answer, answer_at, answer_seeing, by_one, each_session, bobs_labels}
 use Rattle.facet_output.proofs.Holding.{labels, history}
 use Rattle.facet_output.proofs.Refuted.{three_labels}
 use Rattle.facet_output.proofs.PairTests.{pairs_from, places_from}
@@ -82,13 +82,13 @@ abbrev one_document : Settings
 one_document = record three_labels { max_docs = 1 }
 
 abbrev full_answers : List Answered
-full_answers = answer 2 (add year) None (refused (labels_full 3)) ∷ answer 3 (add bob) None (placed 0) ∷ answer 4 (add bob) None (refused (docs_full 1)) ∷ []
+full_answers = answer 2 (add year) None (refused (labels_full 3)) ∷ answer 3 (add bob) None (placed 0) ∷ answer_seeing 1 4 (add bob) (refused (docs_full 1)) ∷ []
 
 full_output : IsOutput one_document full_phases empty_store bobs_labels (by_one bob ∷ []) ((0, (0, 1)) ∷ []) full_answers
 full_output = record {
   asked = refl;
   replies = each_session (λ s. RightReplies one_document bobs_labels (by_one bob ∷ []) [] (of_session s full_answers))
-      (inl (omega arith, refl), (inl (inl (0, refl, omega arith, refl)), (inl (inr (1, omega arith, omega arith, refl)), tt))) (λ s e. rw e tt);
+      (inl (omega arith, refl), (inl (inl (0, refl, omega arith, refl)), (inl (inr (1, refl, omega arith, omega arith, refl)), tt))) (λ s e. rw e tt);
   label_list = refl;
   opened_labels = refl;
   label_limit = omega arith;

@@ -8,7 +8,7 @@ use Rattle.std.proofs.lemmas.List.Sums.{sum_by-cons}
 use mathlib.Core.List.{IsPrefix}
 use Rattle.facet_model.specs.Histories.{Operation}
 use Rattle.facet_words.specs.Commands.{Settings, Command, Order, commit}
-use Rattle.facet_output.specs.Effects.{Effect, adds, publishes, holds, releases, persists, merges, looks, effect, Report, says_placed, says_number, says_pair, says_refused, for_labels, for_docs, for_disk, for_closed, for_numbers, for_memory, for_other, says_nothing, report}
+use Rattle.facet_output.specs.Effects.{Effect, changes, publishes, holds, releases, persists, merges, looks, effect, Report, says_placed, says_number, says_pair, says_refused, for_labels, for_docs, for_disk, for_closed, for_numbers, for_memory, for_other, says_nothing, report}
 use Rattle.facet_replies.specs.Replies.{no_memory, Reply, numbered, refused}
 use Rattle.facet_output.specs.Answered.{Answered, comes_after, may_come_after}
 use Rattle.facet_output.specs.Held.{Held}
@@ -100,7 +100,7 @@ commit_entered n least c (says_refused for_other) old new k p enters ge at e = a
 
 points_entered : (n least c : ℕ) (e : Effect) (said : Report) (old new : Entries CommitPoint) (k : ℕ) (p : CommitPoint) → EntersBy n least e said old new → length old ≤ k → slice_get new k ≡ Some (n, p) → p.failed ≡ Some c → of_commit failed_in e said ≡ Some c
 points_entered n least c persists said old new k p enters ge at h = commit_entered n least c said old new k p enters ge at h
-points_entered n least c (adds doc) said old new k p enters ge at h = absurd (none_entered n old new k p enters ge at)
+points_entered n least c (changes change) said old new k p enters ge at h = absurd (none_entered n old new k p enters ge at)
 points_entered n least c publishes said old new k p enters ge at h = absurd (none_entered n old new k p enters ge at)
 points_entered n least c (holds name) said old new k p enters ge at h = absurd (none_entered n old new k p enters ge at)
 points_entered n least c (releases name) said old new k p enters ge at h = absurd (none_entered n old new k p enters ge at)
@@ -278,13 +278,13 @@ module _ (settings : Settings) (phases : List (List Order)) (opened : Opened) (r
       let was : In c (failures b.before.commits) = fails_in b.before.commits r.0 r.1 c r.2 (prefix_get a.after.commits b.before.commits r.0 (r.1, r.2) sees.commits r.3) r.4 in
       by b was f.2.0 (effect b.answered.order.command) b.answered.reply f.2.1.commits (right_or f.2.0 f.2.1)
     where
-      right_or : (held : Held) → IsStep settings held b → IsRight settings (labels_of b.after) (history_of b.after) held b.answered.order.session b.answered.order.command b.answered.took b.answered.reply ⊎ (b.answered.reply ≡ refused no_memory)
+      right_or : (held : Held) → IsStep settings held b → IsRight settings (labels_of b.after) (history_of b.after) held b.answered.order.session b.answered.order.command b.answered.took b.answered.saw b.answered.reply ⊎ (b.answered.reply ≡ refused no_memory)
       right_or held step = ⊎_elim (λ r. inl r) (λ lacks. inr lacks.1) step.right
 
       by : (b : Step) → In c (failures b.before.commits) → (held : Held) (e : Effect) (reply : Reply) → EntersBy b.answered.order.session (length (labels_of b.before)) e (report reply) b.before.commits b.after.commits
-          → IsRightBy settings (labels_of b.after) (history_of b.after) held b.answered.order.session e b.answered.order.command b.answered.took reply ⊎ (reply ≡ refused no_memory) → commit_reports c e (report reply) ≡ true
+          → IsRightBy settings (labels_of b.after) (history_of b.after) held b.answered.order.session e b.answered.order.command b.answered.took b.answered.saw reply ⊎ (reply ≡ refused no_memory) → commit_reports c e (report reply) ≡ true
       by b was held persists reply enters right = told_after b.answered.order.session (length (labels_of b.before)) c b.before.commits b.after.commits was (history_of b.after) reply enters right
-      by b was held (adds doc) reply enters right = refl
+      by b was held (changes change) reply enters right = refl
       by b was held publishes reply enters right = refl
       by b was held (holds name) reply enters right = refl
       by b was held (releases name) reply enters right = refl

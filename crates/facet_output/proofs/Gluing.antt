@@ -8,8 +8,7 @@ use Rattle.std.proofs.lemmas.List.Elements.{All-nil, All-cons, All-head, All-tai
 use Rattle.std.proofs.lemmas.List.Folds.{list_all-append}
 use mathlib.Core.List.{IsPrefix}
 use Rattle.facet_names.specs.Labels.{IsLabelList}
-use Rattle.facet_model.specs.Documents.{Doc}
-use Rattle.facet_model.specs.Histories.{are_publications}
+use Rattle.facet_model.specs.Histories.{Change, are_publications}
 use Rattle.facet_words.specs.Commands.{Settings, Order}
 use Rattle.facet_output.specs.Answered.{by_session}
 use Rattle.facet_output.specs.Held.{Held, held_after}
@@ -166,12 +165,12 @@ all_front P xs ys begins all = all_by P xs (λ x there. all_at P ys x all (subst
 
 -- under a number that was not given yet nothing is entered
 pub unused : (given n : ℕ) (a b : Seen) → Sees a b → given < n
-    → All (λ (e : ℕ × List (List ℕ)). e.0 ≤ given) b.labels → All (λ (e : ℕ × Doc). e.0 ≤ given) b.operations → All (λ (e : ℕ × (ℕ × ℕ)). e.0 ≤ given) b.pairs → All (λ (e : ℕ × CommitPoint). e.0 ≤ given) b.commits
+    → All (λ (e : ℕ × List (List ℕ)). e.0 ≤ given) b.labels → All (λ (e : ℕ × Change). e.0 ≤ given) b.operations → All (λ (e : ℕ × (ℕ × ℕ)). e.0 ≤ given) b.pairs → All (λ (e : ℕ × CommitPoint). e.0 ≤ given) b.commits
     → IsTold n a b
 unused given n a b sees above labels operations pairs commits = record {
   sees = sees;
   labels = none_above given n b.labels labels above ∙ sym (none_above given n a.labels (all_front (λ (e : ℕ × List (List ℕ)). e.0 ≤ given) a.labels b.labels sees.labels labels) above);
-  operations = none_above given n b.operations operations above ∙ sym (none_above given n a.operations (all_front (λ (e : ℕ × Doc). e.0 ≤ given) a.operations b.operations sees.operations operations) above);
+  operations = none_above given n b.operations operations above ∙ sym (none_above given n a.operations (all_front (λ (e : ℕ × Change). e.0 ≤ given) a.operations b.operations sees.operations operations) above);
   pairs = none_above given n b.pairs pairs above ∙ sym (none_above given n a.pairs (all_front (λ (e : ℕ × (ℕ × ℕ)). e.0 ≤ given) a.pairs b.pairs sees.pairs pairs) above);
   commits = none_above given n b.commits commits above ∙ sym (none_above given n a.commits (all_front (λ (e : ℕ × CommitPoint). e.0 ≤ given) a.commits b.commits sees.commits commits) above);
 }

@@ -3,7 +3,7 @@ use Rattle.std.proofs.Common.{◌≡◌, inl, inr, ⊎_elim, ℕ, ◌+◌, ◌�
 use Rattle.std.specs.Prelude.{not, IfSome}
 use Rattle.std.specs.Str.{bytes_eq}
 use Rattle.facet_words.specs.Commands.{Settings}
-use Rattle.facet_output.specs.Effects.{Effect, adds, publishes, holds, releases, persists, merges, looks, effect}
+use Rattle.facet_output.specs.Effects.{Effect, changes, publishes, holds, releases, persists, merges, looks, effect}
 use Rattle.facet_output.specs.Held.{Held, held_under, held_after, after_effect, is_numbered}
 use Rattle.facet_output.specs.Replying.{pair_seen}
 use Rattle.facet_output.specs.Seen.{Seen, Sees, labels_of}
@@ -39,7 +39,7 @@ effect_held (holds name) None held seen new within h there = ⊎_elim (λ old. w
 effect_held (holds name) (Some pair) held seen new within h there = ⊎_elim (λ old. within h old)
     (λ last. ⊎_elim (λ is. subst (λ (g : List ℕ × (ℕ × ℕ)). PairIn g.1 seen) (sym is) new) (λ none. absurd none) last) (of_append held ((name, pair) ∷ []) h there)
 effect_held (releases name) took held seen new within h there = within h (of_filter (λ (g : List ℕ × (ℕ × ℕ)). not (bytes_eq g.0 name)) held h there).0
-effect_held (adds doc) took held seen new within h there = within h there
+effect_held (changes change) took held seen new within h there = within h there
 effect_held publishes took held seen new within h there = within h there
 effect_held persists took held seen new within h there = within h there
 effect_held merges took held seen new within h there = within h there

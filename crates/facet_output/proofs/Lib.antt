@@ -34,6 +34,7 @@ pub mod Growing
 pub mod Alone
 pub mod Served
 pub mod Failed
+pub mod Changing
 pub mod Merging
 pub mod Entering
 pub mod Places

@@ -1,6 +1,6 @@
 -- A reply that is right of what a session had seen is right of what there is at the end.
-use Rattle.std.proofs.Common.{◌≡◌, inl, inr, ⊎_elim, ℕ, ◌≤◌, Bool, true, false, List, [], ◌∷◌, ◌++◌, length, map, Option, Some, None, slice_get, refl, sym, ap, ◌∙◌, subst, arith}
-use Rattle.std.specs.Prelude.{drop, unwrap_or}
+use Rattle.std.proofs.Common.{◌≡◌, inl, inr, ⊎_elim, ℕ, ◌≤◌, ◌<◌, Bool, true, false, List, [], ◌∷◌, ◌++◌, length, map, Option, Some, None, slice_get, refl, sym, ap, ◌∙◌, subst, arith}
+use Rattle.std.specs.Prelude.{take, drop, unwrap_or}
 use Rattle.std.specs.List.{list_all}
 use Rattle.std.proofs.lemmas.List.{length-map}
 use mathlib.Core.List.{IsPrefix}
@@ -8,16 +8,16 @@ use Rattle.facet_names.specs.Labels.{IsLabelList, stands, place, prefixes}
 use Rattle.facet_names.proofs.LabelLists.{place_at, label_at, still_stands}
 use Rattle.facet_model.specs.Accepts.{Broken, first_broken}
 use Rattle.facet_model.specs.Documents.{Doc}
-use Rattle.facet_model.specs.Histories.{Operation, docs, knows}
+use Rattle.facet_model.specs.Histories.{Change, Operation, left_by, docs, doc_of, knows}
 use Rattle.facet_model.proofs.Fronts.{weaker}
 use Rattle.facet_words.specs.Answers.{ranged_of, IsSummed}
 use Rattle.facet_words.specs.Commands.{Settings, Command, Order, add, refresh, hold, release, search, ranges, sums, document, stats, commit, merge}
-use Rattle.facet_replies.specs.Replies.{Reply, stats as numbers}
+use Rattle.facet_replies.specs.Replies.{Reply, refused, docs_full, stats as numbers}
 use Rattle.facet_output.specs.Answered.{Answered, of_session}
-use Rattle.facet_output.specs.Effects.{Effect, adds, publishes, holds, releases, persists, merges, looks, effect}
+use Rattle.facet_output.specs.Effects.{Effect, changes, publishes, holds, releases, persists, merges, looks, effect}
 use Rattle.facet_output.specs.Held.{Held, held_after}
 use Rattle.facet_output.specs.Output.{Opened}
-use Rattle.facet_output.specs.Replying.{IsAdded, IsResolved, IsOf, IsFound, IsShown, IsLooked, IsRightBy, RightReply, RightReplies, IsCommitted, Counts, pair_seen, docs_of, first_refused}
+use Rattle.facet_output.specs.Replying.{IsOperation, IsPlaced, HasNoRoom, IsChanged, IsAdded, IsResolved, IsOf, IsFound, IsShown, IsLooked, IsRightBy, RightReply, RightReplies, IsCommitted, Counts, pair_seen, docs_of, first_refused}
 use Rattle.facet_output.specs.Seen.{Seen, Sees, opened_seen, labels_of, history_of}
 use Rattle.facet_output.specs.Steps.{Step, IsStep}
 use Rattle.facet_output.specs.Sessions.{SessionRan, AllRan, steps_of, own_steps, is_by}
@@ -25,7 +25,7 @@ use Rattle.facet_output.proofs.Among.{In, of_filter}
 use Rattle.facet_output.proofs.Answers.{answers}
 use Rattle.facet_output.proofs.Bringing.{full_last, labels_begin}
 use Rattle.facet_output.proofs.Chain.{sees_last}
-use Rattle.facet_output.proofs.Fronts.{map_prefix, take_prefix}
+use Rattle.facet_output.proofs.Fronts.{map_prefix, take_prefix, get_below}
 use Rattle.facet_output.proofs.HeldPairs.{HeldIn, held_more, held_step, pair_in}
 use Rattle.facet_output.proofs.Placing.{own_answers}
 use Rattle.chronicle.proofs.Prefixes.{prefix_length, prefix_get}
@@ -51,17 +51,36 @@ still_places labels all (p ∷ paths) (k ∷ ordinals) begins is e =
 
 -- ---- a reply
 
-module _ (settings : Settings) (labels all : List (List (List ℕ))) (history whole : List Operation) (held : Held) (session : ℕ) (took : Option (ℕ × ℕ)) (reply : Reply)
+module _ (settings : Settings) (labels all : List (List (List ℕ))) (history whole : List Operation) (held : Held) (session : ℕ) (took : Option (ℕ × ℕ)) (saw : Option ℕ) (reply : Reply)
     (begins : IsPrefix labels all) (grows : IsPrefix history whole) (is : IsLabelList all) (full : settings.max_labels ≤ length labels → labels ≡ all) where
-  lifted_resolved : (doc : Doc) (b : Bool) → knows labels doc ≡ b → IsResolved settings labels history session doc b reply → IsResolved settings all whole session doc (knows all doc) reply
-  lifted_resolved doc false e r = subst (λ (l : List (List (List ℕ))). IsResolved settings l whole session doc (knows l doc) reply) (full r.0) (rw e r)
-  lifted_resolved doc true e r = let k : knows all doc ≡ true = still_knows labels all doc begins e in rw k (⊎_elim
-      (λ p. inl (p.0, prefix_get history whole p.0 (record { session = session; doc = doc }) grows p.1, p.2, p.3))
-      (λ n. inr (n.0, (let l = prefix_length history whole grows in let m = n.1 in omega arith), n.2, n.3)) r)
+  -- the first operations leave the same documents
+  left_so : (change : Change) (n : ℕ) → n ≤ length history → left_by change (docs (take n history)) ≡ left_by change (docs (take n whole))
+  left_so change n le = ap (λ (os : List Operation). left_by change (docs os)) (sym (take_prefix history whole n grows le))
 
-  lifted_added : (doc : Doc) (o : Option Broken) → IsAdded settings labels history session doc o reply → IsAdded settings all whole session doc o reply
-  lifted_added doc (Some b) r = r
-  lifted_added doc None r = lifted_resolved doc (knows labels doc) refl r
+  lifted_operation : (change : Change) (at : ℕ) → IsOperation history session change at → IsOperation whole session change at
+  lifted_operation change at is = prefix_get history whole at (record { session = session; change = change }) grows is
+
+  lifted_placed : (change : Change) → IsPlaced settings history session change reply → IsPlaced settings whole session change reply
+  lifted_placed change p =
+      let lt = get_below history p.0 (record { session = session; change = change }) p.1 in
+      (p.0, lifted_operation change p.0 p.1, subst (λ (ds : List Doc). length ds < settings.max_docs) (left_so change p.0 (omega arith)) p.2, p.3)
+
+  lifted_room : (change : Change) → HasNoRoom settings history change saw reply → HasNoRoom settings whole change saw reply
+  lifted_room change n =
+      let same = left_so change n.0 n.2 in
+      (n.0, n.1, (let l = prefix_length history whole grows in let m = n.2 in omega arith), subst (λ (ds : List Doc). settings.max_docs ≤ length ds) same n.3, n.4 ∙ ap (λ (ds : List Doc). refused (docs_full (length ds))) same)
+
+  lifted_resolved : (change : Change) (doc : Doc) (b : Bool) → knows labels doc ≡ b → IsResolved settings labels history session change saw b reply → IsResolved settings all whole session change saw (knows all doc) reply
+  lifted_resolved change doc false e r = subst (λ (l : List (List (List ℕ))). IsResolved settings l whole session change saw (knows l doc) reply) (full r.0) (rw e r)
+  lifted_resolved change doc true e r = let k : knows all doc ≡ true = still_knows labels all doc begins e in rw k (⊎_elim (λ p. inl (lifted_placed change p)) (λ n. inr (lifted_room change n)) r)
+
+  lifted_added : (change : Change) (doc : Doc) (o : Option Broken) → IsAdded settings labels history session change saw doc o reply → IsAdded settings all whole session change saw doc o reply
+  lifted_added change doc (Some b) r = r
+  lifted_added change doc None r = lifted_resolved change doc (knows labels doc) refl r
+
+  lifted_change : (change : Change) (d : Option Doc) → IsChanged settings labels history session change saw d reply → IsChanged settings all whole session change saw d reply
+  lifted_change change None r = (r.0, lifted_operation change r.0 r.1, r.2)
+  lifted_change change (Some doc) r = lifted_added change doc (first_broken settings.config doc) r
 
   lifted_counts : Counts history reply → Counts whole reply
   lifted_counts c = (c.0, (let l = prefix_length history whole grows in let m = c.1 in omega arith), c.2)
@@ -94,8 +113,8 @@ module _ (settings : Settings) (labels all : List (List (List ℕ))) (history wh
   lifted_looked commit pair le r = absurd r
   lifted_looked merge pair le r = absurd r
 
-  lifted : (e : Effect) (command : Command) → ((on : Option (List ℕ)) (pair : ℕ × ℕ) → pair_seen held took on ≡ Some pair → pair.0 ≤ length history) → IsRightBy settings labels history held session e command took reply → IsRightBy settings all whole held session e command took reply
-  lifted (adds doc) command seen right = lifted_added doc (first_broken settings.config doc) right
+  lifted : (e : Effect) (command : Command) → ((on : Option (List ℕ)) (pair : ℕ × ℕ) → pair_seen held took on ≡ Some pair → pair.0 ≤ length history) → IsRightBy settings labels history held session e command took saw reply → IsRightBy settings all whole held session e command took saw reply
+  lifted (changes change) command seen right = lifted_change change (doc_of change) right
   lifted publishes command seen right = lifted_counts right
   lifted (holds name) command seen right = right
   lifted (releases name) command seen right = right
@@ -109,11 +128,11 @@ module _ (settings : Settings) (labels all : List (List (List ℕ))) (history wh
 module _ (settings : Settings) (phases : List (List Order)) (opened : Opened) (ran : List (List Step)) (last : Seen) (all : AllRan settings phases opened ran last) where
   right_at_last : (held : Held) (x : Step) → In x (steps_of ran) → Sees x.after last → IsStep settings held x → HeldIn held x.before → RightReply settings (labels_of last) (history_of last) held x.answered
   right_at_last held x there sees step within = ⊎_elim
-      (λ right. inl (lifted settings (labels_of x.after) (labels_of last) (history_of x.after) (history_of last) held x.answered.order.session x.answered.took x.answered.reply
+      (λ right. inl (lifted settings (labels_of x.after) (labels_of last) (history_of x.after) (history_of last) held x.answered.order.session x.answered.took x.answered.saw x.answered.reply
       (labels_begin settings phases opened ran last all x.after last sees)
-      (map_prefix (λ e. record { session = e.0; doc = e.1 }) x.after.operations last.operations sees.operations) all.label_list
+      (map_prefix (λ e. record { session = e.0; change = e.1 }) x.after.operations last.operations sees.operations) all.label_list
       (full_last settings phases opened ran last all x there) (effect x.answered.order.command) x.answered.order.command
-      (λ on pair e. let l = (pair_in settings held x on pair step within e).0 in let s : length (history_of x.after) ≡ length x.after.operations = length-map x.after.operations (λ e. record { session = e.0; doc = e.1 }) in omega arith) right))
+      (λ on pair e. let l = (pair_in settings held x on pair step within e).0 in let s : length (history_of x.after) ≡ length x.after.operations = length-map x.after.operations (λ e. record { session = e.0; change = e.1 }) in omega arith) right))
       (λ lacks. inr lacks) step.right
 
   replies_of : (session : ℕ) (held : Held) (seen : Seen) (xs : List Step) → ((x : Step) → In x xs → In x (steps_of ran)) → SessionRan settings session held seen xs last → HeldIn held seen

@@ -7,7 +7,8 @@ use Rattle.std.proofs.lemmas.List.{length-map, map-append, append_cancel_left, n
 use Rattle.std.proofs.lemmas.List.Elements.{filter-append}
 use mathlib.Core.List.{IsPrefix}
 use Rattle.facet_model.specs.Documents.{Doc}
-use Rattle.facet_model.specs.Histories.{Operation}
+use Rattle.facet_model.specs.Histories as histories
+use Rattle.facet_model.specs.Histories.{Change, Operation, add}
 use Rattle.facet_words.specs.Commands.{Settings, Command, Order}
 use Rattle.facet_replies.specs.Replies.{Reply}
 use Rattle.facet_output.specs.Effects.{effect, report}
@@ -21,7 +22,7 @@ use Rattle.facet_output.specs.Sessions.{SessionRan, AllRan, steps_of, own_steps,
 use Rattle.facet_output.proofs.Among.{In, of_filter, filter-map}
 use Rattle.facet_output.proofs.Answers.{answers}
 use Rattle.facet_output.proofs.Bringing.{opened_sees}
-use Rattle.facet_output.proofs.Effects.{add_placed}
+use Rattle.facet_output.proofs.Effects.{change_placed}
 use Rattle.facet_output.proofs.Fronts.{operation_of}
 
 -- ---- what grows by each answer
@@ -44,10 +45,10 @@ module _ {B : Type 0} (settings : Settings) (session : ℕ) (view : Seen → Lis
 -- ---- operations
 
 -- those of a session, with their places from a number on
-abbrev owned : ℕ → ℕ → Entries Doc → List (ℕ × Operation)
+abbrev owned : ℕ → ℕ → Entries Change → List (ℕ × Operation)
 owned n k xs = filter (λ e. eqb e.1.session n) (enumerate_from k (map operation_of xs))
 
-owned_none : (n k : ℕ) (xs : Entries Doc) → entered_by n xs ≡ [] → owned n k xs ≡ []
+owned_none : (n k : ℕ) (xs : Entries Change) → entered_by n xs ≡ [] → owned n k xs ≡ []
 owned_none n k [] none = refl
 owned_none n k (x ∷ xs) none = by (eqb x.0 n) none (owned_none n (k + 1) xs)
   where
@@ -55,7 +56,7 @@ owned_none n k (x ∷ xs) none = by (eqb x.0 n) none (owned_none n (k + 1) xs)
     by true none rest = absurd cc
     by false none rest = rest none
 
-owned_append : (n k : ℕ) (xs ys : Entries Doc) → owned n k (xs ++ ys) ≡ owned n k xs ++ owned n (k + length xs) ys
+owned_append : (n k : ℕ) (xs ys : Entries Change) → owned n k (xs ++ ys) ≡ owned n k xs ++ owned n (k + length xs) ys
 owned_append n k [] ys = ap (λ j. owned n j ys) (let e : k ≡ k + 0 = omega arith in e)
 owned_append n k (x ∷ xs) ys = by (eqb x.0 n) (owned_append n (k + 1) xs ys ∙ ap (λ j. owned n (k + 1) xs ++ owned n j ys) (let e : k + 1 + length xs ≡ k + suc (length xs) = omega arith in e))
   where
@@ -64,7 +65,7 @@ owned_append n k (x ∷ xs) ys = by (eqb x.0 n) (owned_append n (k + 1) xs ys �
     by true e = ap (λ (l : List (ℕ × Operation)). (k, operation_of x) ∷ l) e
     by false e = e
 
-owned_behind : (n : ℕ) (xs ys : Entries Doc) → owned n 0 (xs ++ ys) ≡ owned n 0 xs ++ owned n (length xs) ys
+owned_behind : (n : ℕ) (xs ys : Entries Change) → owned n 0 (xs ++ ys) ≡ owned n 0 xs ++ owned n (length xs) ys
 owned_behind n xs ys = owned_append n 0 xs ys ∙ ap (λ j. owned n 0 xs ++ owned n j ys) (let e : 0 + length xs ≡ length xs = omega arith in e)
 
 pub rest_none : {A : Type 0} (n : ℕ) (old new : Entries A) → (p : EntersNone n old new) → entered_by n p.0.0 ≡ []
@@ -73,22 +74,22 @@ rest_none n old new p =
     let whole = ap (entered_by n) p.0.1 ∙ p.1 in
     nil_from_length (entered_by n p.0.0) (omega (arith, ap length (sym parts ∙ whole), length-append (entered_by n old) (entered_by n p.0.0)))
 
-owned_still : (n : ℕ) (old new : Entries Doc) → EntersNone n old new → owned n 0 new ≡ owned n 0 old
+owned_still : (n : ℕ) (old new : Entries Change) → EntersNone n old new → owned n 0 new ≡ owned n 0 old
 owned_still n old new p = ap (owned n 0) (sym p.0.1) ∙ owned_behind n old p.0.0 ∙ ap (λ l. owned n 0 old ++ l) (owned_none n (length old) p.0.0 (rest_none n old new p)) ∙ append-nil (owned n 0 old)
 
-owned_more : (n : ℕ) (x : Doc) (old between new : Entries Doc) → EntersBehind n x old between new → owned n 0 new ≡ owned n 0 old ++ (length between, record { session = n; doc = x }) ∷ []
+owned_more : (n : ℕ) (x : Change) (old between new : Entries Change) → EntersBehind n x old between new → owned n 0 new ≡ owned n 0 old ++ (length between, record { session = n; change = x }) ∷ []
 owned_more n x old between new p = ap (owned n 0) p.1 ∙ owned_behind n between ((n, x) ∷ []) ∙ (λ i. owned_still n old between p.0 i ++ last i)
   where
-    last : owned n (length between) ((n, x) ∷ []) ≡ (length between, record { session = n; doc = x }) ∷ []
+    last : owned n (length between) ((n, x) ∷ []) ≡ (length between, record { session = n; change = x }) ∷ []
     last = let e : eqb n n ≡ true = eq-eqb n n refl in rw e refl
 
 pub placed_session : (session : ℕ) (command : Command) (reply : Reply) (p : ℕ × Operation) → placed_by session command reply ≡ Some p → p.1.session ≡ session
-placed_session session command reply p e = (add_placed session (effect command) (report reply) p e).3
+placed_session session command reply p e = (change_placed session (effect command) (report reply) p e).3
 
-entered_operation : (n : ℕ) (o : Option (ℕ × Operation)) (old new : Entries Doc) → ((p : ℕ × Operation) → o ≡ Some p → p.1.session ≡ n) → EntersOperation n o old new → owned n 0 new ≡ owned n 0 old ++ option_to_list o
+entered_operation : (n : ℕ) (o : Option (ℕ × Operation)) (old new : Entries Change) → ((p : ℕ × Operation) → o ≡ Some p → p.1.session ≡ n) → EntersOperation n o old new → owned n 0 new ≡ owned n 0 old ++ option_to_list o
 entered_operation n None old new own enters = owned_still n old new enters ∙ sym (append-nil (owned n 0 old))
-entered_operation n (Some p) old new own enters = owned_more n p.1.doc old enters.0 new enters.1
-    ∙ ap (λ (q : ℕ × Operation). owned n 0 old ++ q ∷ []) (λ i. (sym enters.2 i, record { session = sym (own p refl) i; doc = p.1.doc }))
+entered_operation n (Some p) old new own enters = owned_more n p.1.change old enters.0 new enters.1
+    ∙ ap (λ (q : ℕ × Operation). owned n 0 old ++ q ∷ []) (λ i. (sym enters.2 i, record { session = sym (own p refl) i; change = p.1.change }))
 
 -- ---- publications
 
@@ -126,7 +127,7 @@ module _ (settings : Settings) (phases : List (List Order)) (opened : Opened) (r
   pub operations_so : (n : ℕ) → filter (λ e. eqb e.1.session n) (enumerate_from (length opened.docs) (drop (length opened.docs) (history_of last))) ≡ filter_map placed_operation (of_session n (answers (steps_of ran)))
   operations_so n =
       let begins = (opened_sees settings phases opened ran last all).operations in
-      let size : length (opened_seen opened).operations ≡ length opened.docs = length-map opened.docs (λ doc. (0, doc)) in
+      let size : length (opened_seen opened).operations ≡ length opened.docs = length-map opened.docs (λ doc. (0, add doc)) in
       let front = (opened_seen opened).operations in
       let whole : map operation_of last.operations ≡ map operation_of front ++ map operation_of begins.0 = ap (map operation_of) (sym begins.1) ∙ map-append operation_of front begins.0 in
       let behind : drop (length opened.docs) (map operation_of last.operations) ≡ map operation_of begins.0 =
@@ -147,9 +148,9 @@ module _ (settings : Settings) (phases : List (List Order)) (opened : Opened) (r
       let front = (opened_seen opened).operations in
       ap (λ l. take (length opened.docs) (map operation_of l)) (sym begins.1) ∙ ap (take (length opened.docs)) (map-append operation_of front begins.0) ∙ taken opened.docs (map operation_of begins.0)
     where
-      taken : (docs : List Doc) (more : List Operation) → take (length docs) (map operation_of (map (λ doc. (0, doc)) docs) ++ more) ≡ map (λ doc. record { session = 0; doc = doc }) docs
+      taken : (docs : List Doc) (more : List Operation) → take (length docs) (map operation_of (map (λ doc. (0, add doc)) docs) ++ more) ≡ histories.opened docs
       taken [] more = refl
-      taken (d ∷ docs) more = ap (λ (l : List Operation). record { session = 0; doc = d } ∷ l) (taken docs more)
+      taken (d ∷ docs) more = ap (λ (l : List Operation). record { session = 0; change = add d } ∷ l) (taken docs more)
 
   pub refreshes_so : (n : ℕ) → map (λ e. e.1.0) (filter (λ e. eqb e.0 n) (drop 1 last.pairs)) ≡ filter_map refreshed (of_session n (answers (steps_of ran)))
   refreshes_so n = behind last.pairs (opened_sees settings phases opened ran last all).pairs (

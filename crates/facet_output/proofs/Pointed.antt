@@ -2,6 +2,7 @@
 use Rattle.std.proofs.Common.{◌≡◌, ℕ, List, [], ◌∷◌, false, true, refl}
 use Rattle.std.specs.Prelude.{codes, Some, None}
 use Rattle.std.specs.List.{AllZip}
+use Rattle.facet_model.specs.Histories as histories
 use Rattle.facet_words.specs.Commands.{add, refresh, commit, merge}
 use Rattle.facet_replies.specs.Replies.{Reply, placed, numbered, merged, refused, closed, disk_failed, no_memory, numbers_spent}
 use Rattle.facet_output.specs.Answered.{Answered}
@@ -17,7 +18,7 @@ answered = answer 2 (add bob) None (placed 0) ∷ answer 3 commit None (numbered
 
 -- what there is at the end, with these commits
 abbrev with_commits : Entries CommitPoint → Seen
-with_commits commits = record (opened_seen empty_store) { labels = (1, codes "Author" ∷ []) ∷ (1, author (codes "Bob")) ∷ []; operations = (1, bob) ∷ []; commits = (0, record { operations = 0; labels = 1; failed = None }) ∷ commits }
+with_commits commits = record (opened_seen empty_store) { labels = (1, codes "Author" ∷ []) ∷ (1, author (codes "Bob")) ∷ []; operations = (1, histories.add bob) ∷ []; commits = (0, record { operations = 0; labels = 1; failed = None }) ∷ commits }
 
 abbrev made : ℕ → ℕ → CommitPoint
 made operations labels = record { operations = operations; labels = labels; failed = None }

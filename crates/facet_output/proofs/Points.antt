@@ -7,7 +7,7 @@ use Rattle.std.proofs.lemmas.List.{length-map, map-append, append_cancel_left}
 use Rattle.std.proofs.lemmas.List.Elements.{filter-append}
 use Rattle.std.proofs.lemmas.List.Sums.{sum_by-cons}
 use Rattle.facet_words.specs.Commands.{Settings, Order}
-use Rattle.facet_output.specs.Effects.{Effect, adds, publishes, holds, releases, persists, merges, looks, effect, Report, says_placed, says_number, says_pair, says_refused, for_labels, for_docs, for_disk, for_closed, for_numbers, for_memory, for_other, says_nothing, report}
+use Rattle.facet_output.specs.Effects.{Effect, changes, publishes, holds, releases, persists, merges, looks, effect, Report, says_placed, says_number, says_pair, says_refused, for_labels, for_docs, for_disk, for_closed, for_numbers, for_memory, for_other, says_nothing, report}
 use Rattle.facet_output.specs.Commits.{CommitsHavePoints, HasItsLabels, commits_of, committed, has_outcome, outcome, outcome_at, outcome_in, outcome_of}
 use Rattle.facet_output.specs.Reported.{of_commit}
 use Rattle.facet_output.specs.Answered.{Answered, is_of, of_session}
@@ -71,7 +71,7 @@ commit_outcome n least (says_refused for_other) old new enters = none_more n old
 
 points_outcome : (n least : ℕ) (e : Effect) (said : Report) (old new : Entries CommitPoint) → EntersBy n least e said old new → EntersOutcome n least (of_commit outcome_in e said) old new
 points_outcome n least persists said old new enters = commit_outcome n least said old new enters
-points_outcome n least (adds doc) said old new enters = none_more n old new enters
+points_outcome n least (changes change) said old new enters = none_more n old new enters
 points_outcome n least publishes said old new enters = none_more n old new enters
 points_outcome n least (holds name) said old new enters = none_more n old new enters
 points_outcome n least (releases name) said old new enters = none_more n old new enters

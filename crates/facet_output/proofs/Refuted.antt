@@ -1,17 +1,18 @@
 -- Outputs that are wrong, each refuted by the definitions, whatever pairs are said to have been published.
 use Rattle.std.proofs.Common.{◌≡◌, ℕ, List, [], ◌∷◌, true, false, sym, subst, ap, arith, ⊎_elim}
 use Rattle.std.specs.Prelude.{codes, Option, Some, None, IsTrue, map, ◌&&◌}
-use Rattle.facet_output.specs.Reported.{shows}
+use Rattle.facet_output.proofs.Effects.{shown_by}
 use Rattle.std.specs.List.{list_any}
 use Rattle.facet_model.specs.CoreStates.{is_same_pair}
 use Rattle.std.proofs.lemmas.Bool.{and_parts}
 use Rattle.facet_model.specs.Documents.{Doc}
+use Rattle.facet_model.specs.Histories as histories
 use Rattle.facet_words.specs.Commands.{Settings, Order, add, refresh, search, commit, stats}
 use Rattle.facet_replies.specs.Replies.{Reply, placed, numbered, refused, labels_full, closed, disk_failed, stats as numbers, docs_full}
 use Rattle.facet_output.specs.Answered.{Answered}
 use Rattle.facet_output.specs.Output.{IsOutput, has_source, pairs_of}
 use Rattle.facet_model.proofs.Samples.{author, doc, bob, lisa}
-use Rattle.facet_output.proofs.Samples.{answer_at, empty_store, plain_settings, order, answer, by_one, one_hit, bobs_labels}
+use Rattle.facet_output.proofs.Samples.{answer_at, answer_seeing, empty_store, plain_settings, order, answer, by_one, one_hit, bobs_labels}
 use Rattle.facet_output.proofs.Holding.{everything, labels, history}
 use Rattle.facet_output.proofs.PairTests.{pairs_to, places_to, right_pair_test, newest_test}
 
@@ -40,7 +41,7 @@ one_missing published o = let e = o.operations 1 in cc
 one_too_many : (published : List (ℕ × (ℕ × ℕ))) → ¬ IsOutput plain_settings two_adds empty_store labels (by_one bob ∷ by_one lisa ∷ by_one lisa ∷ []) published (placed_at 0 1)
 one_too_many published o = let e = o.operations 1 in cc
 
-of_nobody : (published : List (ℕ × (ℕ × ℕ))) → ¬ IsOutput plain_settings two_adds empty_store labels (by_one bob ∷ by_one lisa ∷ record { session = 2; doc = lisa } ∷ []) published (placed_at 0 1)
+of_nobody : (published : List (ℕ × (ℕ × ℕ))) → ¬ IsOutput plain_settings two_adds empty_store labels (by_one bob ∷ by_one lisa ∷ record { session = 2; change = histories.add lisa } ∷ []) published (placed_at 0 1)
 of_nobody published o = let e = o.operations 2 in cc
 
 -- ---- a pair that nobody published
@@ -54,7 +55,7 @@ found_early took place = answer 2 (add bob) None (placed 0) ∷ record (answer 3
 
 never_published : (published : List (ℕ × (ℕ × ℕ))) (took : Option (ℕ × ℕ)) (place : Option ℕ) → ¬ IsOutput plain_settings unseen empty_store labels (by_one bob ∷ []) published (found_early took place)
 never_published published None place o = ⊎_elim (λ impossible. impossible) (λ lacks. let e = lacks.1 in cc) (o.replies 1).1.0
-never_published published (Some pair) place o = ⊎_elim (λ right. no_source pair.0 (ap shows right.2) (source_of (pairs_to (found_early (Some pair) place) empty_store (pairs_of published) o.pairs))) (λ lacks. let e = lacks.1 in cc) (o.replies 1).1.0
+never_published published (Some pair) place o = ⊎_elim (λ right. no_source pair.0 (ap (shown_by None) right.2) (source_of (pairs_to (found_early (Some pair) place) empty_store (pairs_of published) o.pairs))) (λ lacks. let e = lacks.1 in cc) (o.replies 1).1.0
   where
     a : Answered
     a = record (answer 3 (search None everything) (Some pair) one_hit) { place = place }
@@ -126,7 +127,7 @@ abbrev behind : List (List Order)
 behind = (order 2 (add bob) ∷ order 3 (stats None) ∷ order 4 refresh ∷ []) ∷ []
 
 abbrev full_behind : List Answered
-full_behind = answer 2 (add bob) None (refused (docs_full 0)) ∷ answer_at 0 3 (stats None) (Some (0, 1)) (numbers (record { operations = 0; labels = 1; documents = 0 })) ∷ answer_at 1 4 refresh None (numbered 0) ∷ []
+full_behind = answer_seeing 0 2 (add bob) (refused (docs_full 0)) ∷ answer_at 0 3 (stats None) (Some (0, 1)) (numbers (record { operations = 0; labels = 1; documents = 0 })) ∷ answer_at 1 4 refresh None (numbered 0) ∷ []
 
 labels_behind : ¬ IsOutput (record plain_settings { max_docs = 0 }) behind empty_store bobs_labels [] ((0, (0, 1)) ∷ (1, (0, 1)) ∷ []) full_behind
 labels_behind o = let e : false ≡ true = places_to full_behind bobs_labels ((0, (0, 1)) ∷ (1, (0, 1)) ∷ []) o.places in cc

@@ -3,6 +3,7 @@ use Rattle.std.proofs.Common.{◌≡◌, ℕ, List, [], ◌∷◌, Bool, true, f
 use Rattle.std.proofs.lemmas.Bool.{eqb-true}
 use Rattle.std.specs.Prelude.{codes, Option, Some, None}
 use Rattle.facet_model.specs.Documents.{Doc}
+use Rattle.facet_model.specs.Histories as histories
 use Rattle.facet_model.specs.Histories.{Operation}
 use Rattle.facet_model.proofs.Samples.{author}
 use Rattle.facet_words.specs.Commands.{Settings, Order, Command}
@@ -23,14 +24,19 @@ order line command = record { session = 1; line = line; command = command }
 
 -- its answer, in phase 0
 abbrev pub answer : ℕ → Command → Option (ℕ × ℕ) → Reply → Answered
-answer line command took reply = record { phase = 0; order = order line command; took = took; place = None; reply = reply }
+answer line command took reply = record { phase = 0; order = order line command; took = took; place = None; saw = None; reply = reply }
 
 -- the same, which saw the pair at a place
 abbrev pub answer_at : ℕ → ℕ → Command → Option (ℕ × ℕ) → Reply → Answered
 answer_at place line command took reply = record (answer line command took reply) { place = Some place }
 
+-- the same, of a change that was refused for documents where there were so many operations
+abbrev pub answer_seeing : ℕ → ℕ → Command → Reply → Answered
+answer_seeing saw line command reply = record (answer line command None reply) { saw = Some saw }
+
+-- session 1 added the document
 abbrev pub by_one : Doc → Operation
-by_one d = record { session = 1; doc = d }
+by_one d = record { session = 1; change = histories.add d }
 
 -- what holds of session 1, and of every session where the test for 1 fails, holds of all
 pub each_session : (P : ℕ → Type 0) → P 1 → ((s : ℕ) → eqb 1 s ≡ false → P s) → (s : ℕ) → P s

@@ -1,9 +1,9 @@
 -- One session that ran alone was served on the shelf that `facet_words` speaks of.
-use Rattle.std.proofs.Common.{◌≡◌, ◌⊎◌, inl, inr, ⊎_elim, ℕ, ◌≤◌, ◌<◌, ◌^◌, Bool, true, false, List, [], ◌∷◌, ◌++◌, length, map, Option, Some, None, slice_get, refl, sym, ap, ◌∙◌, subst, arith, length-append}
+use Rattle.std.proofs.Common.{◌≡◌, ◌⊎◌, inl, inr, ⊎_elim, ℕ, ◌+◌, ◌≤◌, ◌<◌, ◌^◌, Bool, true, false, List, [], ◌∷◌, ◌++◌, length, map, Option, Some, None, slice_get, refl, sym, ap, ◌∙◌, subst, arith, length-append}
 use Rattle.std.specs.Prelude.{take, flat_map, filter_map, nat_lt, nat_le, option_to_list, option_map, unwrap_or, IfSome, IsTrue}
 use Rattle.std.specs.List.{list_all, enumerate_from, cons_option}
 use Rattle.std.proofs.lemmas.Bool.{and_parts, both_ways, cases_lt, lt-ltb, le-ltb, le-leb, lt-leb}
-use Rattle.std.proofs.lemmas.List.{length-map, map-append, take-map, take_all}
+use Rattle.std.proofs.lemmas.List.{length-map, map-append, take_all}
 use Rattle.std.proofs.lemmas.List.Elements.{filter_map-append}
 use mathlib.Core.List.{IsPrefix}
 use Rattle.facet_names.specs.Labels.{stands, prefixes}
@@ -11,7 +11,9 @@ use Rattle.facet_model.specs.Accepts.{Broken, first_broken}
 use Rattle.facet_model.specs.Asks.{Asked, AskFault, ask_fault}
 use Rattle.facet_model.specs.Documents.{Doc}
 use Rattle.facet_model.specs.Flags.{Config}
-use Rattle.facet_model.specs.Histories.{Operation, docs, knows}
+use Rattle.facet_model.specs.Histories as histories
+use Rattle.facet_model.specs.Histories.{Change, Operation, docs, doc_of, knows}
+use Rattle.facet_model.proofs.Changes.{docs_more, docs_opened}
 use Rattle.facet_replies.specs.ReplyLines.{reply_line}
 use Rattle.facet_words.specs.Answers as words_answers
 use Rattle.facet_words.specs.Answers.{Shelf, names_no_pair, with_labels, hits_of, first_hits, ranged_of, IsSummed}
@@ -36,9 +38,9 @@ use Rattle.facet_output.proofs.Bringing.{opened_first}
 use Rattle.facet_output.proofs.Chain.{sees_self, sees_trans, sees_last}
 use Rattle.facet_output.proofs.Exact.{filter_all}
 use Rattle.facet_output.proofs.Fresh.{if_some}
-use Rattle.facet_output.proofs.Fronts.{get_last, operation_of}
+use Rattle.facet_output.proofs.Fronts.{get_last, operation_of, map_prefix, take_prefix}
 use Rattle.facet_output.proofs.Growing.{all_stand}
-use Rattle.chronicle.proofs.Prefixes.{prefix_self, prefix_trans}
+use Rattle.chronicle.proofs.Prefixes.{prefix_self, prefix_trans, prefix_length}
 
 -- ---- the first refused ask
 
@@ -68,25 +70,38 @@ of_one (Some d) c e = ap Some (ap (λ (l : List ℕ). unwrap_or (slice_get l 0) 
 
 -- ---- shelves
 
+-- the documents that operations leave
+abbrev documents_in : Entries Change → List Doc
+documents_in operations = docs (map operation_of operations)
+
 -- a shelf of these parts
-abbrev shelf_with : List (List (List ℕ)) → List Doc → ℕ × ℕ → Option ℕ → Shelf
-shelf_with labels documents pair shut = record { labels = labels; docs = documents; taken = pair.0; taken_labels = pair.1; closed = shut }
+abbrev shelf_of : List (List (List ℕ)) → List Doc → ℕ → List Doc → ℕ × ℕ → Option ℕ → Shelf
+shelf_of labels ds operations shown pair shut = record { labels = labels; docs = ds; operations = operations; seen = shown; taken = pair.0; taken_labels = pair.1; closed = shut }
 
-shelf_same : (labels labels' : List (List (List ℕ))) (ds ds' : List Doc) (pair : ℕ × ℕ) (shut : Option ℕ) → labels ≡ labels' → ds ≡ ds' → shelf_with labels ds pair shut ≡ shelf_with labels' ds' pair shut
-shelf_same labels labels' ds ds' pair shut l d = λ i. shelf_with (l i) (d i) pair shut
+parts_same : (labels labels' : List (List (List ℕ))) (ds ds' : List Doc) (n n' : ℕ) (shown : List Doc) (pair : ℕ × ℕ) (shut : Option ℕ) → labels ≡ labels' → ds ≡ ds' → n ≡ n'
+    → shelf_of labels ds n shown pair shut ≡ shelf_of labels' ds' n' shown pair shut
+parts_same labels labels' ds ds' n n' shown pair shut l d e = λ i. shelf_of (l i) (d i) (e i) shown pair shut
 
--- the documents of operations
-abbrev documents_in : Entries Doc → List Doc
-documents_in operations = docs (map (λ (e : ℕ × Doc). record { session = e.0; doc = e.1 }) operations)
+-- a shelf after these operations
+abbrev shelf_with : List (List (List ℕ)) → Entries Change → List Doc → ℕ × ℕ → Option ℕ → Shelf
+shelf_with labels operations shown pair shut = shelf_of labels (documents_in operations) (length operations) shown pair shut
 
-documents_size : (operations : Entries Doc) → length (documents_in operations) ≡ length operations
-documents_size operations = length-map (map operation_of operations) (λ (o : Operation). o.doc) ∙ length-map operations operation_of
+shelf_same : (labels labels' : List (List (List ℕ))) (ops ops' : Entries Change) (shown : List Doc) (pair : ℕ × ℕ) (shut : Option ℕ) → labels ≡ labels' → ops ≡ ops' → shelf_with labels ops shown pair shut ≡ shelf_with labels' ops' shown pair shut
+shelf_same labels labels' ops ops' shown pair shut l o = λ i. shelf_with (l i) (o i) shown pair shut
 
-history_size : (operations : Entries Doc) → length (map operation_of operations) ≡ length operations
+history_size : (operations : Entries Change) → length (map operation_of operations) ≡ length operations
 history_size operations = length-map operations operation_of
 
-one_more : (operations : Entries Doc) (n : ℕ) (doc : Doc) → documents_in (operations ++ (n, doc) ∷ []) ≡ documents_in operations ++ doc ∷ []
-one_more operations n doc = ap docs (map-append operation_of operations ((n, doc) ∷ [])) ∙ map-append (λ (o : Operation). o.doc) (map operation_of operations) (operation_of (n, doc) ∷ [])
+one_more : (operations : Entries Change) (n : ℕ) (doc : Doc) → documents_in (operations ++ (n, histories.add doc) ∷ []) ≡ documents_in operations ++ doc ∷ []
+one_more operations n doc = ap docs (map-append operation_of operations ((n, histories.add doc) ∷ [])) ∙ docs_more (map operation_of operations) (operation_of (n, histories.add doc))
+
+-- the first operations leave the same documents when more come behind them
+first_docs : (ops more : Entries Change) (pair : ℕ × ℕ) → IsPrefix ops more → pair.0 ≤ length ops → docs_of (map operation_of more) pair ≡ docs_of (map operation_of ops) pair
+first_docs ops more pair begins le = ap docs (take_prefix (map operation_of ops) (map operation_of more) pair.0 (map_prefix operation_of ops more begins) (let size = history_size ops in omega arith))
+
+-- all of them leave all documents
+all_docs : (ops : Entries Change) (n : ℕ) → length ops ≤ n → docs (take n (map operation_of ops)) ≡ documents_in ops
+all_docs ops n le = ap docs (take_all n (map operation_of ops) (let size = history_size ops in omega arith))
 
 -- the last pair that was published
 abbrev EndsWith : Entries (ℕ × ℕ) → ℕ × ℕ → Type 0
@@ -106,18 +121,21 @@ same_end pairs pair ends front n other e =
 record Fits (seen : Seen) (shelf : Shelf) : Type 0 where
   pair : ℕ × ℕ
   shut : Option ℕ
-  is : shelf ≡ shelf_with (labels_of seen) (documents_in seen.operations) pair shut
+  shown : List Doc
+  is : shelf ≡ shelf_with (labels_of seen) seen.operations shown pair shut
+  shows : shown ≡ docs_of (history_of seen) pair
+  within : pair.0 ≤ length seen.operations
   ends : EndsWith seen.pairs pair
   closed_so : failures seen.commits ≡ option_to_list shut
 
 -- what is known of the reply to a command with this effect, and of what was entered with it
-record Facts (settings : Settings) (before after : Seen) (held : Held) (session : ℕ) (e : Effect) (command : Command) (took : Option (ℕ × ℕ)) (reply : Reply) : Type 0 where
-  right : IsRightBy settings (labels_of after) (history_of after) held session e command took reply ⊎ (IsTrue (takes_memory command) × (reply ≡ refused no_memory))
+record Facts (settings : Settings) (before after : Seen) (held : Held) (session : ℕ) (e : Effect) (command : Command) (took : Option (ℕ × ℕ)) (saw : Option ℕ) (reply : Reply) : Type 0 where
+  right : IsRightBy settings (labels_of after) (history_of after) held session e command took saw reply ⊎ (IsTrue (takes_memory command) × (reply ≡ refused no_memory))
   leaves : EffectLeaves settings (labels_of before) e reply (labels_of after)
   operations : EntersOperation session (placed_in session e (report reply)) before.operations after.operations
   pairs : EntersPair session (length (labels_of before)) (length (labels_of after)) (refreshed_in e (report reply)) before.pairs after.pairs
   commits : EntersBy session (length (labels_of before)) e (report reply) before.commits after.commits
-  fresh : IfSome (stood_in e (report reply)) (λ n. length before.operations ≤ n)
+  fresh : IfSome (stood_in e saw (report reply)) (λ n. length before.operations ≤ n)
   taken : IfSome took (λ pair. IsLastPair after pair × (refreshed_in e (report reply) ≡ None))
 
 among_all : (paths : List (List (List ℕ))) (label p : List (List ℕ)) → In label paths → In p (prefixes label) → In p (flat_map prefixes paths)
@@ -142,12 +160,14 @@ record Goes (settings : Settings) (command : Command) (reply : Reply) (shelf : S
 -- ---- one step, where nobody else enters anything
 
 module _ (settings : Settings) (before after : Seen) (held : Held) (session : ℕ)
-    (operations_so : (ops : Entries Doc) → EntersNone session before.operations ops → IsPrefix ops after.operations → before.operations ≡ ops)
+    (operations_so : (ops : Entries Change) → EntersNone session before.operations ops → IsPrefix ops after.operations → before.operations ≡ ops)
     (pairs_so : (ps : Entries (ℕ × ℕ)) → EntersNone session before.pairs ps → IsPrefix ps after.pairs → before.pairs ≡ ps)
     (commits_so : (cs : Entries CommitPoint) → EntersNone session before.commits cs → IsPrefix cs after.commits → before.commits ≡ cs)
-    (pair : ℕ × ℕ) (shut : Option ℕ) (ends : EndsWith before.pairs pair) (closed_so : failures before.commits ≡ option_to_list shut) where
+    (begins : IsPrefix before.operations after.operations)
+    (pair : ℕ × ℕ) (shut : Option ℕ) (shown : List Doc) (shows : shown ≡ docs_of (history_of before) pair) (within : pair.0 ≤ length before.operations)
+    (ends : EndsWith before.pairs pair) (closed_so : failures before.commits ≡ option_to_list shut) where
   abbrev S : Shelf
-  S = shelf_with (labels_of before) (documents_in before.operations) pair shut
+  S = shelf_with (labels_of before) before.operations shown pair shut
 
   abbrev D : List Doc
   D = documents_in before.operations
@@ -167,18 +187,31 @@ module _ (settings : Settings) (before after : Seen) (held : Held) (session : �
   still_closed : EntersNone session before.commits after.commits → failures after.commits ≡ option_to_list shut
   still_closed none = subst (λ (cs : Entries CommitPoint). failures cs ≡ option_to_list shut) (no_commit none) closed_so
 
-  still_documents : EntersNone session before.operations after.operations → D ≡ documents_in after.operations
-  still_documents none = ap documents_in (no_operation none)
+  -- the pair has the documents that it had
+  still_shows : shown ≡ docs_of (history_of after) pair
+  still_shows = shows ∙ sym (first_docs before.operations after.operations pair begins within)
+
+  still_within : pair.0 ≤ length after.operations
+  still_within = let l = prefix_length before.operations after.operations begins in omega (arith, within)
 
   -- the shelf after a command that enters no pair and no commit
-  fits_with : (labels : List (List (List ℕ))) (ds : List Doc) → labels ≡ labels_of after → ds ≡ documents_in after.operations → EntersNone session before.pairs after.pairs → EntersNone session before.commits after.commits
-      → Fits after (shelf_with labels ds pair shut)
-  fits_with labels ds l d pairs commits = record { pair = pair; shut = shut; is = shelf_same labels (labels_of after) ds (documents_in after.operations) pair shut l d; ends = still_ends pairs; closed_so = still_closed commits }
+  fits_with : (labels : List (List (List ℕ))) (ops : Entries Change) → labels ≡ labels_of after → ops ≡ after.operations → EntersNone session before.pairs after.pairs → EntersNone session before.commits after.commits
+      → Fits after (shelf_with labels ops shown pair shut)
+  fits_with labels ops l o pairs commits = record {
+    pair = pair;
+    shut = shut;
+    shown = shown;
+    is = shelf_same labels (labels_of after) ops after.operations shown pair shut l o;
+    shows = still_shows;
+    within = still_within;
+    ends = still_ends pairs;
+    closed_so = still_closed commits;
+  }
 
   -- ---- add
 
-  module _ (doc : Doc) (reply : Reply) (facts : (commits : EntersNone session before.commits after.commits) × EntersNone session before.pairs after.pairs)
-      (fresh : IfSome (stood_by (add doc) reply) (λ n. length before.operations ≤ n)) (enters : EntersOperation session (placed_by session (add doc) reply) before.operations after.operations) where
+  module _ (doc : Doc) (saw : Option ℕ) (reply : Reply) (facts : (commits : EntersNone session before.commits after.commits) × EntersNone session before.pairs after.pairs)
+      (fresh : IfSome (stood_by (add doc) saw reply) (λ n. length before.operations ≤ n)) (enters : EntersOperation session (placed_by session (add doc) reply) before.operations after.operations) where
     abbrev all : List (List (List ℕ))
     all = with_labels (labels_of before) doc
 
@@ -212,10 +245,10 @@ module _ (settings : Settings) (before after : Seen) (held : Held) (session : �
         let cut : labels_of after ≡ take fits_in all = first.first ∙ ap (λ n. take n all) full in
         record {
           told = refused (labels_full (length (labels_of after)));
-          next = shelf_with (labels_of after) D pair shut;
+          next = shelf_with (labels_of after) before.operations shown pair shut;
           same = sym e;
-          answer = inl (rw test (ap (λ n. refused (labels_full n)) full, shelf_same (labels_of after) (take fits_in all) D D pair shut cut refl));
-          fits = fits_with (labels_of after) D refl (still_documents (enters_none (refused (labels_full (length (labels_of after)))) e refl)) facts.1 facts.0;
+          answer = inl (rw test (ap (λ n. refused (labels_full n)) full, shelf_same (labels_of after) (take fits_in all) before.operations before.operations shown pair shut cut refl));
+          fits = fits_with (labels_of after) before.operations refl (no_operation (enters_none (refused (labels_full (length (labels_of after)))) e refl)) facts.1 facts.0;
         }
 
     -- all the labels fit, and are there
@@ -225,52 +258,53 @@ module _ (settings : Settings) (before after : Seen) (held : Held) (session : �
         let size = ap length whole in
         let high = first.high in (whole, le-ltb fits_in (length all) (omega arith))
 
-    is_placed : LeavesFirst settings (labels_of before) doc reply (labels_of after) → (at : ℕ) → at < settings.max_docs → reply ≡ placed at → Answers None
+    is_placed : LeavesFirst settings (labels_of before) doc reply (labels_of after) → (at : ℕ) → length (docs (take at (history_of after))) < settings.max_docs → reply ≡ placed at → Answers None
     is_placed first at lt e =
         let labels = fits_all first (subst (λ (q : Reply). IsTrue (is_resolved q)) (sym e) refl) in
         let entered = subst (λ (q : Option (ℕ × Operation)). EntersOperation session q before.operations after.operations) (ap (placed_by session (add doc)) e) enters in
         let between = entered.0 in
-        let same = operations_so between entered.1.0 ((session, doc) ∷ [], sym entered.1.1) in
-        let grown : after.operations ≡ before.operations ++ (session, doc) ∷ [] = entered.1.1 ∙ ap (λ (l : Entries Doc). l ++ (session, doc) ∷ []) (sym same) in
-        let size = documents_size before.operations in
-        let place : at ≡ length D = entered.2 ∙ ap length (sym same) ∙ sym size in
+        let same = operations_so between entered.1.0 ((session, histories.add doc) ∷ [], sym entered.1.1) in
+        let grown : after.operations ≡ before.operations ++ (session, histories.add doc) ∷ [] = entered.1.1 ∙ ap (λ (l : Entries Change). l ++ (session, histories.add doc) ∷ []) (sym same) in
+        let place : at ≡ length before.operations = entered.2 ∙ ap length (sym same) in
+        let there : docs (take at (history_of after)) ≡ D = first_docs before.operations after.operations (at, 0) begins (omega arith) ∙ all_docs before.operations at (omega arith) in
+        let left = ap length there in
         let room_left : nat_le settings.max_docs (length D) ≡ false = lt-leb settings.max_docs (length D) (omega arith) in
         let documents : documents_in after.operations ≡ D ++ doc ∷ [] = ap documents_in grown ∙ one_more before.operations session doc in
+        let longer : length after.operations ≡ length before.operations + 1 = ap length grown ∙ length-append before.operations ((session, histories.add doc) ∷ []) in
         let test = labels.1 in
         record {
           told = placed at;
-          next = shelf_with (labels_of after) (documents_in after.operations) pair shut;
+          next = shelf_with (labels_of after) after.operations shown pair shut;
           same = sym e;
-          answer = inl (rw (test, room_left) (ap placed place, shelf_same (labels_of after) all (documents_in after.operations) (D ++ doc ∷ []) pair shut labels.0 documents));
-          fits = fits_with (labels_of after) (documents_in after.operations) refl refl facts.1 facts.0;
+          answer = inl (rw (test, room_left) (ap placed place, parts_same (labels_of after) all (documents_in after.operations) (D ++ doc ∷ []) (length after.operations) (length before.operations + 1) shown pair shut labels.0 documents longer));
+          fits = fits_with (labels_of after) after.operations refl refl facts.1 facts.0;
         }
 
-    no_documents : LeavesFirst settings (labels_of before) doc reply (labels_of after) → (n : ℕ) → n ≤ length (history_of after) → settings.max_docs ≤ n → reply ≡ refused (docs_full n) → Answers None
-    no_documents first n high full e =
+    no_documents : LeavesFirst settings (labels_of before) doc reply (labels_of after) → (n : ℕ) → saw ≡ Some n → settings.max_docs ≤ length (docs (take n (history_of after))) → reply ≡ refused (docs_full (length (docs (take n (history_of after))))) → Answers None
+    no_documents first n known full e =
         let labels = fits_all first (subst (λ (q : Reply). IsTrue (is_resolved q)) (sym e) refl) in
-        let none = enters_none (refused (docs_full n)) e refl in
-        let low : length before.operations ≤ n = subst (λ (q : Option ℕ). IfSome q (λ n. length before.operations ≤ n)) (ap (stood_by (add doc)) e) fresh in
-        let size = documents_size before.operations in
-        let size' = history_size after.operations in
+        let size = length (docs (take n (history_of after))) in
+        let none = enters_none (refused (docs_full size)) e refl in
+        let low : length before.operations ≤ n = subst (λ (q : Option ℕ). IfSome q (λ n. length before.operations ≤ n)) (ap (stood_by (add doc) saw) e ∙ known) fresh in
         let same = ap length (no_operation none) in
-        let count : n ≡ length D = omega arith in
+        let count : size ≡ length D = ap length (all_docs after.operations n (omega arith)) ∙ ap (λ (ops : Entries Change). length (documents_in ops)) (sym (no_operation none)) in
         let test = labels.1 in
         let none_left : nat_le settings.max_docs (length D) ≡ true = le-leb settings.max_docs (length D) (omega arith) in
         record {
-          told = refused (docs_full n);
-          next = shelf_with (labels_of after) D pair shut;
+          told = refused (docs_full size);
+          next = shelf_with (labels_of after) before.operations shown pair shut;
           same = sym e;
-          answer = inl (rw (test, none_left) (ap (λ k. refused (docs_full k)) count, shelf_same (labels_of after) all D D pair shut labels.0 refl));
-          fits = fits_with (labels_of after) D refl (still_documents none) facts.1 facts.0;
+          answer = inl (rw (test, none_left) (ap (λ k. refused (docs_full k)) count, shelf_same (labels_of after) all before.operations before.operations shown pair shut labels.0 refl));
+          fits = fits_with (labels_of after) before.operations refl (no_operation none) facts.1 facts.0;
         }
 
     lacks_memory : LeavesFirst settings (labels_of before) doc reply (labels_of after) → reply ≡ refused no_memory → Answers None
     lacks_memory first e = record {
       told = refused no_memory;
-      next = shelf_with (labels_of after) D pair shut;
+      next = shelf_with (labels_of after) before.operations shown pair shut;
       same = sym e;
-      answer = inr (refl, (length (labels_of after), first.low, first.high, shelf_same (labels_of after) (take (length (labels_of after)) all) D D pair shut first.first refl));
-      fits = fits_with (labels_of after) D refl (still_documents (enters_none (refused no_memory) e refl)) facts.1 facts.0;
+      answer = inr (refl, (length (labels_of after), first.low, first.high, shelf_same (labels_of after) (take (length (labels_of after)) all) before.operations before.operations shown pair shut first.first refl));
+      fits = fits_with (labels_of after) before.operations refl (no_operation (enters_none (refused no_memory) e refl)) facts.1 facts.0;
     }
 
     stays_so : (r : Reply) (o : Option Broken) → reply ≡ r → placed_by session (add doc) r ≡ None → labels_of after ≡ labels_of before → IsAnswer o r S → Answers o
@@ -279,43 +313,42 @@ module _ (settings : Settings) (before after : Seen) (held : Held) (session : �
       next = S;
       same = sym e;
       answer = answer;
-      fits = fits_with (labels_of before) D (sym labels) (still_documents (enters_none r e none)) facts.1 facts.0;
+      fits = fits_with (labels_of before) before.operations (sym labels) (no_operation (enters_none r e none)) facts.1 facts.0;
     }
 
-    resolved : LeavesFirst settings (labels_of before) doc reply (labels_of after) → (b : Bool) → knows (labels_of after) doc ≡ b → IsResolved settings (labels_of after) (history_of after) session doc b reply → Answers None
+    resolved : LeavesFirst settings (labels_of before) doc reply (labels_of after) → (b : Bool) → knows (labels_of after) doc ≡ b → IsResolved settings (labels_of after) (history_of after) session (histories.add doc) saw b reply → Answers None
     resolved first false e r = no_labels first r.0 e r.1
-    resolved first true e r = ⊎_elim (λ p. is_placed first p.0 p.2 p.3) (λ n. no_documents first n.0 n.1 n.2 n.3) r
+    resolved first true e r = ⊎_elim (λ p. is_placed first p.0 p.2 p.3) (λ n. no_documents first n.0 n.1 n.3 n.4) r
 
-    added : (o : Option Broken) → AddLeaves settings (labels_of before) doc o reply (labels_of after) → IsAdded settings (labels_of after) (history_of after) session doc o reply ⊎ (IsTrue true × (reply ≡ refused no_memory)) → Answers o
+    added : (o : Option Broken) → AddLeaves settings (labels_of before) doc o reply (labels_of after) → IsAdded settings (labels_of after) (history_of after) session (histories.add doc) saw doc o reply ⊎ (IsTrue true × (reply ≡ refused no_memory)) → Answers o
     added (Some b) leaves right = ⊎_elim
         (λ r. stays_so (refused (broken b)) (Some b) r refl leaves (inl (refl, refl)))
         (λ lacks. stays_so (refused no_memory) (Some b) lacks.1 refl leaves (inr (refl, refl))) right
     added None leaves right = ⊎_elim (resolved leaves (knows (labels_of after) doc) refl) (λ lacks. lacks_memory leaves lacks.1) right
 
     add_goes : AddLeaves settings (labels_of before) doc (first_broken settings.config doc) reply (labels_of after)
-        → IsAdded settings (labels_of after) (history_of after) session doc (first_broken settings.config doc) reply ⊎ (IsTrue true × (reply ≡ refused no_memory)) → Goes settings (add doc) reply S after
+        → IsAdded settings (labels_of after) (history_of after) session (histories.add doc) saw doc (first_broken settings.config doc) reply ⊎ (IsTrue true × (reply ≡ refused no_memory)) → Goes settings (add doc) reply S after
     add_goes leaves right = let a = added (first_broken settings.config doc) leaves right in record { told = a.told; next = a.next; same = a.same; right = a.answer; fits = a.fits }
 
   -- ---- what enters nothing
 
   stays : labels_of after ≡ labels_of before → EntersNone session before.operations after.operations → EntersNone session before.pairs after.pairs → EntersNone session before.commits after.commits → Fits after S
-  stays l o p c = fits_with (labels_of before) D (sym l) (still_documents o) p c
+  stays l o p c = fits_with (labels_of before) before.operations (sym l) (no_operation o) p c
 
   -- all operations are counted
-  counted : (n : ℕ) → EntersNone session before.operations after.operations → n ≤ length (history_of after) → length before.operations ≤ n → n ≡ length D
+  counted : (n : ℕ) → EntersNone session before.operations after.operations → n ≤ length (history_of after) → length before.operations ≤ n → n ≡ length before.operations
   counted n none high low =
-      let size = documents_size before.operations in
-      let size' = history_size after.operations in
+      let size = history_size after.operations in
       let same = ap length (no_operation none) in omega arith
 
   -- ---- refresh
 
-  refresh_goes : (took : Option (ℕ × ℕ)) (reply : Reply) → Facts settings before after held session publishes refresh took reply → Goes settings refresh reply S after
-  refresh_goes took reply f = ⊎_elim refreshed_so lacks f.right
+  refresh_goes : (took : Option (ℕ × ℕ)) (saw : Option ℕ) (reply : Reply) → Facts settings before after held session publishes refresh took saw reply → Goes settings refresh reply S after
+  refresh_goes took saw reply f = ⊎_elim refreshed_so lacks f.right
     where
       refreshed_so : Counts (history_of after) reply → Goes settings refresh reply S after
       refreshed_so c =
-          let low : length before.operations ≤ c.0 = subst (λ (q : Option ℕ). IfSome q (λ n. length before.operations ≤ n)) (ap (stood_by refresh) c.2) f.fresh in
+          let low : length before.operations ≤ c.0 = subst (λ (q : Option ℕ). IfSome q (λ n. length before.operations ≤ n)) (ap (stood_by refresh saw) c.2) f.fresh in
           let count = counted c.0 f.operations c.1 low in
           let entered = subst (λ (q : Option ℕ). EntersPair session (length (labels_of before)) (length (labels_of after)) q before.pairs after.pairs) (ap (refreshed_by refresh) c.2) f.pairs in
           let sizes = ap length f.leaves in
@@ -323,13 +356,16 @@ module _ (settings : Settings) (before after : Seen) (held : Held) (session : �
           let size : entered.1 ≡ length (labels_of before) = omega arith in
           record {
             told = numbered c.0;
-            next = shelf_with (labels_of before) D (length D, length (labels_of before)) shut;
+            next = shelf_with (labels_of before) before.operations D (length before.operations, length (labels_of before)) shut;
             same = sym c.2;
             right = inl (ap numbered count, refl);
             fits = record {
-              pair = (length D, length (labels_of before));
+              pair = (length before.operations, length (labels_of before));
               shut = shut;
-              is = shelf_same (labels_of before) (labels_of after) D (documents_in after.operations) (length D, length (labels_of before)) shut (sym f.leaves) (still_documents f.operations);
+              shown = D;
+              is = shelf_same (labels_of before) (labels_of after) before.operations after.operations D (length before.operations, length (labels_of before)) shut (sym f.leaves) (no_operation f.operations);
+              shows = sym (first_docs before.operations after.operations (length before.operations, 0) begins (omega arith) ∙ all_docs before.operations (length before.operations) (omega arith));
+              within = prefix_length before.operations after.operations begins;
               ends = (entered.0, session, entered.2.1 ∙ (λ i. entered.0 ++ (session, (count i, size i)) ∷ []));
               closed_so = still_closed f.commits;
             };
@@ -350,12 +386,9 @@ module _ (settings : Settings) (before after : Seen) (held : Held) (session : �
   is_last : (p : ℕ × ℕ) → IsLastPair after p → EntersNone session before.pairs after.pairs → p ≡ pair
   is_last p last none = same_end after.pairs pair (still_ends none) last.last.0 last.last.1 p last.last.2
 
-  seen_docs : (p : ℕ × ℕ) → p ≡ pair → EntersNone session before.operations after.operations → docs_of (history_of after) p ≡ take pair.0 D
-  seen_docs p is none = sym (take-map (λ (o : Operation). o.doc) p.0 (history_of after)) ∙ (λ i. take (is i).0 (documents_in (sym (no_operation none) i)))
-
   -- ---- a command that looks at the last pair
 
-  module _ (command : Command) (took : Option (ℕ × ℕ)) (reply : Reply) (f : Facts settings before after held session (looks None) command took reply) where
+  module _ (command : Command) (took : Option (ℕ × ℕ)) (saw : Option ℕ) (reply : Reply) (f : Facts settings before after held session (looks None) command took saw reply) where
     -- the reply that is right for the pair is right on the shelf
     look_goes : (IsTrue (takes_memory command) → words_answers.RightReply settings S command (refused no_memory) S)
         → (IsLooked settings (labels_of before) (history_of after) command pair reply → words_answers.RightReply settings S command reply S) → Goes settings command reply S after
@@ -374,42 +407,38 @@ module _ (settings : Settings) (before after : Seen) (held : Held) (session : �
             let here = subst (λ (q : ℕ × ℕ). IsLooked settings (labels_of after) (history_of after) command q reply) (is_last p t.0 f.pairs) r in
             is_right (subst (λ (l : List (List (List ℕ))). IsLooked settings l (history_of after) command pair reply) f.leaves here)
 
-    -- the documents of the pair are those that the shelf shows
-    shelf_docs : docs_of (history_of after) pair ≡ take pair.0 D
-    shelf_docs = seen_docs pair refl f.operations
-
-  search_goes : (s : Search) (took : Option (ℕ × ℕ)) (reply : Reply) → Facts settings before after held session (looks None) (search None s) took reply → Goes settings (search None s) reply S after
-  search_goes s took reply f = look_goes (search None s) took reply f (λ takes. inr (refl, refl)) (λ is. inl (
+  search_goes : (s : Search) (took : Option (ℕ × ℕ)) (saw : Option ℕ) (reply : Reply) → Facts settings before after held session (looks None) (search None s) took saw reply → Goes settings (search None s) reply S after
+  search_goes s took saw reply f = look_goes (search None s) took saw reply f (λ takes. inr (refl, refl)) (λ is. inl (
     found_so (first_refused settings.config s.asks) refl
-        (subst (λ (ds : List Doc). IsFound settings.config s (first_refused settings.config s.asks) pair.0 ds reply) (shelf_docs (search None s) took reply f) is),
+        (subst (λ (ds : List Doc). IsFound settings.config s (first_refused settings.config s.asks) pair.0 ds reply) (sym still_shows) is),
     refl,
   ))
     where
-      found_so : (o : Option (ℕ × AskFault)) → first_refused settings.config s.asks ≡ o → IsFound settings.config s o pair.0 (take pair.0 D) reply → words_answers.IsFound settings.config pair.0 (take pair.0 D) s (words_answers.first_refused settings.config s.asks) reply
+      found_so : (o : Option (ℕ × AskFault)) → first_refused settings.config s.asks ≡ o → IsFound settings.config s o pair.0 shown reply → words_answers.IsFound settings.config pair.0 shown s (words_answers.first_refused settings.config s.asks) reply
       found_so (Some r) e is =
           let first : words_answers.first_refused settings.config s.asks ≡ Some (named r) = first_named settings.config (enumerate_from 0 s.asks) ∙ ap (option_map named) e in rw first is
       found_so None e is =
           let first : words_answers.first_refused settings.config s.asks ≡ None = first_named settings.config (enumerate_from 0 s.asks) ∙ ap (option_map named) e in rw first is
 
-  ranges_goes : (c : Counted) (rs : List Range) (took : Option (ℕ × ℕ)) (reply : Reply) → Facts settings before after held session (looks None) (ranges None c rs) took reply → Goes settings (ranges None c rs) reply S after
-  ranges_goes c rs took reply f = look_goes (ranges None c rs) took reply f (λ takes. inr (refl, refl)) (λ is. inl (is ∙ ap (λ (ds : List Doc). ranged_of pair.0 ds c rs) (shelf_docs (ranges None c rs) took reply f), refl))
+  ranges_goes : (c : Counted) (rs : List Range) (took : Option (ℕ × ℕ)) (saw : Option ℕ) (reply : Reply) → Facts settings before after held session (looks None) (ranges None c rs) took saw reply → Goes settings (ranges None c rs) reply S after
+  ranges_goes c rs took saw reply f = look_goes (ranges None c rs) took saw reply f (λ takes. inr (refl, refl)) (λ is. inl (is ∙ ap (λ (ds : List Doc). ranged_of pair.0 ds c rs) (sym still_shows), refl))
 
-  sums_goes : (c : Counted) (n : ℕ) (took : Option (ℕ × ℕ)) (reply : Reply) → Facts settings before after held session (looks None) (sums None c n) took reply → Goes settings (sums None c n) reply S after
-  sums_goes c n took reply f = look_goes (sums None c n) took reply f (λ takes. inr (refl, refl)) (λ is. inl (subst (λ (ds : List Doc). IsSummed pair.0 ds c n reply) (shelf_docs (sums None c n) took reply f) is, refl))
+  sums_goes : (c : Counted) (n : ℕ) (took : Option (ℕ × ℕ)) (saw : Option ℕ) (reply : Reply) → Facts settings before after held session (looks None) (sums None c n) took saw reply → Goes settings (sums None c n) reply S after
+  sums_goes c n took saw reply f = look_goes (sums None c n) took saw reply f (λ takes. inr (refl, refl)) (λ is. inl (subst (λ (ds : List Doc). IsSummed pair.0 ds c n reply) (sym still_shows) is, refl))
 
-  document_goes : (at : ℕ) (took : Option (ℕ × ℕ)) (reply : Reply) → Facts settings before after held session (looks None) (document None at) took reply → Goes settings (document None at) reply S after
-  document_goes at took reply f = look_goes (document None at) took reply f (λ takes. inr (refl, refl)) (λ is. inl (
-    shown_so (slice_get (take pair.0 D) at)
-        (subst (λ (ds : List Doc). IsShown (labels_of before) pair.0 ds at (slice_get ds at) reply) (shelf_docs (document None at) took reply f) is),
+  document_goes : (at : ℕ) (took : Option (ℕ × ℕ)) (saw : Option ℕ) (reply : Reply) → Facts settings before after held session (looks None) (document None at) took saw reply → Goes settings (document None at) reply S after
+  document_goes at took saw reply f = look_goes (document None at) took saw reply f (λ takes. inr (refl, refl)) (λ is. inl (
+    shown_so (slice_get shown at)
+        (subst (λ (ds : List Doc). IsShown (labels_of before) pair.0 ds at (slice_get ds at) reply) (sym still_shows) is),
     refl,
   ))
     where
-      shown_so : (o : Option Doc) → IsShown (labels_of before) pair.0 (take pair.0 D) at o reply → words_answers.IsShown S at o reply
+      shown_so : (o : Option Doc) → IsShown (labels_of before) pair.0 shown at o reply → words_answers.IsShown S at o reply
       shown_so None is = is
       shown_so (Some doc) is = is
 
-  stats_goes : (took : Option (ℕ × ℕ)) (reply : Reply) → Facts settings before after held session (looks None) (stats None) took reply → Goes settings (stats None) reply S after
-  stats_goes took reply f = look_goes (stats None) took reply f (λ takes. absurd (both_ways false refl takes)) (λ is. inl (is ∙ (λ i. numbers (record { operations = pair.0; labels = pair.1; documents = length (shelf_docs (stats None) took reply f i) })), refl))
+  stats_goes : (took : Option (ℕ × ℕ)) (saw : Option ℕ) (reply : Reply) → Facts settings before after held session (looks None) (stats None) took saw reply → Goes settings (stats None) reply S after
+  stats_goes took saw reply f = look_goes (stats None) took saw reply f (λ takes. absurd (both_ways false refl takes)) (λ is. inl (is ∙ (λ i. numbers (record { operations = pair.0; labels = pair.1; documents = length (sym still_shows i) })), refl))
 
   -- ---- commit
 
@@ -417,14 +446,17 @@ module _ (settings : Settings) (before after : Seen) (held : Held) (session : �
   ends_so : (o : Option ℕ) (told : Reply) (next : Shelf) → shut ≡ o → words_answers.IsCommitted S o told next → words_answers.IsCommitted S shut told next
   ends_so o told next e ends = subst (λ (o : Option ℕ). words_answers.IsCommitted S o told next) (sym e) ends
 
-  commit_goes : (took : Option (ℕ × ℕ)) (reply : Reply) → Facts settings before after held session persists commit took reply → Goes settings commit reply S after
-  commit_goes took reply f = ⊎_elim answered_so lacks f.right
+  commit_goes : (took : Option (ℕ × ℕ)) (saw : Option ℕ) (reply : Reply) → Facts settings before after held session persists commit took saw reply → Goes settings commit reply S after
+  commit_goes took saw reply f = ⊎_elim answered_so lacks f.right
     where
-      fits_so : (now : Option ℕ) → failures after.commits ≡ option_to_list now → Fits after (shelf_with (labels_of before) D pair now)
+      fits_so : (now : Option ℕ) → failures after.commits ≡ option_to_list now → Fits after (shelf_with (labels_of before) before.operations shown pair now)
       fits_so now c = record {
         pair = pair;
         shut = now;
-        is = shelf_same (labels_of before) (labels_of after) D (documents_in after.operations) pair now (sym f.leaves) (still_documents f.operations);
+        shown = shown;
+        is = shelf_same (labels_of before) (labels_of after) before.operations after.operations shown pair now (sym f.leaves) (no_operation f.operations);
+        shows = still_shows;
+        within = still_within;
         ends = still_ends f.pairs;
         closed_so = c;
       }
@@ -446,7 +478,7 @@ module _ (settings : Settings) (before after : Seen) (held : Held) (session : �
 
       durable_so : Counts (history_of after) reply → Goes settings commit reply S after
       durable_so c =
-          let low : length before.operations ≤ c.0 = subst (λ (q : Option ℕ). IfSome q (λ n. length before.operations ≤ n)) (ap (stood_by commit) c.2) f.fresh in
+          let low : length before.operations ≤ c.0 = subst (λ (q : Option ℕ). IfSome q (λ n. length before.operations ≤ n)) (ap (stood_by commit saw) c.2) f.fresh in
           let p = pointed None (enters (numbered c.0) c.2).0 in
           let unclosed = p.0 in
           record {
@@ -460,7 +492,7 @@ module _ (settings : Settings) (before after : Seen) (held : Held) (session : �
       failed_so : (c : (count : ℕ) × (reply ≡ refused (disk_failed count))) → Goes settings commit reply S after
       failed_so c =
           let p = pointed (Some c.0) (enters (refused (disk_failed c.0)) c.1) in
-          let now = shelf_with (labels_of before) D pair (Some c.0) in
+          let now = shelf_with (labels_of before) before.operations shown pair (Some c.0) in
           record { told = refused (disk_failed c.0); next = now; same = sym c.1; right = inl (ends_so None (refused (disk_failed c.0)) now p.0 (inr (inr (c.0, refl, refl)))); fits = fits_so (Some c.0) p.1 }
 
       told_so : (c : (count : ℕ) × (reply ≡ refused (closed count))) → Goes settings commit reply S after
@@ -483,8 +515,8 @@ module _ (settings : Settings) (before after : Seen) (held : Held) (session : �
 
   -- ---- merge
 
-  merge_goes : (took : Option (ℕ × ℕ)) (reply : Reply) → Facts settings before after held session merges merge took reply → Goes settings merge reply S after
-  merge_goes took reply f = ⊎_elim merged_so lacks f.right
+  merge_goes : (took : Option (ℕ × ℕ)) (saw : Option ℕ) (reply : Reply) → Facts settings before after held session merges merge took saw reply → Goes settings merge reply S after
+  merge_goes took saw reply f = ⊎_elim merged_so lacks f.right
     where
       merged_so : reply ≡ merged → Goes settings merge reply S after
       merged_so e = record { told = merged; next = S; same = sym e; right = inl (refl, refl); fits = stays f.leaves f.operations f.pairs f.commits }
@@ -494,23 +526,23 @@ module _ (settings : Settings) (before after : Seen) (held : Held) (session : �
 
   -- ---- each command
 
-  goes : (c : Command) → names_no_pair c ≡ true → (took : Option (ℕ × ℕ)) (reply : Reply) → Facts settings before after held session (effect c) c took reply → Goes settings c reply S after
-  goes (add doc) none took reply f = add_goes doc reply (f.commits, f.pairs) f.fresh f.operations f.leaves f.right
-  goes refresh none took reply f = refresh_goes took reply f
-  goes (hold name) none took reply f = absurd (both_ways false refl none)
-  goes (release name) none took reply f = absurd (both_ways false refl none)
-  goes (search None s) none took reply f = search_goes s took reply f
-  goes (search (Some name) s) none took reply f = absurd (both_ways false refl none)
-  goes (ranges None c rs) none took reply f = ranges_goes c rs took reply f
-  goes (ranges (Some name) c rs) none took reply f = absurd (both_ways false refl none)
-  goes (sums None c n) none took reply f = sums_goes c n took reply f
-  goes (sums (Some name) c n) none took reply f = absurd (both_ways false refl none)
-  goes (document None at) none took reply f = document_goes at took reply f
-  goes (document (Some name) at) none took reply f = absurd (both_ways false refl none)
-  goes (stats None) none took reply f = stats_goes took reply f
-  goes (stats (Some name)) none took reply f = absurd (both_ways false refl none)
-  goes commit none took reply f = commit_goes took reply f
-  goes merge none took reply f = merge_goes took reply f
+  goes : (c : Command) → names_no_pair c ≡ true → (took : Option (ℕ × ℕ)) (saw : Option ℕ) (reply : Reply) → Facts settings before after held session (effect c) c took saw reply → Goes settings c reply S after
+  goes (add doc) none took saw reply f = add_goes doc saw reply (f.commits, f.pairs) f.fresh f.operations f.leaves f.right
+  goes refresh none took saw reply f = refresh_goes took saw reply f
+  goes (hold name) none took saw reply f = absurd (both_ways false refl none)
+  goes (release name) none took saw reply f = absurd (both_ways false refl none)
+  goes (search None s) none took saw reply f = search_goes s took saw reply f
+  goes (search (Some name) s) none took saw reply f = absurd (both_ways false refl none)
+  goes (ranges None c rs) none took saw reply f = ranges_goes c rs took saw reply f
+  goes (ranges (Some name) c rs) none took saw reply f = absurd (both_ways false refl none)
+  goes (sums None c n) none took saw reply f = sums_goes c n took saw reply f
+  goes (sums (Some name) c n) none took saw reply f = absurd (both_ways false refl none)
+  goes (document None at) none took saw reply f = document_goes at took saw reply f
+  goes (document (Some name) at) none took saw reply f = absurd (both_ways false refl none)
+  goes (stats None) none took saw reply f = stats_goes took saw reply f
+  goes (stats (Some name)) none took saw reply f = absurd (both_ways false refl none)
+  goes commit none took saw reply f = commit_goes took saw reply f
+  goes merge none took saw reply f = merge_goes took saw reply f
 
 -- ---- all steps
 
@@ -522,7 +554,7 @@ module _ (settings : Settings) (phases : List (List Order)) (opened : Opened) (r
   same_labels : (a b : Seen) → Sees start a → Sees b last → IsTold session a b → a.labels ≡ b.labels
   same_labels a b since until told = nothing_between settings phases opened ran last session all one (λ s. s.labels) (λ a b sees. sees.labels) (λ n a b told. told.labels) a.labels b.labels since.labels told.sees.labels until.labels told.labels
 
-  same_operations : (a : Seen) (ops : Entries Doc) → Sees start a → EntersNone session a.operations ops → IsPrefix ops last.operations → a.operations ≡ ops
+  same_operations : (a : Seen) (ops : Entries Change) → Sees start a → EntersNone session a.operations ops → IsPrefix ops last.operations → a.operations ≡ ops
   same_operations a ops since none until = nothing_between settings phases opened ran last session all one (λ s. s.operations) (λ a b sees. sees.operations) (λ n a b told. told.operations) a.operations ops since.operations none.0 until none.1
 
   same_pairs : (a : Seen) (ps : Entries (ℕ × ℕ)) → Sees start a → EntersNone session a.pairs ps → IsPrefix ps last.pairs → a.pairs ≡ ps
@@ -541,7 +573,10 @@ module _ (settings : Settings) (phases : List (List Order)) (opened : Opened) (r
       record {
         pair = fits.pair;
         shut = fits.shut;
-        is = fits.is ∙ shelf_same (labels_of a) (labels_of b) (documents_in a.operations) (documents_in b.operations) fits.pair fits.shut (ap (λ (l : Entries (List (List ℕ))). [] ∷ map (λ e. e.1) l) labels) (ap documents_in operations);
+        shown = fits.shown;
+        is = fits.is ∙ shelf_same (labels_of a) (labels_of b) a.operations b.operations fits.shown fits.pair fits.shut (ap (λ (l : Entries (List (List ℕ))). [] ∷ map (λ e. e.1) l) labels) operations;
+        shows = fits.shows ∙ ap (λ (ops : Entries Change). docs_of (map operation_of ops) fits.pair) operations;
+        within = (let size = ap length operations in let l = fits.within in omega arith);
         ends = subst (λ (ps : Entries (ℕ × ℕ)). EndsWith ps fits.pair) pairs fits.ends;
         closed_so = subst (λ (cs : Entries CommitPoint). failures cs ≡ option_to_list fits.shut) commits fits.closed_so;
       }
@@ -550,8 +585,8 @@ module _ (settings : Settings) (phases : List (List Order)) (opened : Opened) (r
   step_goes : (held : Held) (x : Step) → In x (steps_of ran) → Sees start x.before → Sees x.after last → IsStep settings held x → names_no_pair x.answered.order.command ≡ true → (shelf : Shelf) → Fits x.before shelf → Goes settings x.answered.order.command x.answered.reply shelf x.after
   step_goes held x there since until step named shelf fits =
       let mine = own settings phases opened ran last session all one x there in
-      let facts : Facts settings x.before x.after held session (effect x.answered.order.command) x.answered.order.command x.answered.took x.answered.reply = record {
-        right = subst (λ (n : ℕ). IsRight settings (labels_of x.after) (history_of x.after) held n x.answered.order.command x.answered.took x.answered.reply ⊎ (IsTrue (takes_memory x.answered.order.command) × (x.answered.reply ≡ refused no_memory))) mine step.right;
+      let facts : Facts settings x.before x.after held session (effect x.answered.order.command) x.answered.order.command x.answered.took x.answered.saw x.answered.reply = record {
+        right = subst (λ (n : ℕ). IsRight settings (labels_of x.after) (history_of x.after) held n x.answered.order.command x.answered.took x.answered.saw x.answered.reply ⊎ (IsTrue (takes_memory x.answered.order.command) × (x.answered.reply ≡ refused no_memory))) mine step.right;
         leaves = step_leaves settings phases opened ran last session all one held x there since until step;
         operations = subst (λ (n : ℕ). EntersOperation n (placed_by n x.answered.order.command x.answered.reply) x.before.operations x.after.operations) mine step.operations;
         pairs = subst (λ (n : ℕ). EntersPair n (length (labels_of x.before)) (length (labels_of x.after)) (refreshed_by x.answered.order.command x.answered.reply) x.before.pairs x.after.pairs) mine step.pairs;
@@ -564,7 +599,7 @@ module _ (settings : Settings) (phases : List (List Order)) (opened : Opened) (r
       (λ ops none begins. same_operations x.before ops since none (prefix_trans ops x.after.operations last.operations begins until.operations))
       (λ ps none begins. same_pairs x.before ps since none (prefix_trans ps x.after.pairs last.pairs begins until.pairs))
       (λ cs none begins. same_commits x.before cs since none (prefix_trans cs x.after.commits last.commits begins until.commits))
-      fits.pair fits.shut fits.ends fits.closed_so x.answered.order.command named x.answered.took x.answered.reply facts)
+      step.sees.operations fits.pair fits.shut fits.shown fits.shows fits.within fits.ends fits.closed_so x.answered.order.command named x.answered.took x.answered.saw x.answered.reply facts)
 
   -- the replies from a shelf on
   record Rest (answered : List Answered) (shelf : Shelf) : Type 0 where
@@ -573,13 +608,14 @@ module _ (settings : Settings) (phases : List (List Order)) (opened : Opened) (r
     right : words_answers.RightReplies settings shelf (orders_of answered) replies_to end
     labels : end.labels ≡ labels_of last
     documents : end.docs ≡ docs (history_of last)
+    operations : end.operations ≡ length (history_of last)
     lines : reply_lines answered ≡ words_answers.reply_lines (orders_of answered) replies_to
 
   serve : (held : Held) (seen : Seen) (xs : List Step) → ((x : Step) → In x xs → In x (steps_of ran)) → SessionRan settings session held seen xs last → Sees start seen
       → NamesNoPair (map (λ (x : Step). x.answered) xs) → (shelf : Shelf) → Fits seen shelf → Rest (map (λ (x : Step). x.answered) xs) shelf
   serve held seen [] among goes_on since none shelf fits =
       let at_end = fits_on seen last shelf since (sees_self last) goes_on fits in
-      record { replies_to = []; end = shelf; right = refl; labels = ap (λ (s : Shelf). s.labels) at_end.is; documents = ap (λ (s : Shelf). s.docs) at_end.is; lines = refl }
+      record { replies_to = []; end = shelf; right = refl; labels = ap (λ (s : Shelf). s.labels) at_end.is; documents = ap (λ (s : Shelf). s.docs) at_end.is; operations = ap (λ (s : Shelf). s.operations) at_end.is ∙ sym (history_size last.operations); lines = refl }
   serve held seen (x ∷ xs) among goes_on since none shelf fits =
       let step = goes_on.1 in
       let until = sees_last settings session (held_after held x.answered) x.after xs last goes_on.2 in
@@ -594,26 +630,35 @@ module _ (settings : Settings) (phases : List (List Order)) (opened : Opened) (r
         right = (first.next, first.right, rest.right);
         labels = rest.labels;
         documents = rest.documents;
+        operations = rest.operations;
         lines = λ i. reply_line x.answered.order.session x.answered.order.line (sym first.same i) ++ rest.lines i;
       }
 
-  opened_documents : (ds : List Doc) → documents_in (map (λ doc. (0, doc)) ds) ≡ ds
-  opened_documents [] = refl
-  opened_documents (d ∷ ds) = ap (λ (l : List Doc). d ∷ l) (opened_documents ds)
+  opened_entries : (ds : List Doc) → map operation_of (map (λ doc. (0, histories.add doc)) ds) ≡ histories.opened ds
+  opened_entries [] = refl
+  opened_entries (d ∷ ds) = ap (λ (l : List Operation). record { session = 0; change = histories.add d } ∷ l) (opened_entries ds)
+
+  opened_documents : (ds : List Doc) → documents_in (map (λ doc. (0, histories.add doc)) ds) ≡ ds
+  opened_documents ds = ap docs (opened_entries ds) ∙ docs_opened ds
 
   served : NamesNoPair (map (λ (x : Step). x.answered) (steps_of ran)) → Served settings opened (map (λ (x : Step). x.answered) (steps_of ran)) last
   served none =
       let whole : own_steps session (steps_of ran) ≡ steps_of ran = filter_all (is_by session) (steps_of ran) one in
       let goes_on : SessionRan settings session [] start (steps_of ran) last = subst (λ (xs : List Step). SessionRan settings session [] start xs last) whole (all.sessions session) in
+      let size : length start.operations ≡ length opened.docs = length-map opened.docs (λ doc. (0, histories.add doc)) in
       let fits : Fits start (words_answers.opened_shelf opened.labels opened.docs) = record {
         pair = (length opened.docs, length opened.labels);
         shut = None;
-        is = shelf_same opened.labels (labels_of start) opened.docs (documents_in start.operations) (length opened.docs, length opened.labels) None (sym (opened_first settings phases opened ran last all)) (sym (opened_documents opened.docs));
+        shown = opened.docs;
+        is = parts_same opened.labels (labels_of start) opened.docs (documents_in start.operations) (length opened.docs) (length start.operations) opened.docs (length opened.docs, length opened.labels) None
+            (sym (opened_first settings phases opened ran last all)) (sym (opened_documents opened.docs)) (sym size);
+        shows = sym (all_docs start.operations (length opened.docs) (omega arith) ∙ opened_documents opened.docs);
+        within = omega arith;
         ends = ([], 0, refl);
         closed_so = refl;
       } in
       let r = serve [] start (steps_of ran) (λ x there. there) goes_on (sees_self start) none (words_answers.opened_shelf opened.labels opened.docs) fits in
-      record { replies = r.replies_to; shelf = r.end; right = r.right; labels = r.labels; docs = r.documents; lines = r.lines }
+      record { replies = r.replies_to; shelf = r.end; right = r.right; labels = r.labels; docs = r.documents; operations = r.operations; lines = r.lines }
 
 pub one_session_is_served : OneSessionIsServed
 one_session_is_served settings phases opened ran last session all one none = served settings phases opened ran last session all one none

@@ -3,6 +3,7 @@ use Rattle.std.proofs.Common.{◌≡◌, ℕ, zero, suc, List, [], ◌∷◌, fa
 use Rattle.std.specs.Prelude.{codes, Option, Some, None, All, unwrap_or, map}
 use Rattle.std.proofs.lemmas.List.Elements.{All-from_recursion}
 use mathlib.Core.List.{IsPrefix}
+use Rattle.facet_model.specs.Histories as histories
 use Rattle.facet_words.specs.Commands.{Command, add, refresh, search}
 use Rattle.facet_replies.specs.Replies.{placed, numbered}
 use Rattle.facet_output.specs.Answered.{Answered}
@@ -20,10 +21,10 @@ use Rattle.facet_output.proofs.Gluing.{told_itself}
 
 -- session 2 enters two labels and one operation, session 1 one of each behind them, and publishes
 abbrev lisa_in : Seen
-lisa_in = record (opened_seen empty_store) { labels = (2, codes "Author" ∷ []) ∷ (2, author (codes "Lisa")) ∷ []; operations = (2, lisa) ∷ [] }
+lisa_in = record (opened_seen empty_store) { labels = (2, codes "Author" ∷ []) ∷ (2, author (codes "Lisa")) ∷ []; operations = (2, histories.add lisa) ∷ [] }
 
 abbrev bob_in : Seen
-bob_in = record (opened_seen empty_store) { labels = (2, codes "Author" ∷ []) ∷ (2, author (codes "Lisa")) ∷ (1, author (codes "Bob")) ∷ []; operations = (2, lisa) ∷ (1, bob) ∷ [] }
+bob_in = record (opened_seen empty_store) { labels = (2, codes "Author" ∷ []) ∷ (2, author (codes "Lisa")) ∷ (1, author (codes "Bob")) ∷ []; operations = (2, histories.add lisa) ∷ (1, histories.add bob) ∷ [] }
 
 abbrev both_published : Seen
 both_published = record bob_in { pairs = (0, (0, 1)) ∷ (1, (2, 4)) ∷ [] }
@@ -86,7 +87,7 @@ bob_steps = record {
   sees = sees start bob_in (_, refl) (_, refl) ([], refl) ([], refl);
   right = inl (inl (1, refl, omega arith, refl));
   labels = bobs;
-  operations = ((2, lisa) ∷ [], ((((2, lisa) ∷ [], refl), refl), refl), refl);
+  operations = ((2, histories.add lisa) ∷ [], ((((2, histories.add lisa) ∷ [], refl), refl), refl), refl);
   pairs = (([], refl), refl);
   commits = (([], refl), refl);
   fresh = omega arith;

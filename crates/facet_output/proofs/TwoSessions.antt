@@ -2,6 +2,7 @@
 use Rattle.std.proofs.Common.{◌≡◌, ℕ, List, [], ◌∷◌, Bool, true, false, refl, subst, eqb, arith, inl, zero, suc}
 use Rattle.std.specs.Prelude.{◌==◌, if◌then◌else◌, codes, Option, Some, None, IsTrue}
 use Rattle.std.proofs.lemmas.Bool.{eqb-true}
+use Rattle.facet_model.specs.Histories as histories
 use Rattle.facet_model.specs.Histories.{Operation}
 use Rattle.facet_words.specs.Commands.{Order, Command, add, refresh, search, stats, commit}
 use Rattle.facet_replies.specs.Replies.{Reply, placed, numbered, found, refused, labels_full, stats as numbers, closed, disk_failed}
@@ -29,7 +30,7 @@ abbrev pub order_of : ℕ → ℕ → Command → Order
 order_of session line command = record { session = session; line = line; command = command }
 
 abbrev pub answer_of : ℕ → ℕ → ℕ → Command → Option (ℕ × ℕ) → Reply → Answered
-answer_of phase session line command took reply = record { phase = phase; order = order_of session line command; took = took; place = None; reply = reply }
+answer_of phase session line command took reply = record { phase = phase; order = order_of session line command; took = took; place = None; saw = None; reply = reply }
 
 -- the same, which saw the pair at a place
 abbrev pub seeing : ℕ → Answered → Answered
@@ -44,10 +45,10 @@ place_of pair = if pair.0 == 0 then 0 else 1
 abbrev full : List Answered
 full = answer_of 0 1 2 (add dated) None (refused (labels_full 3)) ∷ answer_of 0 2 3 (add bob) None (placed 0) ∷ []
 
-full_output : IsOutput three_labels ((order_of 1 2 (add dated) ∷ order_of 2 3 (add bob) ∷ []) ∷ []) empty_store bobs_labels (record { session = 2; doc = bob } ∷ []) ((0, (0, 1)) ∷ []) full
+full_output : IsOutput three_labels ((order_of 1 2 (add dated) ∷ order_of 2 3 (add bob) ∷ []) ∷ []) empty_store bobs_labels (record { session = 2; change = histories.add bob } ∷ []) ((0, (0, 1)) ∷ []) full
 full_output = record {
   asked = refl;
-  replies = each_session (λ s. RightReplies three_labels bobs_labels (record { session = 2; doc = bob } ∷ []) [] (of_session s full))
+  replies = each_session (λ s. RightReplies three_labels bobs_labels (record { session = 2; change = histories.add bob } ∷ []) [] (of_session s full))
       (inl (omega arith, refl), tt) (inl (inl (0, refl, omega arith, refl)), tt) (λ s e f. rw (e, f) tt);
   label_list = refl;
   opened_labels = refl;
@@ -78,7 +79,7 @@ abbrev two_published : List (ℕ × (ℕ × ℕ))
 two_published = (0, (0, 1)) ∷ (1, (2, 4)) ∷ []
 
 abbrev both : List Operation
-both = record { session = 2; doc = lisa } ∷ by_one bob ∷ []
+both = record { session = 2; change = histories.add lisa } ∷ by_one bob ∷ []
 
 -- Lisa's document came first
 abbrev pub two_swapped : Reply
@@ -149,7 +150,7 @@ abbrev circle_pairs : List (ℕ × (ℕ × ℕ))
 circle_pairs = (0, (0, 1)) ∷ (1, (1, 3)) ∷ (2, (1, 3)) ∷ []
 
 -- whatever the places
-in_a_circle : (p r q t : ℕ) → ¬ IsOutput plain_settings circle_phases empty_store bobs_labels (record { session = 3; doc = bob } ∷ []) circle_pairs (circle p r q t)
+in_a_circle : (p r q t : ℕ) → ¬ IsOutput plain_settings circle_phases empty_store bobs_labels (record { session = 3; change = histories.add bob } ∷ []) circle_pairs (circle p r q t)
 in_a_circle p r q t o = by p r (places_to (circle p r q t) bobs_labels circle_pairs o.places)
   where
     by : (p r : ℕ) → IsTrue (list_all (λ a. option_map_or (at_test bobs_labels circle_pairs (circle p r q t) a) a.place true) (circle p r q t)) → ⊥

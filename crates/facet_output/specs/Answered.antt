@@ -6,12 +6,14 @@ use Rattle.facet_words.specs.Commands.{Order}
 use Rattle.facet_replies.specs.Replies.{Reply}
 
 -- A command of a phase with its reply. `took` is the numbers of operations and labels of the last published pair, if it
--- took that. `place` is the place of the pair that it took or published, if any, among those that were published.
+-- took that. `place` is the place of the pair that it took or published, if any, among those that were published. `saw`
+-- is how many operations there were when a change was refused for documents, if it was.
 pub record Answered : Type 0 where
   pub phase : ℕ
   pub order : Order
   pub took : Option (ℕ × ℕ)
   pub place : Option ℕ
+  pub saw : Option ℕ
   pub reply : Reply
 
 -- it is of this session

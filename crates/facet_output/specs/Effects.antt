@@ -1,17 +1,18 @@
 -- What a command does to the history and to the published pairs, and what a reply reports of them.
 use Rattle.std.specs.Prelude.{ℕ, List, Option, Some, None}
-use Rattle.facet_model.specs.Documents.{Doc}
+use Rattle.facet_model.specs.Histories as histories
+use Rattle.facet_model.specs.Histories.{Change}
 use Rattle.facet_words.specs.Commands.{Command, add, refresh, hold, release, search, ranges, sums, document, stats}
 use Rattle.facet_words.specs.Commands.{commit, merge}
 use Rattle.facet_replies.specs.Replies.{Refusal, labels_full, docs_full, disk_failed, closed, numbers_spent, no_memory}
 use Rattle.facet_replies.specs.Replies.{Reply, placed, numbered, found, shown, stats as numbers, ranged, summed, merged}
 use Rattle.facet_replies.specs.Replies.{refused}
 
--- A command adds a document, publishes a pair, holds a pair under a name or releases it, makes operations durable,
--- merges segments, or looks at a pair. It looks at the pair that is held under the name, or without a name at the last
--- one that was published. A command that looks changes nothing.
+-- A command changes the documents, publishes a pair, holds a pair under a name or releases it, makes operations
+-- durable, merges segments, or looks at a pair. It looks at the pair that is held under the name, or without a name at
+-- the last one that was published. A command that looks changes nothing.
 pub data Effect : Type 0 where
-  adds : Doc → Effect
+  changes : Change → Effect
   publishes : Effect
   holds : List ℕ → Effect
   releases : List ℕ → Effect
@@ -20,7 +21,7 @@ pub data Effect : Type 0 where
   looks : Option (List ℕ) → Effect
 
 abbrev pub effect : Command → Effect
-effect (add doc) = adds doc
+effect (add doc) = changes (histories.add doc)
 effect refresh = publishes
 effect (hold name) = holds name
 effect (release name) = releases name
@@ -32,8 +33,8 @@ effect (stats on) = looks on
 effect commit = persists
 effect merge = merges
 
--- Why a command was refused: no more labels fit in the label list of this size, no more documents after so many
--- operations; the disk failed at this count of faults during this commit, or during an earlier one; no file number is
+-- Why a command was refused: no more labels fit in the label list of this size, no more documents besides so many; the
+-- disk failed at this count of faults during this commit, or during an earlier one; no file number is
 -- left; out of memory; or for another reason.
 pub data Reason : Type 0 where
   for_labels : ℕ → Reason

@@ -1,17 +1,17 @@
 -- Scripts of one session, or of one in each phase, whose numbers are exact.
-use Rattle.std.specs.Prelude.{◌≡◌, ◌==◌, ◌≤◌, ◌+◌, ℕ, max, if◌then◌else◌, Bool, true, false, List, [], ◌∷◌, length, take}
-use Rattle.std.specs.Prelude.{All, IsTrue, Option, Some, None, is_none, unwrap_or}
+use Rattle.std.specs.Prelude.{◌≡◌, ◌==◌, ◌≤◌, ◌+◌, ℕ, max, if◌then◌else◌, Bool, true, false, List, [], ◌∷◌, length}
+use Rattle.std.specs.Prelude.{take, All, IsTrue, Option, Some, None, is_none, unwrap_or}
 use Rattle.std.specs.List.{list_all}
 use Rattle.facet_model.specs.Accepts.{Broken, first_broken}
 use Rattle.facet_model.specs.Documents.{Doc}
-use Rattle.facet_model.specs.Histories.{Operation}
+use Rattle.facet_model.specs.Histories.{Operation, doc_of}
 use Rattle.facet_words.specs.Answers.{with_labels}
 use Rattle.facet_words.specs.Commands.{Settings, Command, Order}
 use Rattle.facet_replies.specs.Replies.{Reply, placed, refused, docs_full}
 use Rattle.facet_output.specs.Seen.{Seen, labels_of}
 use Rattle.facet_output.specs.Steps.{Step}
 use Rattle.facet_output.specs.Answered.{Answered, is_of}
-use Rattle.facet_output.specs.Effects.{Effect, adds, effect}
+use Rattle.facet_output.specs.Effects.{Effect, changes, effect}
 use Rattle.facet_output.specs.Output.{Opened, Published, IsOutput}
 use Rattle.facet_output.specs.Sessions.{AllRan, steps_of, is_by, answers_of}
 use Rattle.facet_words.specs.ScriptOrder.{lines_rise}
@@ -22,8 +22,9 @@ abbrev pub after_placing : ℕ → Option (ℕ × Operation) → ℕ
 after_placing operations None = operations
 after_placing operations (Some p) = operations + 1
 
--- Given the number of operations and that of the last refresh: an add is placed after all operations, a refresh and a
--- commit have all of them, and a pair is that of the last refresh.
+-- Given the number of operations and that of the last refresh: a change is placed after all operations, or saw all of
+-- them when it was refused for documents; a refresh and a commit have all of them; and a pair is that of the last
+-- refresh.
 abbrev pub AreExact : ℕ → ℕ → List Answered → Type 0
 AreExact operations taken [] = Unit {0}
 AreExact operations taken (a ∷ later) =
@@ -61,9 +62,9 @@ is_resolved (placed at) = true
 is_resolved (refused (docs_full n)) = true
 is_resolved _ = false
 
--- What an add leaves if the config accepts its document: the labels and a prefix of the missing ones, facet by facet,
--- the dimension first. If it was rejected for labels, these are as many as fit. If it reached the documents, these are
--- all.
+-- What a change that adds a document leaves if the config accepts the document: the labels and a prefix of the missing
+-- ones, facet by facet, the dimension first. If it was rejected for labels, these are as many as fit. If it reached the
+-- documents, these are all.
 pub record LeavesFirst (settings : Settings) (labels : List (List (List ℕ))) (doc : Doc) (reply : Reply)
     (next : List (List (List ℕ))) : Type 0 where
   pub first : next ≡ take (length next) (with_labels labels doc)
@@ -77,10 +78,15 @@ abbrev pub AddLeaves : Settings → List (List (List ℕ)) → Doc → Option Br
 AddLeaves settings labels doc (Some b) reply next = next ≡ labels
 AddLeaves settings labels doc None reply next = LeavesFirst settings labels doc reply next
 
+-- and so does a change that adds no document
+abbrev pub ChangeLeaves : Settings → List (List (List ℕ)) → Option Doc → Reply → List (List (List ℕ)) → Type 0
+ChangeLeaves settings labels None reply next = next ≡ labels
+ChangeLeaves settings labels (Some doc) reply next =
+    AddLeaves settings labels doc (first_broken settings.config doc) reply next
+
 -- and so does a command with another effect
 abbrev pub EffectLeaves : Settings → List (List (List ℕ)) → Effect → Reply → List (List (List ℕ)) → Type 0
-EffectLeaves settings labels (adds doc) reply next =
-    AddLeaves settings labels doc (first_broken settings.config doc) reply next
+EffectLeaves settings labels (changes change) reply next = ChangeLeaves settings labels (doc_of change) reply next
 EffectLeaves settings labels _ reply next = next ≡ labels
 
 abbrev pub Leaves : Settings → List (List (List ℕ)) → Command → Reply → List (List (List ℕ)) → Type 0

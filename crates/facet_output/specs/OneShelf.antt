@@ -1,6 +1,6 @@
 -- A session that runs alone and names no held pair: its replies are those that `facet_words` defines on a shelf, and
 -- its lines are theirs.
-use Rattle.std.specs.Prelude.{◌≡◌, ℕ, List, map, IsTrue}
+use Rattle.std.specs.Prelude.{◌≡◌, ℕ, List, length, map, IsTrue}
 use Rattle.std.specs.List.{list_all}
 use Rattle.facet_model.specs.Histories.{docs}
 use Rattle.facet_words.specs.Answers.{Shelf, opened_shelf, names_no_pair, RightReplies, reply_lines as lines_of}
@@ -29,6 +29,7 @@ pub record Served (settings : Settings) (opened : Opened) (answered : List Answe
   pub right : RightReplies settings (opened_shelf opened.labels opened.docs) (orders_of answered) replies shelf
   pub labels : shelf.labels ≡ labels_of last
   pub docs : shelf.docs ≡ docs (history_of last)
+  pub operations : shelf.operations ≡ length (history_of last)
   pub lines : reply_lines answered ≡ lines_of (orders_of answered) replies
 
 -- if one session ran alone and named no held pair, it was served so

@@ -7,6 +7,7 @@ use Rattle.std.specs.Option.{option_map_or}
 use Rattle.facet_names.specs.Labels.{IsLabelList, skips_none}
 use Rattle.facet_model.specs.Flags.{Config}
 use Rattle.facet_model.specs.Documents.{Doc}
+use Rattle.facet_model.specs.Histories as histories
 use Rattle.facet_model.specs.Histories.{Operation, are_publications}
 use Rattle.facet_model.specs.CoreStates.{is_same_pair}
 use Rattle.facet_words.specs.Commands.{Settings, Order}
@@ -21,9 +22,9 @@ pub record Opened : Type 0 where
   pub labels : List (List (List ℕ))
   pub docs : List Doc
 
--- they are the first operations, of session 0
+-- the first operations: one add of session 0 for each document
 abbrev pub opened_operations : Opened → List Operation
-opened_operations opened = map (λ doc. record { session = 0; doc = doc }) opened.docs
+opened_operations opened = histories.opened opened.docs
 
 -- the numbers of operations and of labels of what was opened
 abbrev pub opened_pair : Opened → ℕ × ℕ
@@ -70,7 +71,7 @@ is_entered config labels published answered e =
     list_any (λ b. brings config e.1 b.order.command && skips_none (take e.0 labels) (paths_of b.order.command) e.1
     && has_shown labels published answered b e.0) answered
 
--- if an add was rejected for labels, each new label was brought by a command that did not come after it
+-- if a change was rejected for labels, each new label was brought by a command that did not come after it
 abbrev pub was_full : Config → List (List (List ℕ)) → List Answered → Answered → Bool
 was_full config new answered a = not (is_refused_for_labels a.order.command a.reply)
     || list_all (is_brought config (λ b. not (comes_after b a)) answered) new
@@ -81,7 +82,7 @@ was_full config new answered a = not (is_refused_for_labels a.order.command a.re
 -- of all.
 abbrev pub is_fresh : ℕ → ℕ → List Answered → Answered → ℕ → Bool
 is_fresh opened all answered a n =
-    nat_le opened n && nat_le n all && list_all (λ b. not (comes_after a b) || nat_le (shows b.reply) n) answered
+    nat_le opened n && nat_le n all && list_all (λ b. not (comes_after a b) || nat_le (shows b) n) answered
 
 -- ---- pairs
 
@@ -156,18 +157,18 @@ pub record IsOutput (settings : Settings) (phases : List (List Order)) (opened :
   pub opened_labels : take (length opened.labels) labels ≡ opened.labels
   -- they are no more than fit, or than were opened
   pub label_limit : length labels ≤ max settings.max_labels (length opened.labels)
-  -- each added label was entered by an add that brings it and skips none, after all labels that its session had been
-  -- shown
+  -- each added label was entered by a change that brings it and skips none, after all labels that its session had
+  -- been shown
   pub entered : IsTrue (list_all (is_entered settings.config labels published answered)
       (enumerate_from (length opened.labels) (added_labels opened labels)))
-  -- if an add was rejected for labels, each added label is brought by an add that did not come after it
+  -- if a change was rejected for labels, each added label is brought by a change that did not come after it
   pub full : IsTrue (list_all (was_full settings.config (added_labels opened labels) answered) answered)
-  -- the history begins with the opened documents
+  -- the history begins with one add for each opened document
   pub opened_docs : take (length opened.docs) history ≡ opened_operations opened
-  -- after them the operations of each session are those of its adds that were placed, in order, each at its place
+  -- after them the operations of each session are those of its changes that were placed, in order, each at its place
   pub operations : (session : ℕ)
       → operations_of session opened history ≡ filter_map placed_operation (of_session session answered)
-  -- each add, refresh and commit comes after all operations that its session had been shown
+  -- each change, refresh and commit comes after all operations that its session had been shown
   pub fresh : IsTrue (each_with stood (is_fresh (length opened.docs) (length history) answered) answered)
   -- the first pair is the opened one
   pub opened_pair_first : take 1 published ≡ (0, opened_pair opened) ∷ []

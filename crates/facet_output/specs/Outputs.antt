@@ -1,5 +1,4 @@
--- What an invocation has written, and its trace: the labels, and for each operation the session that added its
--- document.
+-- What an invocation has written, and its trace: the labels, and for each operation its session.
 use Rattle.std.specs.Prelude.{◌≡◌, ◌⊎◌, ℕ, List, map, take}
 use Rattle.facet_model.specs.Histories.{Operation}
 use Rattle.facet_output.specs.Answered.{Answered}

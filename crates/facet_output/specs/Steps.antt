@@ -1,8 +1,7 @@
 -- One command of a session: what it saw before and after, and what it entered.
 use Rattle.std.specs.Prelude.{◌≡◌, ◌≤◌, ◌<◌, ◌+◌, ◌++◌, ℕ, Bool, true, false, List, [], ◌∷◌, length, take, IsTrue}
 use Rattle.std.specs.Prelude.{Option, Some, None, IfSome}
-use Rattle.facet_model.specs.Documents.{Doc}
-use Rattle.facet_model.specs.Histories.{Operation}
+use Rattle.facet_model.specs.Histories.{Change, Operation}
 use Rattle.facet_words.specs.Commands.{Settings, Command}
 use Rattle.facet_replies.specs.Replies.{Reply}
 use Rattle.facet_output.specs.Answered.{Answered}
@@ -23,10 +22,10 @@ pub record Step : Type 0 where
 -- ---- what is entered
 
 -- the operation that was placed, at its place, and no other
-abbrev pub EntersOperation : ℕ → Option (ℕ × Operation) → Entries Doc → Entries Doc → Type 0
+abbrev pub EntersOperation : ℕ → Option (ℕ × Operation) → Entries Change → Entries Change → Type 0
 EntersOperation n None old new = EntersNone n old new
 EntersOperation n (Some placed) old new =
-    (between : Entries Doc) × EntersBehind n placed.1.doc old between new × (placed.0 ≡ length between)
+    (between : Entries Change) × EntersBehind n placed.1.change old between new × (placed.0 ≡ length between)
 
 -- the pair with the number of operations of a refresh and so many labels, at least and at most, and no other
 abbrev pub EntersPair : ℕ → ℕ → ℕ → Option ℕ → Entries (ℕ × ℕ) → Entries (ℕ × ℕ) → Type 0
@@ -96,7 +95,7 @@ pub record IsStep (settings : Settings) (held : Held) (x : Step) : Type 0 where
       (refreshed x.answered) x.before.pairs x.after.pairs
   pub commits : EntersPoints x.answered.order.session
       (length (labels_of x.before)) x.answered.order.command x.answered.reply x.before.commits x.after.commits
-  -- an add, a refresh and a commit come after all that was seen before
+  -- a change, a refresh and a commit come after all that was seen before
   pub fresh : IfSome (stood x.answered) (λ n. length x.before.operations ≤ n)
   -- a command that takes a pair takes the last one, and publishes none
   pub took : IfSome x.answered.took (λ pair. IsLastPair x.after pair × (refreshed x.answered ≡ None))

@@ -27,16 +27,16 @@ pub fn commits_have_points()
     ensures { CommitsHavePoints }
 {}
 
-/// States that in the right output of a script of one session each add is placed after all operations, each refresh and
-/// each commit has all of them, and each pair that is taken without a name is that of the last refresh. So it is if at
-/// most one session has commands in each phase.
+/// States that in the right output of a script of one session each change is placed after all operations, a change that
+/// is refused for documents saw all of them, each refresh and each commit has all of them, and each pair that is taken
+/// without a name is that of the last refresh. So it is if at most one session has commands in each phase.
 pub fn one_session_is_exact()
     ensures whole { OneSessionIsExact }
     ensures each { OneSessionAPhaseIsExact }
 {}
 
-/// States for a session that ran alone that each add leaves a prefix of the labels that its document lacked, all of
-/// them unless it was rejected for labels, and that each refresh takes all labels.
+/// States for a session that ran alone that each change leaves a prefix of the labels that its document lacked, all of
+/// them unless it was rejected for labels, and none if it adds no document, and that each refresh takes all labels.
 pub fn one_session_has_its_labels()
     ensures { OneSessionHasItsLabels }
 {}

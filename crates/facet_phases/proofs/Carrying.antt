@@ -5,7 +5,7 @@ use Rattle.std.specs.List.{AllZip}
 use Rattle.std.proofs.lemmas.List.Elements.{All-map, All-weaker, length_all_zip, AllZip-get_or, filter_passes}
 use Rattle.chronicle.specs.Frame.{Frame}
 use Rattle.chronicle.specs.History.{NumbersUpTo}
-use Rattle.facet_model.specs.Documents.{Doc}
+use Rattle.facet_model.specs.Histories.{Change}
 use Rattle.pair_manager.specs.declared.pass.Pass.{Pass}
 use Rattle.facet_words.specs.Commands as commands
 use Rattle.facet_output.specs.Answered.{Answered}
@@ -46,7 +46,7 @@ others_told count a b numbers made g session which = ⊎_elim
     let pairs : NumbersUpTo count b.pairs.seen = subst (λ (n : ℕ). NumbersUpTo n b.pairs.seen) made.2 (g.counted.2 b.pairs_rest.0 numbers.2) in
     let commits : NumbersUpTo count b.commits.seen = subst (λ (n : ℕ). NumbersUpTo n b.commits.seen) made.3 (g.counted.3 b.commits_rest.0 numbers.3) in
     unused count session (seen_of a) (seen_of b) g.told.sees above labels
-    (All-map (λ (e : ℕ × Doc). e.0 ≤ count) _ b.operations.seen operations)
+    (All-map (λ (e : ℕ × Change). e.0 ≤ count) _ b.operations.seen operations)
     (All-map (λ (e : ℕ × (ℕ × ℕ)). e.0 ≤ count) _ b.pairs.seen pairs)
     (All-map (λ (e : ℕ × CommitPoint). e.0 ≤ count) _ b.commits.seen commits))
     which

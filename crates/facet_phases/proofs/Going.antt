@@ -46,7 +46,7 @@ going_more engine old now new orders o reply Kept More same own going done adds 
     let so_far = going settings phase has in
     let steps : List Step = so_far.0 in
     let gone = so_far.1 in
-    let x : Step = step_of (command_view o.command) done.took done.place reply now.pass new.pass phase o.line in
+    let x : Step = step_of (command_view o.command) done.took done.place done.saw reply now.pass new.pass phase o.line in
     let number : now.pass.labels.number ≡ o.session = now.numbers.0 ∙ same.0 ∙ sym own in
     let order : x.answered.order ≡ order_view o = λ i. record { session = number i; line = o.line; command = command_view o.command } in
     let step : IsStep settings (numbers_held now.held) x = done.step settings phase o.line (still_set engine old.pass now.pass settings same.1 has) in (

@@ -1,13 +1,13 @@
 -- The trace at the end: whose the operations are.
-use Rattle.std.proofs.Common.{◌≡◌, ◌∙◌, ℕ, ◌+◌, ◌-◌, ◌<◌, ◌≤◌, eqb, Bool, true, false, cond, List, [], ◌∷◌, length, map, refl, ap, subst, arith}
+use Rattle.std.proofs.Common.{◌≡◌, ◌∙◌, ℕ, ◌+◌, ◌-◌, ◌<◌, ◌≤◌, eqb, Bool, true, false, cond, List, [], ◌∷◌, length, map, refl, sym, ap, subst, arith}
 use Rattle.std.specs.Prelude.{All, filter}
 use Rattle.std.specs.List.{AllZip}
 use Rattle.std.proofs.lemmas.Bool.{eq-eqb}
 use Rattle.std.proofs.lemmas.List.Elements.{All-cons, All-head, All-nil, All-tail, length_all_zip}
 use native.Mathlib.Decide.{dec_lt}
 use mathlib.Core.Logic.{dite}
-use Rattle.facet_model.specs.Documents.{Doc}
-use Rattle.facet_model.specs.Histories.{Operation}
+use Rattle.chronicle.specs.History.{entries}
+use Rattle.facet_model.specs.Histories.{Change, Operation}
 use Rattle.facet_output.specs.Outputs.{sessions_in}
 use Rattle.facet_output.specs.Seen.{history_of}
 use Rattle.facet_engine.specs.declared.notes.Notes.{Notes}
@@ -15,6 +15,8 @@ use Rattle.facet_engine.specs.Ending.{AreUpTo, NamesOwn}
 use Rattle.facet_engine.specs.Notes.{noted}
 use Rattle.facet_engine.specs.Systems.{Engine}
 use Rattle.facet_engine.specs.Exchange.{HaveMade}
+use Rattle.facet_engine.proofs.Ended.{sessions_are}
+use Rattle.facet_engine.proofs.Plain.{plain}
 use Rattle.pair_manager.specs.declared.pass.Pass.{Pass}
 use Rattle.facet_phases.specs.declared.lane.Lane.{Lane}
 use Rattle.facet_phases.specs.Lanes.{LaneTold}
@@ -41,25 +43,21 @@ first_named x es all = by (eqb x.0 x.0) (eq-eqb x.0 x.0 refl) all
     by true is h = All-head (Names x.0) x (filter (λ (e : ℕ × Operation). eqb e.0 x.0) es) h
     by false is h = absurd (cc is)
 
-named_all : (count : ℕ) (es : List (ℕ × Operation)) → ((n : ℕ) → n ≤ count → All (Names n) (filter (λ (e : ℕ × Operation). eqb e.0 n) es)) → All (λ (e : ℕ × Operation). e.0 ≤ count) es
-    → map (λ (e : ℕ × Operation). e.1.session) es ≡ map (λ (e : ℕ × Operation). e.0) es
-named_all count [] each up = refl
-named_all count (x ∷ es) each up =
+-- where each entry tells the session of its own number, the operations are those of the plain data
+operations_are : (count : ℕ) (es : List (ℕ × Operation)) → ((n : ℕ) → n ≤ count → All (Names n) (filter (λ (e : ℕ × Operation). eqb e.0 n) es)) → All (λ (e : ℕ × Operation). e.0 ≤ count) es → entries es ≡ plain es
+operations_are count [] each up = refl
+operations_are count (x ∷ es) each up =
     let here : x.1.session ≡ x.0 = first_named x es (each x.0 (All-head (λ (e : ℕ × Operation). e.0 ≤ count) x es up)) in
-    let later = named_all count es (λ n le. rest_named n x es (each n le)) (All-tail (λ (e : ℕ × Operation). e.0 ≤ count) x es up) in
-    λ i. here i ∷ later i
+    let later = operations_are count es (λ n le. rest_named n x es (each n le)) (All-tail (λ (e : ℕ × Operation). e.0 ≤ count) x es up) in
+    λ i. record { session = here i; change = x.1.change } ∷ later i
 
 -- the numbers are those that are told
-up_raw : (count : ℕ) (es : List (ℕ × Operation)) → All (λ (e : ℕ × Doc). e.0 ≤ count) (map {B = ℕ × Doc} (λ e. (e.0, e.1.doc)) es) → All (λ (e : ℕ × Operation). e.0 ≤ count) es
+up_raw : (count : ℕ) (es : List (ℕ × Operation)) → All (λ (e : ℕ × Change). e.0 ≤ count) (map {B = ℕ × Change} (λ e. (e.0, e.1.change)) es) → All (λ (e : ℕ × Operation). e.0 ≤ count) es
 up_raw count [] all = All-nil (λ (e : ℕ × Operation). e.0 ≤ count)
 up_raw count (x ∷ es) all =
-    let plain : List (ℕ × Doc) = map {B = ℕ × Doc} (λ e. (e.0, e.1.doc)) es in
-    All-cons (λ (e : ℕ × Operation). e.0 ≤ count) x es (All-head (λ (e : ℕ × Doc). e.0 ≤ count) (x.0, x.1.doc) plain all)
-    (up_raw count es (All-tail (λ (e : ℕ × Doc). e.0 ≤ count) (x.0, x.1.doc) plain all))
-
-sessions_are : (es : List (ℕ × Operation)) → map (λ (e : ℕ × Operation). e.0) es ≡ sessions_in (map (λ (e : ℕ × Doc). record { session = e.0; doc = e.1 }) (map {B = ℕ × Doc} (λ e. (e.0, e.1.doc)) es))
-sessions_are [] = refl
-sessions_are (e ∷ es) = ap (λ (l : List ℕ). e.0 ∷ l) (sessions_are es)
+    let told : List (ℕ × Change) = map {B = ℕ × Change} (λ e. (e.0, e.1.change)) es in
+    All-cons (λ (e : ℕ × Operation). e.0 ≤ count) x es (All-head (λ (e : ℕ × Change). e.0 ≤ count) (x.0, x.1.change) told all)
+    (up_raw count es (All-tail (λ (e : ℕ × Change). e.0 ≤ count) (x.0, x.1.change) told all))
 
 module _ {C : Type 0} where
   -- under each number that was given
@@ -73,9 +71,13 @@ module _ {C : Type 0} where
       (λ d t. subst (λ (k : ℕ). NamesOwn k notes) (t.same.0 ∙ ready.numbered (n - 1) d lt ∙ (let e : 1 + (n - 1) ≡ n = omega arith in e)) (named (n - 1) d (omega arith))))
       (λ none. let e : 0 ≡ n = omega arith in subst (λ (k : ℕ). NamesOwn k notes) e zero)
 
-  -- the sessions that operations tell are those that entered them
+  -- the operations name the sessions that entered them
+  pub operations_told : (engine : Engine) (first : Pass) (old new : List (Lane C)) (notes : Notes) → AreReady engine first old → AllZip (LaneTold (noted notes)) old new → All (λ (l : Lane C). NamesOwn l.session.number notes) new → NamesOwn 0 notes
+      → ((made : ℕ) → HaveMade made first → AreUpTo made (noted notes)) → entries notes.operations.seen ≡ history_of (noted notes)
+  operations_told engine first old new notes ready z named zero numbers =
+      operations_are (length old) notes.operations.seen (names_each engine first old new notes ready z named zero) (up_raw (length old) notes.operations.seen (numbers (length old) ready.made.made).operations)
+
+  -- so their sessions are those numbers
   pub sessions_told : (engine : Engine) (first : Pass) (old new : List (Lane C)) (notes : Notes) → AreReady engine first old → AllZip (LaneTold (noted notes)) old new → All (λ (l : Lane C). NamesOwn l.session.number notes) new → NamesOwn 0 notes
       → ((made : ℕ) → HaveMade made first → AreUpTo made (noted notes)) → map (λ (e : ℕ × Operation). e.1.session) notes.operations.seen ≡ sessions_in (history_of (noted notes))
-  sessions_told engine first old new notes ready z named zero numbers =
-      named_all (length old) notes.operations.seen (names_each engine first old new notes ready z named zero) (up_raw (length old) notes.operations.seen (numbers (length old) ready.made.made).operations)
-      ∙ sessions_are notes.operations.seen
+  sessions_told engine first old new notes ready z named zero numbers = sym (sessions_are notes.operations.seen) ∙ ap sessions_in (operations_told engine first old new notes ready z named zero numbers)

@@ -11,7 +11,6 @@ ghost use Rattle.commit_turns.specs.DiskStates.{state_of};
 ghost use Rattle.commit_turns.specs.Ending.{Lasts, FailsWith};
 ghost use Rattle.commit_turns.specs.Frames.{HasNumbers};
 ghost use Rattle.commit_turns.specs.Points.{count_after, last_of};
-ghost use Rattle.commit_turns.specs.Seen.{docs_of};
 ghost use Rattle.facet_engine.specs.Notes.{noted};
 ghost use Rattle.facet_engine.specs.Systems.{BelongsTo};
 ghost use Rattle.facet_phases.specs.Running.{AreReady, HaveSameFrames, IsFirst};
@@ -138,7 +137,7 @@ pub fn run_to_end<
     ensures lasts { (config : Config) (next moment faults failures : ℕ) → N.settled
         → config_texts config ≡ first.commits.frame.texts
         → HasNumbers next moment faults failures first.commits.frame
-        → Lasts D.Disk config moment (labels_of (noted result.ended.notes)) (docs_of result.ended.notes.operations.seen)
+        → Lasts D.Disk config moment (labels_of (noted result.ended.notes)) (history_of (noted result.ended.notes))
         (entries result.ended.notes.commits.seen) result.ended.disk }
 
     // Where there is no point of a commit but the opened one, nothing was written.

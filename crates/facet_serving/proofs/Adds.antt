@@ -1,12 +1,13 @@
--- What becomes of adds, in a right output.
+-- What becomes of changes, in a right output.
 use Rattle.std.proofs.Common.{◌≡◌, ◌∙◌, ◌⊎◌, inl, inr, ⊎_elim, ℕ, zero, suc, ◌+◌, ◌≤◌, ◌<◌, eqb, Bool, true, false, cond, List, [], ◌∷◌, length, Option, Some, None, slice_get, refl, sym, ap, subst, arith, ne_eqb}
-use Rattle.std.specs.Prelude.{drop, filter, filter_map, unwrap_or, ◌||◌, not, nat_le}
+use Rattle.std.specs.Prelude.{drop, take, filter, filter_map, unwrap_or, ◌||◌, not, nat_le}
 use Rattle.std.specs.List.{cons_option, enumerate_from, list_all}
 use Rattle.std.specs.Option.{option_map_or}
 use Rattle.std.proofs.lemmas.Bool.{and_parts, both_ways, eq-eqb, leb-true}
 use Rattle.facet_model.specs.Accepts.{Broken, first_broken}
 use Rattle.facet_model.specs.Documents.{Doc}
-use Rattle.facet_model.specs.Histories.{Operation, knows}
+use Rattle.facet_model.specs.Histories as histories
+use Rattle.facet_model.specs.Histories.{Operation, docs, knows}
 use Rattle.facet_output.proofs.Among.{In, of_all, of_filter}
 use Rattle.facet_output.specs.Answered.{Answered, comes_after, is_of, of_session}
 use Rattle.facet_output.specs.Held.{Held, held_after}
@@ -111,7 +112,7 @@ module _ (settings : Settings) (phases : List (List Order)) (opened : Opened) (l
   abbrev added : List Operation
   added = drop (length opened.docs) history
 
-  -- an add that was placed has its operation there
+  -- a change that was placed has its operation there
   pub stands_there : (a : Answered) (p : ℕ × Operation) → In a answered → placed_operation a ≡ Some p → (first ≤ p.0) × (slice_get history p.0 ≡ Some p.1)
   stands_there a p there e =
       let mine = in_filtered (is_of a.order.session) answered a there (eq-eqb a.order.session a.order.session refl) in
@@ -121,7 +122,7 @@ module _ (settings : Settings) (phases : List (List Order)) (opened : Opened) (l
       let place = r.1 in
       (omega arith, subst (λ (k : ℕ). slice_get history k ≡ Some p.1) (sym r.1) (of_dropped first r.0 history p.1 r.2))
 
-  -- each operation behind the opened ones is that of one add
+  -- each operation behind the opened ones is that of one change
   pub each_once : (k : ℕ) (x : Operation) → first ≤ k → slice_get history k ≡ Some x → filter (is_place k) (filter_map placed_operation answered) ≡ (k, x) ∷ []
   each_once k x le at =
       let mine = is_placed settings phases opened labels history published answered o k x le at in
@@ -147,32 +148,33 @@ module _ (settings : Settings) (phases : List (List Order)) (opened : Opened) (l
           (λ is. (held, subst (λ (x : Answered). RightReply settings labels history held x) (sym is) right.0))
           (λ later. among (held_after held b) xs right.1 later) there
 
-  -- it was placed, or memory was wanting, or there were xs many operations xs there may be
+  -- it was placed, or memory was wanting, or so many operations leave as many documents as there may be
   abbrev pub IsPlacedOr : Reply → Type 0
-  IsPlacedOr reply = ((at : ℕ) × (reply ≡ placed at)) ⊎ (reply ≡ refused no_memory) ⊎ ((n : ℕ) × (settings.max_docs ≤ n) × (n ≤ length history) × (reply ≡ refused (docs_full n)))
+  IsPlacedOr reply = ((at : ℕ) × (reply ≡ placed at)) ⊎ (reply ≡ refused no_memory)
+      ⊎ ((n : ℕ) × (n ≤ length history) × (settings.max_docs ≤ length (docs (take n history))) × (reply ≡ refused (docs_full (length (docs (take n history))))))
 
   -- an add whose document the config accepts, and whose labels fit
   pub placed_or : (a : Answered) (doc : Doc) → In a answered → a.order.command ≡ add doc → first_broken settings.config doc ≡ None → (knows labels doc ≡ true) ⊎ (length labels < settings.max_labels) → IsPlacedOr a.reply
   placed_or a doc there is accepted fits =
       let r = right_of a there in
       ⊎_elim
-      (λ right. added_so (subst (λ (b : Option Broken). IsAdded settings labels history a.order.session doc b a.reply) accepted
-      (subst (λ (c : Command). IsRight settings labels history r.0 a.order.session c a.took a.reply) is right)))
+      (λ right. added_so (subst (λ (b : Option Broken). IsAdded settings labels history a.order.session (histories.add doc) a.saw doc b a.reply) accepted
+      (subst (λ (c : Command). IsRight settings labels history r.0 a.order.session c a.took a.saw a.reply) is right)))
       (λ lacks. inr (inl lacks.1)) r.1
     where
-      resolved : (b : Bool) → knows labels doc ≡ b → IsResolved settings labels history a.order.session doc b a.reply → IsPlacedOr a.reply
+      resolved : (b : Bool) → knows labels doc ≡ b → IsResolved settings labels history a.order.session (histories.add doc) a.saw b a.reply → IsPlacedOr a.reply
       resolved false e right = absurd (⊎_elim (λ known. both_ways (knows labels doc) e known) (λ lt. let full = right.0 in omega arith) fits)
-      resolved true e right = ⊎_elim (λ p. inl (p.0, p.3)) (λ n. inr (inr (n.0, n.2, n.1, n.3))) right
+      resolved true e right = ⊎_elim (λ p. inl (p.0, p.3)) (λ n. inr (inr (n.0, n.2, n.3, n.4))) right
 
-      added_so : IsAdded settings labels history a.order.session doc None a.reply → IsPlacedOr a.reply
+      added_so : IsAdded settings labels history a.order.session (histories.add doc) a.saw doc None a.reply → IsPlacedOr a.reply
       added_so right = resolved (knows labels doc) refl right
 
-  -- what was shown before an add, a refresh or a commit
-  pub shown_before : (a b : Answered) (n : ℕ) → In a answered → In b answered → stood a ≡ Some n → comes_after a b ≡ true → shows b.reply ≤ n
+  -- what was shown before a change, a refresh or a commit
+  pub shown_before : (a b : Answered) (n : ℕ) → In a answered → In b answered → stood a ≡ Some n → comes_after a b ≡ true → shows b ≤ n
   shown_before a b n there among stands after =
       let fresh = wanted (stood a) (of_all (λ (x : Answered). option_map_or (is_fresh first (length history) answered x) (stood x) true) answered a o.fresh there) stands in
-      let all = (and_parts _ (list_all (λ (x : Answered). not (comes_after a x) || nat_le (shows x.reply) n) answered) fresh).1 in
-      leb-true (shows b.reply) n (implied_so (comes_after a b) (nat_le (shows b.reply) n) (of_all (λ (x : Answered). not (comes_after a x) || nat_le (shows x.reply) n) answered b all among) after)
+      let all = (and_parts _ (list_all (λ (x : Answered). not (comes_after a x) || nat_le (shows x) n) answered) fresh).1 in
+      leb-true (shows b) n (implied_so (comes_after a b) (nat_le (shows b) n) (of_all (λ (x : Answered). not (comes_after a x) || nat_le (shows x) n) answered b all among) after)
     where
       wanted : (q : Option ℕ) → option_map_or (is_fresh first (length history) answered a) q true ≡ true → q ≡ Some n → is_fresh first (length history) answered a n ≡ true
       wanted None h e = absurd cc

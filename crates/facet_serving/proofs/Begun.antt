@@ -9,7 +9,8 @@ use Rattle.std.proofs.lemmas.List.Folds.{list_all-append}
 use Rattle.chronicle.specs.History.{NumbersUpTo}
 use Rattle.facet_engine.specs.Steps.{point_of, seen_of}
 use Rattle.facet_engine.specs.Exchange.{AreCounted, HaveMade}
-use Rattle.facet_model.specs.Histories.{Operation}
+use Rattle.facet_model.specs.Documents.{Doc}
+use Rattle.facet_model.specs.Histories.{Operation, add}
 use Rattle.facet_output.specs.Output.{Opened, opened_pair}
 use Rattle.facet_output.specs.Seen.{CommitPoint, Seen, opened_seen}
 use Rattle.facet_words.specs.CommandViews.{order_view}
@@ -33,7 +34,7 @@ zero_all {A} {B} f g (x ∷ xs) (y ∷ ys) is =
 pub counted : (first : Pass) (opened : Opened) → HaveMade 0 first → seen_of first ≡ opened_seen opened → AreCounted first
 counted first opened made seen =
     let labels = zero_all {A = List (List ℕ)} {B = List (List ℕ)} {C = List (List ℕ)} (λ p. p) (λ p. p) first.labels.seen (drop 1 opened.labels) (same first.labels.seen ∙ ap (λ (s : Seen). s.labels) seen) in
-    let operations = zero_all (λ (o : Operation). o.doc) (λ d. d) first.operations.seen opened.docs (ap (λ (s : Seen). s.operations) seen) in
+    let operations = zero_all (λ (o : Operation). o.change) (λ (d : Doc). add d) first.operations.seen opened.docs (ap (λ (s : Seen). s.operations) seen) in
     let pairs = zero_all numbers (λ (p : ℕ × ℕ). p) first.pairs.seen (opened_pair opened ∷ []) (ap (λ (s : Seen). s.pairs) seen) in
     let commits = zero_all point_of (λ (p : CommitPoint). p) first.commits.seen (record { operations = length opened.docs; labels = length opened.labels; failed = _ } ∷ []) (ap (λ (s : Seen). s.commits) seen) in
     ((λ note zero. up first.labels.seen first.labels.made made.0 labels), (λ note zero. up first.operations.seen first.operations.made made.1 operations), (λ note zero. up first.pairs.seen first.pairs.made made.2 pairs), (λ note zero. up first.commits.seen first.commits.made made.3 commits))

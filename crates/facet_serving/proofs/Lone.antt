@@ -2,29 +2,33 @@
 use Rattle.std.proofs.Common.{◌≡◌, ◌∙◌, inl, inr, ⊎_elim, ℕ, zero, suc, ◌+◌, ◌≤◌, ◌<◌, eqb, Bool, true, false, cond, List, [], ◌∷◌, ◌++◌, length, map, take, drop, Option, Some, None, slice_get, refl, sym, ap, subst, arith, length-append}
 use Rattle.std.specs.Prelude.{filter, filter_map, flat_map, if◌then◌else◌, is_none, unwrap_or, nat_le, option_map, option_to_list}
 use Rattle.std.specs.List.{list_all, enumerate_from, cons_option}
+use Rattle.std.specs.Option.{option_map_or}
 use Rattle.std.proofs.lemmas.Bool.{and_from, and_parts, eq-eqb, leb-true, le-leb}
-use Rattle.std.proofs.lemmas.List.{length-map, map-append, take-append-drop}
+use Rattle.std.proofs.lemmas.List.{length-map, take-append-drop}
+use Rattle.std.proofs.lemmas.List.Elements.{filter_map-append}
 use Rattle.std.proofs.lemmas.List.Folds.{list_all-append}
 use mathlib.Core.List.{IsPrefix}
 use Rattle.facet_names.specs.Labels.{prefixes}
 use Rattle.facet_model.proofs.Fronts.{weaker}
 use Rattle.facet_model.specs.Accepts.{Broken, first_broken}
 use Rattle.facet_model.specs.Documents.{Doc}
-use Rattle.facet_model.specs.Histories.{Operation, docs, is_pair, knows}
+use Rattle.facet_model.proofs.Changes.{all_brought}
+use Rattle.facet_model.specs.Histories as histories
+use Rattle.facet_model.specs.Histories.{Change, Operation, brought, doc_of, is_pair, knows}
 use Rattle.facet_output.proofs.Among.{In, all_in, of_all, of_filter}
 use Rattle.facet_output.proofs.Exact.{filter_all, refreshed_stood}
 use Rattle.facet_output.proofs.Growing.{prefix_snoc, begins_fold}
 use Rattle.facet_output.proofs.Lifting.{still_knows}
 use Rattle.facet_output.specs.Answered.{Answered, is_of, of_session}
-use Rattle.facet_output.specs.Held.{Held, after_command, is_numbered}
-use Rattle.facet_output.specs.OneSession.{AddLeaves, AreExact, AreExactLabels, Leaves, LeavesFirst, after_placing, room}
+use Rattle.facet_output.specs.Effects.{Effect, effect, changes, holds, looks, merges, persists, publishes, releases, reason, Report, report, says_nothing, says_number, says_pair, says_placed, says_refused}
+use Rattle.facet_output.specs.Held.{Held, after_effect, is_numbered}
+use Rattle.facet_output.specs.OneSession.{AddLeaves, AreExact, AreExactLabels, ChangeLeaves, EffectLeaves, LeavesFirst, after_placing, is_resolved, room}
 use Rattle.facet_output.specs.Output.{IsOutput, Opened, Published, opened_operations, opened_pair}
-use Rattle.facet_output.specs.Replying.{IsAdded, IsResolved, IsRight, RightReplies}
-use Rattle.facet_output.specs.Reported.{placed_by, placed_operation, refreshed, refreshed_by, stood_by}
-use Rattle.facet_replies.specs.Replies.{Reply, found, merged, numbered, placed, ranged, refused, shown, stats as numbers, summed}
+use Rattle.facet_output.specs.Replying.{IsAdded, IsChanged, IsResolved, IsRight, IsRightBy, RightReplies}
+use Rattle.facet_output.specs.Reported.{placed_in, placed_operation, refreshed, refreshed_in, stood_in}
+use Rattle.facet_replies.specs.Replies.{Refusal, Reply, placed, refused}
 use Rattle.facet_words.specs.Answers.{with_labels}
-use Rattle.facet_words.specs.Commands.{Settings, Command, Order, add, commit, document, hold, merge, ranges, refresh, release, search, stats, sums}
-use Rattle.generator.specs.Summaries.{is_placed as tells_place}
+use Rattle.facet_words.specs.Commands.{Settings, Command, Order}
 use Rattle.facet_output.proofs.Served.{all_known}
 use Rattle.chronicle.proofs.Prefixes.{prefix_self, prefix_trans, prefix_length, prefix_shorter}
 
@@ -41,14 +45,14 @@ abbrev pub with_placed : Option (ℕ × Operation) → List Operation → List O
 with_placed None operations = operations
 with_placed (Some p) operations = operations ++ p.1 ∷ []
 
--- what there is behind an order that was answered so and left these labels
-abbrev pub after : State → ℕ → Command → Option (ℕ × ℕ) → Reply → List (List (List ℕ)) → State
-after s session command took reply next = record {
+-- what there is behind an order with this effect that was answered so and left these labels
+abbrev pub after : State → ℕ → Effect → Option (ℕ × ℕ) → Reply → List (List (List ℕ)) → State
+after s session e took reply next = record {
   labels = next;
-  operations = with_placed (placed_by session command reply) s.operations;
-  taken = unwrap_or (refreshed_by command reply) s.taken;
-  taken_labels = if is_none (refreshed_by command reply) then s.taken_labels else length s.labels;
-  held = if is_numbered reply then after_command command took s.held else s.held;
+  operations = with_placed (placed_in session e (report reply)) s.operations;
+  taken = unwrap_or (refreshed_in e (report reply)) s.taken;
+  taken_labels = if is_none (refreshed_in e (report reply)) then s.taken_labels else length s.labels;
+  held = if is_numbered reply then after_effect e took s.held else s.held;
 }
 
 -- what there is before the first order, where this was opened
@@ -68,7 +72,7 @@ pub record Goes (settings : Settings) (labels : List (List (List ℕ))) (history
   pub rest : (k : ℕ) (o : Operation) → length s.operations ≤ k → slice_get history k ≡ Some o → (a : Answered) × In a answered × (placed_operation a ≡ Some (k, o))
   pub limit : length labels ≤ room settings s.labels
   pub rooted : 0 < length s.labels
-  pub known : list_all (knows s.labels) (docs s.operations) ≡ true
+  pub known : list_all (knows s.labels) (brought s.operations) ≡ true
   pub taken_in : s.taken ≤ length s.operations
   pub held_in : list_all (is_in (length s.operations)) s.held ≡ true
 
@@ -92,89 +96,95 @@ module _ (settings : Settings) (labels : List (List (List ℕ))) where
   add_begins doc reply next (Some b) leaves = same_begins next leaves
   add_begins doc reply next None leaves = first_begins doc reply next leaves
 
-  pub leaves_begin : (command : Command) (reply : Reply) (next : List (List (List ℕ))) → Leaves settings labels command reply next → IsPrefix labels next
-  leaves_begin (add doc) reply next leaves = add_begins doc reply next (first_broken settings.config doc) leaves
-  leaves_begin refresh reply next leaves = same_begins next leaves
-  leaves_begin (hold name) reply next leaves = same_begins next leaves
-  leaves_begin (release name) reply next leaves = same_begins next leaves
-  leaves_begin (search on s) reply next leaves = same_begins next leaves
-  leaves_begin (ranges on c rs) reply next leaves = same_begins next leaves
-  leaves_begin (sums on c n) reply next leaves = same_begins next leaves
-  leaves_begin (document on at) reply next leaves = same_begins next leaves
-  leaves_begin (stats on) reply next leaves = same_begins next leaves
-  leaves_begin commit reply next leaves = same_begins next leaves
-  leaves_begin merge reply next leaves = same_begins next leaves
+  change_begins : (d : Option Doc) (reply : Reply) (next : List (List (List ℕ))) → ChangeLeaves settings labels d reply next → IsPrefix labels next
+  change_begins None reply next leaves = same_begins next leaves
+  change_begins (Some doc) reply next leaves = add_begins doc reply next (first_broken settings.config doc) leaves
+
+  pub leaves_begin : (e : Effect) (reply : Reply) (next : List (List (List ℕ))) → EffectLeaves settings labels e reply next → IsPrefix labels next
+  leaves_begin (changes change) reply next leaves = change_begins (doc_of change) reply next leaves
+  leaves_begin publishes reply next leaves = same_begins next leaves
+  leaves_begin (holds name) reply next leaves = same_begins next leaves
+  leaves_begin (releases name) reply next leaves = same_begins next leaves
+  leaves_begin persists reply next leaves = same_begins next leaves
+  leaves_begin merges reply next leaves = same_begins next leaves
+  leaves_begin (looks on) reply next leaves = same_begins next leaves
 
 pub labels_begin : (settings : Settings) (labels : List (List (List ℕ))) (taken : ℕ) (answered : List Answered) (last : List (List (List ℕ))) → AreExactLabels settings labels taken answered last → IsPrefix labels last
 labels_begin settings labels taken [] last exact = same_begins settings labels last exact
-labels_begin settings labels taken (a ∷ later) last exact = prefix_trans labels exact.0 last (leaves_begin settings labels a.order.command a.reply exact.0 exact.1)
+labels_begin settings labels taken (a ∷ later) last exact = prefix_trans labels exact.0 last (leaves_begin settings labels (effect a.order.command) a.reply exact.0 exact.1)
     (labels_begin settings exact.0 (if is_none (refreshed a) then taken else length labels) later last exact.3)
 
 -- ---- an operation that was placed
 
-module _ (settings : Settings) (labels before next : List (List (List ℕ))) (history : List Operation) (held : Held) (session : ℕ) (took : Option (ℕ × ℕ)) where
+-- a reply that reports a place has it, and is no refusal
+place_said : (reply : Reply) (at k : ℕ) → report reply ≡ says_placed at → reply ≡ placed k → k ≡ at
+place_said reply at k said is = ap place_of (sym (ap report is) ∙ said)
+  where
+    place_of : Report → ℕ
+    place_of (says_placed n) = n
+    place_of _ = 0
+
+no_place : (reply : Reply) (at : ℕ) (why : Refusal) → report reply ≡ says_placed at → reply ≡ refused why → ⊥
+no_place reply at why said is = let e : says_placed at ≡ says_refused (reason why) = sym said ∙ ap report is in cc
+
+module _ (settings : Settings) (labels before next : List (List (List ℕ))) (history : List Operation) (held : Held) (session : ℕ) (took : Option (ℕ × ℕ)) (saw : Option ℕ) (reply : Reply) where
   -- it is the session's operation at its place, and the labels that were left know its document
-  abbrev IsHere : Reply → ℕ × Operation → Type 0
-  IsHere reply p = (slice_get history p.0 ≡ Some p.1) × (knows next p.1.doc ≡ true)
+  abbrev IsHere : ℕ × Operation → Type 0
+  IsHere p = (slice_get history p.0 ≡ Some p.1) × (option_map_or (knows next) (doc_of p.1.change) true ≡ true)
 
-  placed_at : (doc : Doc) (at : ℕ) (o : Option Broken) → IsAdded settings labels history session doc o (placed at) → AddLeaves settings before doc o (placed at) next → IsHere (placed at) (at, record { session = session; doc = doc })
-  placed_at doc at (Some b) right leaves = let no_match : true ≡ false = ap tells_place right in absurd cc
-  placed_at doc at None right leaves = by (knows labels doc) right
-    where
-      by : (b : Bool) → IsResolved settings labels history session doc b (placed at) → IsHere (placed at) (at, record { session = session; doc = doc })
-      by false r = let no_match : true ≡ false = ap tells_place r.1 in absurd cc
-      by true r = ⊎_elim
-          (λ p. let same : p.0 ≡ at = ap (λ (q : Reply). place_in q) (sym p.3) in
-          (subst (λ (k : ℕ). slice_get history k ≡ Some (record { session = session; doc = doc })) same p.1, subst (λ (l : List (List (List ℕ))). knows l doc ≡ true) (sym (leaves.whole refl)) (all_known before doc)))
-          (λ n. let no_match : true ≡ false = ap tells_place n.3 in absurd cc) r
-        where
-          place_in : Reply → ℕ
-          place_in (placed k) = k
-          place_in _ = at
+  module _ (change : Change) (at : ℕ) (said : report reply ≡ says_placed at) where
+    abbrev own : Operation
+    own = record { session = session; change = change }
 
-  placed_here : (command : Command) (reply : Reply) (p : ℕ × Operation) → placed_by session command reply ≡ Some p → IsRight settings labels history held session command took reply → Leaves settings before command reply next → IsHere reply p
-  placed_here (add doc) (placed at) p e right leaves = let same : (at, record { session = session; doc = doc }) ≡ p = ap (λ (o : Option (ℕ × Operation)). unwrap_or o p) e in
-      subst (IsHere (placed at)) same (placed_at doc at (first_broken settings.config doc) right leaves)
-  placed_here (add doc) (numbered n) p e right leaves = absurd cc
-  placed_here (add doc) (found f) p e right leaves = absurd cc
-  placed_here (add doc) (shown s) p e right leaves = absurd cc
-  placed_here (add doc) (numbers s) p e right leaves = absurd cc
-  placed_here (add doc) (ranged x) p e right leaves = absurd cc
-  placed_here (add doc) (summed x) p e right leaves = absurd cc
-  placed_here (add doc) merged p e right leaves = absurd cc
-  placed_here (add doc) (refused r) p e right leaves = absurd cc
-  placed_here refresh reply p e right leaves = absurd cc
-  placed_here (hold name) reply p e right leaves = absurd cc
-  placed_here (release name) reply p e right leaves = absurd cc
-  placed_here (search on s) reply p e right leaves = absurd cc
-  placed_here (ranges on c rs) reply p e right leaves = absurd cc
-  placed_here (sums on c n) reply p e right leaves = absurd cc
-  placed_here (document on at) reply p e right leaves = absurd cc
-  placed_here (stats on) reply p e right leaves = absurd cc
-  placed_here commit reply p e right leaves = absurd cc
-  placed_here merge reply p e right leaves = absurd cc
+    its_place : (k : ℕ) → reply ≡ placed k → slice_get history k ≡ Some own → slice_get history at ≡ Some own
+    its_place k is there = subst (λ (n : ℕ). slice_get history n ≡ Some own) (place_said reply at k said is) there
+
+    is_resolved_here : (doc : Doc) (b : Bool) → IsResolved settings labels history session change saw b reply → LeavesFirst settings before doc reply next → (slice_get history at ≡ Some own) × (knows next doc ≡ true)
+    is_resolved_here doc false r leaves = absurd (no_place reply at _ said r.1)
+    is_resolved_here doc true r leaves = ⊎_elim
+        (λ p. (its_place p.0 p.3 p.1, subst (λ (l : List (List (List ℕ))). knows l doc ≡ true) (sym (leaves.whole (ap is_resolved p.3))) (all_known before doc)))
+        (λ n. absurd (no_place reply at _ said n.4)) r
+
+    is_added_here : (doc : Doc) (o : Option Broken) → IsAdded settings labels history session change saw doc o reply → AddLeaves settings before doc o reply next → (slice_get history at ≡ Some own) × (knows next doc ≡ true)
+    is_added_here doc (Some b) right leaves = absurd (no_place reply at _ said right)
+    is_added_here doc None right leaves = is_resolved_here doc (knows labels doc) right leaves
+
+    is_changed_here : (d : Option Doc) → IsChanged settings labels history session change saw d reply → ChangeLeaves settings before d reply next → (slice_get history at ≡ Some own) × (option_map_or (knows next) d true ≡ true)
+    is_changed_here None right leaves = (its_place right.0 right.2 right.1, refl)
+    is_changed_here (Some doc) right leaves = is_added_here doc (first_broken settings.config doc) right leaves
+
+  of_change : (change : Change) (said : Report) → report reply ≡ said → (p : ℕ × Operation) → placed_in session (changes change) said ≡ Some p
+      → IsChanged settings labels history session change saw (doc_of change) reply → ChangeLeaves settings before (doc_of change) reply next → IsHere p
+  of_change change (says_placed at) said p e right leaves =
+      let same : (at, record { session = session; change = change }) ≡ p = ap (λ (o : Option (ℕ × Operation)). unwrap_or o p) e in
+      subst IsHere same (is_changed_here change at said (doc_of change) right leaves)
+  of_change change (says_number n) said p e right leaves = absurd cc
+  of_change change (says_pair n labels) said p e right leaves = absurd cc
+  of_change change says_nothing said p e right leaves = absurd cc
+  of_change change (says_refused why) said p e right leaves = absurd cc
+
+  placed_here : (e : Effect) (command : Command) (p : ℕ × Operation) → placed_in session e (report reply) ≡ Some p → IsRightBy settings labels history held session e command took saw reply → EffectLeaves settings before e reply next → IsHere p
+  placed_here (changes change) command p e right leaves = of_change change (report reply) refl p e right leaves
+  placed_here publishes command p e right leaves = absurd cc
+  placed_here (holds name) command p e right leaves = absurd cc
+  placed_here (releases name) command p e right leaves = absurd cc
+  placed_here persists command p e right leaves = absurd cc
+  placed_here merges command p e right leaves = absurd cc
+  placed_here (looks on) command p e right leaves = absurd cc
 
 -- it stood at its place
-placed_stood : (session : ℕ) (command : Command) (reply : Reply) (p : ℕ × Operation) → placed_by session command reply ≡ Some p → stood_by command reply ≡ Some p.0
-placed_stood session (add doc) (placed at) p e = ap (λ (o : Option (ℕ × Operation)). option_map (λ (q : ℕ × Operation). q.0) o) e
-placed_stood session (add doc) (numbered n) p e = absurd cc
-placed_stood session (add doc) (found f) p e = absurd cc
-placed_stood session (add doc) (shown s) p e = absurd cc
-placed_stood session (add doc) (numbers s) p e = absurd cc
-placed_stood session (add doc) (ranged x) p e = absurd cc
-placed_stood session (add doc) (summed x) p e = absurd cc
-placed_stood session (add doc) merged p e = absurd cc
-placed_stood session (add doc) (refused r) p e = absurd cc
-placed_stood session refresh reply p e = absurd cc
-placed_stood session (hold name) reply p e = absurd cc
-placed_stood session (release name) reply p e = absurd cc
-placed_stood session (search on s) reply p e = absurd cc
-placed_stood session (ranges on c rs) reply p e = absurd cc
-placed_stood session (sums on c n) reply p e = absurd cc
-placed_stood session (document on at) reply p e = absurd cc
-placed_stood session (stats on) reply p e = absurd cc
-placed_stood session commit reply p e = absurd cc
-placed_stood session merge reply p e = absurd cc
+placed_stood : (session : ℕ) (e : Effect) (saw : Option ℕ) (said : Report) (p : ℕ × Operation) → placed_in session e said ≡ Some p → stood_in e saw said ≡ Some p.0
+placed_stood session (changes change) saw (says_placed at) p e = ap (λ (o : Option (ℕ × Operation)). option_map (λ (q : ℕ × Operation). q.0) o) e
+placed_stood session (changes change) saw (says_number n) p e = absurd cc
+placed_stood session (changes change) saw (says_pair n labels) p e = absurd cc
+placed_stood session (changes change) saw says_nothing p e = absurd cc
+placed_stood session (changes change) saw (says_refused why) p e = absurd cc
+placed_stood session publishes saw said p e = absurd cc
+placed_stood session (holds name) saw said p e = absurd cc
+placed_stood session (releases name) saw said p e = absurd cc
+placed_stood session persists saw said p e = absurd cc
+placed_stood session merges saw said p e = absurd cc
+placed_stood session (looks on) saw said p e = absurd cc
 
 length_placed : (o : Option (ℕ × Operation)) (operations : List Operation) → length (with_placed o operations) ≡ after_placing (length operations) o
 length_placed None operations = refl
@@ -198,41 +208,40 @@ held_with n name None held taken all = list_all-append (is_in n) held [] ∙ and
 held_with n name (Some pair) held taken all = list_all-append (is_in n) held ((name, pair) ∷ [])
     ∙ and_from (list_all (is_in n) held) (list_all (is_in n) ((name, pair) ∷ [])) all (and_from (nat_le pair.0 n) true (le-leb pair.0 n (taken pair refl)) refl)
 
-held_by_command : (n : ℕ) (command : Command) (took : Option (ℕ × ℕ)) (held : Held) → ((pair : ℕ × ℕ) → took ≡ Some pair → pair.0 ≤ n) → list_all (is_in n) held ≡ true → list_all (is_in n) (after_command command took held) ≡ true
-held_by_command n (hold name) took held taken all = held_with n name took held taken all
-held_by_command n (release name) took held taken all = held_filtered (is_in n) _ held all
-held_by_command n (add doc) took held taken all = all
-held_by_command n refresh took held taken all = all
-held_by_command n (search on s) took held taken all = all
-held_by_command n (ranges on c rs) took held taken all = all
-held_by_command n (sums on c k) took held taken all = all
-held_by_command n (document on at) took held taken all = all
-held_by_command n (stats on) took held taken all = all
-held_by_command n commit took held taken all = all
-held_by_command n merge took held taken all = all
+held_by_effect : (n : ℕ) (e : Effect) (took : Option (ℕ × ℕ)) (held : Held) → ((pair : ℕ × ℕ) → took ≡ Some pair → pair.0 ≤ n) → list_all (is_in n) held ≡ true → list_all (is_in n) (after_effect e took held) ≡ true
+held_by_effect n (holds name) took held taken all = held_with n name took held taken all
+held_by_effect n (releases name) took held taken all = held_filtered (is_in n) _ held all
+held_by_effect n (changes change) took held taken all = all
+held_by_effect n publishes took held taken all = all
+held_by_effect n persists took held taken all = all
+held_by_effect n merges took held taken all = all
+held_by_effect n (looks on) took held taken all = all
 
-held_behind : (n : ℕ) (b : Bool) (command : Command) (took : Option (ℕ × ℕ)) (held : Held) → ((pair : ℕ × ℕ) → took ≡ Some pair → pair.0 ≤ n) → list_all (is_in n) held ≡ true
-    → list_all (is_in n) (if b then after_command command took held else held) ≡ true
-held_behind n true command took held taken all = held_by_command n command took held taken all
-held_behind n false command took held taken all = all
+held_behind : (n : ℕ) (b : Bool) (e : Effect) (took : Option (ℕ × ℕ)) (held : Held) → ((pair : ℕ × ℕ) → took ≡ Some pair → pair.0 ≤ n) → list_all (is_in n) held ≡ true
+    → list_all (is_in n) (if b then after_effect e took held else held) ≡ true
+held_behind n true e took held taken all = held_by_effect n e took held taken all
+held_behind n false e took held taken all = all
 
 -- ---- one order
 
 module _ (settings : Settings) (labels : List (List (List ℕ))) (history : List Operation) (s : State) (a : Answered) (later : List Answered) (g : Goes settings labels history s (a ∷ later))
-    (right : IsRight settings labels history s.held a.order.session a.order.command a.took a.reply) where
+    (right : IsRight settings labels history s.held a.order.session a.order.command a.took a.saw a.reply) where
   abbrev next : List (List (List ℕ))
   next = g.exact_labels.0
+
+  abbrev does : Effect
+  does = effect a.order.command
 
   abbrev here : Option (ℕ × Operation)
   here = placed_operation a
 
   grows : IsPrefix s.labels next
-  grows = leaves_begin settings s.labels a.order.command a.reply next g.exact_labels.1
+  grows = leaves_begin settings s.labels does a.reply next g.exact_labels.1
 
-  is_here : (p : ℕ × Operation) → here ≡ Some p → (p.0 ≡ length s.operations) × (slice_get history p.0 ≡ Some p.1) × (knows next p.1.doc ≡ true)
-  is_here p e =
-      let r = placed_here settings labels s.labels next history s.held a.order.session a.took a.order.command a.reply p e right g.exact_labels.1 in
-      (g.exact.0 p.0 (placed_stood a.order.session a.order.command a.reply p e), r.0, r.1)
+  is_here : (p : ℕ × Operation) → here ≡ Some p → (p.0 ≡ length s.operations) × (slice_get history p.0 ≡ Some p.1) × (option_map_or (knows next) (doc_of p.1.change) true ≡ true)
+  is_here p is =
+      let r = placed_here settings labels s.labels next history s.held a.order.session a.took a.saw a.reply does a.order.command p is right g.exact_labels.1 in
+      (g.exact.0 p.0 (placed_stood a.order.session does a.saw (report a.reply) p is), r.0, r.1)
 
   begins_next : (o : Option (ℕ × Operation)) → here ≡ o → IsPrefix (with_placed o s.operations) history
   begins_next None e = g.begins
@@ -250,21 +259,21 @@ module _ (settings : Settings) (labels : List (List (List ℕ))) (history : List
           let size = ap (λ (x : Option (ℕ × Operation)). length (with_placed x s.operations)) is ∙ length_placed (Some (k, o)) s.operations in
           omega (arith, at_end, size, le)
 
-  known_next : (o : Option (ℕ × Operation)) → here ≡ o → list_all (knows next) (docs (with_placed o s.operations)) ≡ true
-  known_next None e = known_old
-    where
-      known_old : list_all (knows next) (docs s.operations) ≡ true
-      known_old = weaker (knows s.labels) (knows next) (λ doc knows_it. still_knows s.labels next doc grows knows_it) (docs s.operations) g.known
-  known_next (Some p) e =
-      let old = weaker (knows s.labels) (knows next) (λ doc knows_it. still_knows s.labels next doc grows knows_it) (docs s.operations) g.known in
-      ap (list_all (knows next)) (map-append (λ (o : Operation). o.doc) s.operations (p.1 ∷ []))
-      ∙ list_all-append (knows next) (docs s.operations) (p.1.doc ∷ []) ∙ and_from (list_all (knows next) (docs s.operations)) (list_all (knows next) (p.1.doc ∷ [])) old (and_from (knows next p.1.doc) true (is_here p e).2 refl)
+  known_old : list_all (knows next) (brought s.operations) ≡ true
+  known_old = weaker (knows s.labels) (knows next) (λ doc knows_it. still_knows s.labels next doc grows knows_it) (brought s.operations) g.known
+
+  known_next : (o : Option (ℕ × Operation)) → here ≡ o → list_all (knows next) (brought (with_placed o s.operations)) ≡ true
+  known_next None is = known_old
+  known_next (Some p) is =
+      let last : list_all (knows next) (brought (p.1 ∷ [])) ≡ true = all_brought (knows next) (p.1 ∷ []) ∙ and_from (option_map_or (knows next) (doc_of p.1.change) true) true (is_here p is).2 refl in
+      ap (list_all (knows next)) (filter_map-append (λ (o : Operation). doc_of o.change) s.operations (p.1 ∷ []))
+      ∙ list_all-append (knows next) (brought s.operations) (brought (p.1 ∷ [])) ∙ and_from (list_all (knows next) (brought s.operations)) (list_all (knows next) (brought (p.1 ∷ []))) known_old last
 
   taken_next : (o : Option ℕ) → refreshed a ≡ o → unwrap_or o s.taken ≤ length (with_placed here s.operations)
   taken_next None e = let more = more_placed here s.operations in let t = g.taken_in in omega arith
-  taken_next (Some n) e = let more = more_placed here s.operations in let is = g.exact.0 n (refreshed_stood a.order.command a.reply n e) in omega arith
+  taken_next (Some n) e = let more = more_placed here s.operations in let is = g.exact.0 n (refreshed_stood a n e) in omega arith
 
-  pub goes_on : Goes settings labels history (after s a.order.session a.order.command a.took a.reply next) later
+  pub goes_on : Goes settings labels history (after s a.order.session does a.took a.reply next) later
   goes_on = record {
     right = g.right.1;
     exact = subst (λ (n : ℕ). AreExact n (unwrap_or (refreshed a) s.taken) later) (sym (length_placed here s.operations)) g.exact.2;
@@ -275,7 +284,7 @@ module _ (settings : Settings) (labels : List (List (List ℕ))) (history : List
     rooted = (let l = g.rooted in let m = prefix_length s.labels next grows in omega arith);
     known = known_next here refl;
     taken_in = taken_next (refreshed a) refl;
-    held_in = held_behind (length (with_placed here s.operations)) (is_numbered a.reply) a.order.command a.took s.held
+    held_in = held_behind (length (with_placed here s.operations)) (is_numbered a.reply) does a.took s.held
         (λ pair e. let is = g.exact.1 pair e in let t = g.taken_in in let more = more_placed here s.operations in omega arith)
         (held_more (length s.operations) (length (with_placed here s.operations)) s.held (more_placed here s.operations) g.held_in);
   }
@@ -317,7 +326,7 @@ in_filtered p (y ∷ ys) x there passes = ⊎_elim
 
 module _ (settings : Settings) (phases : List (List Order)) (opened : Opened) (labels : List (List (List ℕ))) (history : List Operation) (published : Published) (answered : List Answered)
     (o : IsOutput settings phases opened labels history published answered) where
-  -- each operation behind the opened ones was placed by an add
+  -- each operation behind the opened ones was placed by a change
   pub is_placed : (k : ℕ) (x : Operation) → length opened.docs ≤ k → slice_get history k ≡ Some x → (a : Answered) × In a (of_session x.session answered) × (placed_operation a ≡ Some (k, x))
   is_placed k x le at =
       let split = beyond (length opened.docs) k le in
@@ -329,7 +338,7 @@ module _ (settings : Settings) (phases : List (List Order)) (opened : Opened) (l
       of_filter_map placed_operation (of_session x.session answered) (k, x) (subst (λ (l : List (ℕ × Operation)). In (k, x) l) (o.operations x.session) own)
 
   opened_size : length (opened_operations opened) ≡ length opened.docs
-  opened_size = length-map opened.docs (λ doc. record { session = 0; doc = doc })
+  opened_size = length-map opened.docs (λ doc. record { session = 0; change = histories.add doc })
 
   pair_there : (published : Published) → take 1 published ≡ (0, opened_pair opened) ∷ [] → list_all (is_pair labels history) (map (λ (e : ℕ × (ℕ × ℕ)). e.1) published) ≡ true → is_pair labels history (opened_pair opened) ≡ true
   pair_there [] first all = absurd cc
@@ -337,13 +346,13 @@ module _ (settings : Settings) (phases : List (List Order)) (opened : Opened) (l
       let same : e ≡ (0, opened_pair opened) = ap (λ (l : Published). unwrap_or (slice_get l 0) e) first in
       subst (λ (q : ℕ × (ℕ × ℕ)). is_pair labels history q.1 ≡ true) same (and_parts (is_pair labels history e.1) (list_all (is_pair labels history) (map (λ (e : ℕ × (ℕ × ℕ)). e.1) more)) all).0
 
-  opened_known : list_all (knows opened.labels) (docs (opened_operations opened)) ≡ true
+  opened_known : list_all (knows opened.labels) (brought (opened_operations opened)) ≡ true
   opened_known =
       let pairs : List (ℕ × ℕ) = map (λ (e : ℕ × (ℕ × ℕ)). e.1) published in
       let all = (and_parts _ (list_all (is_pair labels history) pairs) o.publications).1 in
       let covered = (and_parts _ _ (pair_there published o.opened_pair_first all)).1 in
-      subst (λ (h : List Operation). list_all (knows opened.labels) (docs h) ≡ true) o.opened_docs
-      (subst (λ (l : List (List (List ℕ))). list_all (knows l) (docs (take (length opened.docs) history)) ≡ true) o.opened_labels covered)
+      subst (λ (h : List Operation). list_all (knows opened.labels) (brought h) ≡ true) o.opened_docs
+      (subst (λ (l : List (List (List ℕ))). list_all (knows l) (brought (take (length opened.docs) history)) ≡ true) o.opened_labels covered)
 
   pub goes_first : (session : ℕ) → 0 < length opened.labels → list_all (is_of session) answered ≡ true → AreExact (length opened.docs) (length opened.docs) answered → AreExactLabels settings opened.labels (length opened.labels) answered labels
       → Goes settings labels history (state_of opened) answered

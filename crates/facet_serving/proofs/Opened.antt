@@ -9,7 +9,7 @@ use Rattle.facet_engine.specs.declared.ending.Trace.{Trace}
 use Rattle.facet_engine.specs.declared.opening.Store.{Store}
 use Rattle.facet_model.specs.Documents.{Doc}
 use Rattle.facet_model.specs.Flags.{Config}
-use Rattle.facet_model.specs.Histories.{Operation}
+use Rattle.facet_model.specs.Histories.{Change, Operation, add}
 use Rattle.facet_model.specs.Stored.{Decodes}
 use Rattle.facet_output.proofs.Chain.{sees_last}
 use Rattle.facet_output.specs.Output.{Opened}
@@ -46,15 +46,15 @@ pub record HasOpened (opened : Opened) (last : Seen) : Type 0 where
 pub has_opened : (settings : Settings) (phases : List (List Order)) (opened : Opened) (ran : List (List Step)) (last : Seen) → AllRan settings phases opened ran last → HasOpened opened last
 has_opened settings phases opened ran last all =
     let sees : Sees (opened_seen opened) last = sees_last settings 0 [] (opened_seen opened) (own_steps 0 (steps_of ran)) last (all.sessions 0) in
-    let doc : Doc → ℕ × Doc = λ d. (0, d) in
+    let added : Doc → ℕ × Change = λ d. (0, add d) in
     let path : List (List ℕ) → ℕ × List (List ℕ) = λ p. (0, p) in
     let label : ℕ × List (List ℕ) → List (List ℕ) = λ e. e.1 in
-    let operation : ℕ × Doc → Operation = λ e. record { session = e.0; doc = e.1 } in
+    let operation : ℕ × Change → Operation = λ e. record { session = e.0; change = e.1 } in
     let docs = prefix_length (opened_seen opened).operations last.operations sees.operations in
     let labels = prefix_length (opened_seen opened).labels last.labels sees.labels in
     let rest = root_and_more opened.labels all.rooted in
     record {
-      docs = omega (arith, docs, length-map opened.docs doc, length-map last.operations operation);
+      docs = omega (arith, docs, length-map opened.docs added, length-map last.operations operation);
       labels = omega (arith, labels, length-map (drop 1 opened.labels) path, length-map last.labels label, rest);
     }
   where

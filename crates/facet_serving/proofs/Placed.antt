@@ -1,8 +1,9 @@
--- What becomes of the adds of a run.
-use Rattle.std.proofs.Common.{◌≡◌, ◌∙◌, ℕ, ◌≤◌, List, length, Some, slice_get, ap}
+-- What becomes of the changes of a run.
+use Rattle.std.proofs.Common.{◌≡◌, ◌∙◌, ℕ, List, Some, slice_get, ap}
 use Rattle.facet_disk.specs.declared.disk.Disk.{Ghosts}
 use Rattle.facet_engine.specs.declared.ending.Trace.{Trace}
 use Rattle.facet_model.specs.Documents.{Doc}
+use Rattle.facet_model.specs.Histories as histories
 use Rattle.facet_model.specs.Histories.{Operation}
 use Rattle.facet_output.proofs.Among.{In}
 use Rattle.facet_output.proofs.Answers.{get_map}
@@ -17,17 +18,17 @@ use Rattle.facet_serving.specs.Sessions.{Ran}
 use Rattle.facet_output.proofs.Gluing.{all_by}
 
 -- the operation of an add that was placed
-pub operation_is : (a : Answered) (doc : Doc) (place : ℕ) → a.order.command ≡ add doc → a.reply ≡ placed place → placed_operation a ≡ Some (place, record { session = a.order.session; doc = doc })
+operation_is : (a : Answered) (doc : Doc) (place : ℕ) → a.order.command ≡ add doc → a.reply ≡ placed place → placed_operation a ≡ Some (place, record { session = a.order.session; change = histories.add doc })
 operation_is a doc place is says = λ i. placed_by a.order.session (is i) (says i)
 
 module _ {D : Type 0} (ghosts : Ghosts D) (settings : Settings) (phases : List (List Order)) (trace : Trace) (old new : D) (ran : Ran ghosts settings phases trace old new) where
   of_trace : (place : ℕ) (o : Operation) → slice_get (history_of ran.last) place ≡ Some o → slice_get trace.sessions.items place ≡ Some o.session
   of_trace place o at = ap (λ (l : List ℕ). slice_get l place) ran.traced.sessions ∙ get_map (λ (x : Operation). x.session) (history_of ran.last) place o at
 
-  pub add_stands : (a : Answered) (doc : Doc) (place : ℕ) → In a ran.answered → a.order.command ≡ add doc → a.reply ≡ placed place
-      → (length ran.opened.docs ≤ place) × (slice_get (history_of ran.last) place ≡ Some (record { session = a.order.session; doc = doc })) × (slice_get trace.sessions.items place ≡ Some a.order.session)
-  add_stands a doc place there is says =
-      let o : Operation = record { session = a.order.session; doc = doc } in
+  -- an add that was placed has its operation there
+  add_stands : (a : Answered) → In a ran.answered → Stands ran.opened ran.last trace a
+  add_stands a there doc place is says =
+      let o : Operation = record { session = a.order.session; change = histories.add doc } in
       let r = stands_there settings phases ran.opened (labels_of ran.last) (history_of ran.last) ran.last.pairs ran.answered ran.right a (place, o) there (operation_is a doc place is says) in
       (r.0, r.1, of_trace place o r.1)
 
@@ -39,7 +40,7 @@ module _ {D : Type 0} (ghosts : Ghosts D) where
   )
 
   pub each_add_stands : EachAddStands ghosts
-  each_add_stands settings phases trace old new ran = all_by (Stands ran.opened ran.last trace) ran.answered (λ a there doc place is says. add_stands ghosts settings phases trace old new ran a doc place there is says)
+  each_add_stands settings phases trace old new ran = all_by (Stands ran.opened ran.last trace) ran.answered (add_stands ghosts settings phases trace old new ran)
 
   pub adds_are_placed : AddsArePlaced ghosts
   adds_are_placed settings phases trace old new ran = all_by (IsPlacedWhereItFits settings ran.last) ran.answered (λ a there doc is accepted fits.

@@ -1,17 +1,17 @@
 -- What becomes of commits.
-use Rattle.std.specs.Prelude.{◌≡◌, ◌≤◌, ◌⊎◌, ◌^◌, ℕ, List, length, slice_get, Some, Ok, All, IsTrue}
+use Rattle.std.specs.Prelude.{◌≡◌, ◌≤◌, ◌<◌, ◌⊎◌, ◌^◌, ℕ, List, length, take, slice_get, Some, Ok, All, IsTrue}
 use Rattle.commit_turns.specs.Recovery.{Recovers, docs_found}
 use Rattle.facet_disk.specs.Images.{Image, Told}
 use Rattle.facet_disk.specs.declared.disk.Disk.{Ghosts}
 use Rattle.facet_engine.specs.declared.ending.Trace.{Trace}
 use Rattle.facet_io.specs.Faults.{Rose}
-use Rattle.facet_model.specs.Documents.{Doc}
-use Rattle.facet_model.specs.Histories.{docs}
+use Rattle.facet_model.specs.Histories.{Operation, docs}
 use Rattle.facet_output.specs.Answered.{Answered, comes_after, in_writing_order}
 use Rattle.facet_output.specs.Output.{has_shown}
 use Rattle.facet_output.specs.Seen.{Seen, history_of, labels_of}
-use Rattle.facet_replies.specs.Replies.{no_memory, numbered, placed, refused}
-use Rattle.facet_words.specs.Commands.{Settings, Order, Script, add, commit}
+use Rattle.facet_output.specs.Reported.{placed_operation}
+use Rattle.facet_replies.specs.Replies.{no_memory, numbered, refused}
+use Rattle.facet_words.specs.Commands.{Settings, Order, Script, commit}
 use Rattle.facet_words.specs.ScriptOrder.{orders_in}
 use Rattle.facet_words.specs.Scripts.{script}
 use Rattle.generator.specs.Generated.{generated}
@@ -23,24 +23,23 @@ use Rattle.facet_serving.specs.Sessions.{Ran}
 
 -- ---- what was acknowledged stays
 
--- of an add that came before a commit, of its session or of an earlier phase, and was answered with a place: of these
--- documents its own is there
-abbrev pub HasAdd : Answered → List Doc → Answered → Type 0
-HasAdd a documents b = (doc : Doc) (place : ℕ) → IsTrue (comes_after a b) → b.order.command ≡ add doc
-    → b.reply ≡ placed place
-    → slice_get documents place ≡ Some doc
+-- of a change that came before a commit, of its session or of an earlier phase, and was answered with a place: its
+-- operation is there, among the first so many
+abbrev pub HasChange : List Operation → Answered → ℕ → Answered → Type 0
+HasChange history a many b = (place : ℕ) (o : Operation) → IsTrue (comes_after a b)
+    → placed_operation b ≡ Some (place, o) → (place < many) × (slice_get history place ≡ Some o)
 
--- An image opens as the first of the labels and the first of the documents at the end, with all that a commit
--- acknowledged which was answered this number.
+-- An image opens as the first of the labels, and as what the first of the operations at the end leave, with all that a
+-- commit acknowledged which was answered this number.
 pub record Holds (settings : Settings) (last : Seen) (answered : List Answered) (a : Answered) (n : ℕ)
     (c : Image) : Type 0 where
-  pub recovers : Recovers settings.config (labels_of last) (docs (history_of last)) c
-  -- so many documents, or more
-  pub many : n ≤ length (docs_found recovers.found)
+  pub recovers : Recovers settings.config (labels_of last) (history_of last) c
+  -- so many operations, or more
+  pub many : n ≤ recovers.operations
   -- all labels that its session had been shown
   pub labels : (m : ℕ) × (m ≤ length recovers.found.labels)
       × IsTrue (has_shown (labels_of last) last.pairs answered a m)
-  pub adds : All (HasAdd a (docs_found recovers.found)) answered
+  pub changes : All (HasChange (history_of last) a recovers.operations) answered
 
 -- of a commit that was acknowledged: the image holds that
 abbrev pub IsHeld : Settings → Seen → List Answered → Image → Answered → Type 0
@@ -56,15 +55,15 @@ AcknowledgedStays {D} ghosts = (settings : Settings) (phases : List (List Order)
     → (ran : Ran ghosts settings phases trace old new) → (c : Image) → ghosts.may_leave new c
     → All (IsHeld settings ran.last ran.answered c) ran.answered
 
--- Of a commit that was acknowledged so: there was a moment at which whatever a crash left had just so many documents,
--- and whatever a crash at any moment since then left holds all that it acknowledged.
+-- Of a commit that was acknowledged so: there was a moment at which whatever a crash left had just the documents that
+-- so many operations leave, and whatever a crash at any moment since then left holds all that it acknowledged.
 pub record HeldSince {D : Type 0} (ghosts : Ghosts D) (settings : Settings) (last : Seen) (answered : List Answered)
     (now : D) (a : Answered) (n : ℕ) : Type 0 where
   -- the disk as it was at that moment
   pub at : D
   pub earlier : ghosts.moment at ≤ ghosts.moment now
   pub just : (c : Image) → ghosts.may_leave at c
-      → (f : Found) × (files settings.config c ≡ Ok f) × (length (docs_found f) ≡ n)
+      → (f : Found) × (files settings.config c ≡ Ok f) × (docs_found f ≡ docs (take n (history_of last)))
   pub since : (c : Image) → ghosts.left_since now (ghosts.moment at) c → Holds settings last answered a n c
 
 -- of a commit that was acknowledged: it holds since then

@@ -1,11 +1,12 @@
--- What becomes of adds.
-use Rattle.std.specs.Prelude.{◌≡◌, ◌≤◌, ◌<◌, ◌⊎◌, ◌==◌, ℕ, List, [], ◌∷◌, length, filter, filter_map, slice_get, Some}
-use Rattle.std.specs.Prelude.{None, All, IsTrue}
+-- What becomes of changes.
+use Rattle.std.specs.Prelude.{◌≡◌, ◌≤◌, ◌<◌, ◌⊎◌, ◌==◌, ℕ, List, [], ◌∷◌, length, take, filter, filter_map, slice_get}
+use Rattle.std.specs.Prelude.{Some, None, All, IsTrue}
 use Rattle.facet_disk.specs.declared.disk.Disk.{Ghosts}
 use Rattle.facet_engine.specs.declared.ending.Trace.{Trace}
 use Rattle.facet_model.specs.Accepts.{first_broken}
 use Rattle.facet_model.specs.Documents.{Doc}
-use Rattle.facet_model.specs.Histories.{Operation, knows}
+use Rattle.facet_model.specs.Histories as histories
+use Rattle.facet_model.specs.Histories.{Operation, docs, knows}
 use Rattle.facet_output.specs.Answered.{Answered}
 use Rattle.facet_output.specs.Output.{Opened}
 use Rattle.facet_output.specs.Seen.{Seen, history_of, labels_of}
@@ -14,11 +15,11 @@ use Rattle.facet_replies.specs.Replies.{Reply, docs_full, no_memory, placed, ref
 use Rattle.facet_words.specs.Commands.{Settings, Order, add}
 use Rattle.facet_serving.specs.Sessions.{Ran}
 
--- the operations of the adds that were answered with this place, with it
+-- the operations of the changes that were answered with this place, with it
 abbrev pub placed_at : ℕ → List Answered → List (ℕ × Operation)
 placed_at place answered = filter (λ e. e.0 == place) (filter_map placed_operation answered)
 
--- Each operation after the opened ones is that of one add and of no other, which was answered with its place. The
+-- Each operation after the opened ones is that of one change and of no other, which was answered with its place. The
 -- trace has its session there.
 abbrev pub EachIsAddedOnce : {D : Type 0} → Ghosts D → Type 0
 EachIsAddedOnce {D} ghosts = (settings : Settings) (phases : List (List Order)) (trace : Trace) (old new : D)
@@ -27,11 +28,11 @@ EachIsAddedOnce {D} ghosts = (settings : Settings) (phases : List (List Order)) 
     → (slice_get trace.sessions.items place ≡ Some o.session)
     × (placed_at place ran.answered ≡ (place, o) ∷ [])
 
--- of an add that was answered with a place: its document is there, under its session, also in the trace
+-- of an add that was answered with a place: its operation is there, under its session, also in the trace
 abbrev pub Stands : Opened → Seen → Trace → Answered → Type 0
 Stands opened last trace a =
     (doc : Doc) (place : ℕ) → a.order.command ≡ add doc → a.reply ≡ placed place → (length opened.docs ≤ place)
-    × (slice_get (history_of last) place ≡ Some (record { session = a.order.session; doc = doc }))
+    × (slice_get (history_of last) place ≡ Some (record { session = a.order.session; change = histories.add doc }))
     × (slice_get trace.sessions.items place ≡ Some a.order.session)
 
 abbrev pub EachAddStands : {D : Type 0} → Ghosts D → Type 0
@@ -39,11 +40,12 @@ EachAddStands {D} ghosts = (settings : Settings) (phases : List (List Order)) (t
     → (ran : Ran ghosts settings phases trace old new)
     → All (Stands ran.opened ran.last trace) ran.answered
 
--- it has a place, or reports that memory ran out, or as many documents as there may be, which are there
+-- it has a place, or reports that memory ran out, or that so many operations leave as many documents as there may be
 abbrev pub IsPlacedOr : Settings → List Operation → Reply → Type 0
 IsPlacedOr settings history reply =
-    ((at : ℕ) × (reply ≡ placed at)) ⊎ (reply ≡ refused no_memory) ⊎ ((n : ℕ) × (settings.max_docs ≤ n)
-    × (n ≤ length history) × (reply ≡ refused (docs_full n)))
+    ((at : ℕ) × (reply ≡ placed at)) ⊎ (reply ≡ refused no_memory)
+    ⊎ ((n : ℕ) × (n ≤ length history) × (settings.max_docs ≤ length (docs (take n history)))
+    × (reply ≡ refused (docs_full (length (docs (take n history))))))
 
 -- of an add whose document the config accepts: it is placed so, where all its labels are there at the end, or fewer
 -- labels than there may be

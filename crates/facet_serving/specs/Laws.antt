@@ -1,7 +1,6 @@
 -- Laws over runs.
-use Rattle.std.specs.Prelude.{◌≡◌, ◌≤◌, length, List, None, Some, Ok, All}
+use Rattle.std.specs.Prelude.{◌≡◌, ◌≤◌, ℕ, length, take, List, None, Some, Ok, All}
 use Rattle.commit_turns.specs.Points.{last_of}
-use Rattle.commit_turns.specs.Recovery.{AreFirst}
 use Rattle.facet_disk.specs.Images.{Told}
 use Rattle.facet_disk.specs.declared.disk.Disk.{Ghosts}
 use Rattle.facet_engine.specs.declared.ending.Trace.{Trace}
@@ -17,15 +16,17 @@ use Rattle.facet_serving.specs.Stores.{points_of}
 
 -- ---- one run after another
 
--- What a run left is opened: the first of its labels and documents, at least those of each commit that was
--- acknowledged; where none failed on the disk, just those of the last one.
+-- What a run left is opened: the first of its labels, and what the first of its operations leave, at least those of
+-- each commit that was acknowledged; where none failed on the disk, just those of the last one.
 pub record IsReopened (last : Seen) (next : Opened) : Type 0 where
   pub labels : GoesOn next.labels (labels_of last)
-  pub docs : AreFirst next.docs (docs (history_of last))
-  pub all : All (λ p. (p.labels ≤ length next.labels) × (p.operations ≤ length next.docs)) (points_of last.commits)
+  pub operations : ℕ
+  pub within : operations ≤ length (history_of last)
+  pub documents : next.docs ≡ docs (take operations (history_of last))
+  pub all : All (λ p. (p.labels ≤ length next.labels) × (p.operations ≤ operations)) (points_of last.commits)
   pub exact : (last_of (points_of last.commits)).failed ≡ None
       → (length next.labels ≡ (last_of (points_of last.commits)).labels)
-      × (length next.docs ≡ (last_of (points_of last.commits)).operations)
+      × (next.docs ≡ docs (take (last_of (points_of last.commits)).operations (history_of last)))
 
 -- what a run acknowledged, the next one under the same flags opens
 abbrev pub AcknowledgedIsReopened : {D : Type 0} → Ghosts D → Type 0

@@ -7,7 +7,6 @@ use Rattle.facet_disk.specs.declared.disk.Disk.{Ghosts}
 use Rattle.facet_disk.specs.Images.{Told}
 use Rattle.facet_io.specs.Faults.{Rose}
 use Rattle.facet_model.specs.Flags.{Config}
-use Rattle.facet_model.specs.Histories.{docs}
 use Rattle.facet_model.specs.Stored.{Records, Decodes}
 use Rattle.facet_names.specs.Labels.{IsLabelList}
 use Rattle.facet_output.specs.Output.{Opened}
@@ -49,5 +48,5 @@ pub record Keeps {D : Type 0} (ghosts : Ghosts D) (config : Config) (last : Seen
   pub failed : (t : Told) → ghosts.told old ≡ Some t
       → FailsWith ghosts (ghosts.failures old) (last_of (points_of last.commits)).failed new
   pub lasts : (t : Told) → ghosts.told old ≡ Some t → IsSettled ghosts config t old
-      → Lasts ghosts config (ghosts.moment old) (labels_of last) (docs (history_of last)) (points_of last.commits) new
+      → Lasts ghosts config (ghosts.moment old) (labels_of last) (history_of last) (points_of last.commits) new
   pub untouched : length (points_of last.commits) ≤ 1 → IsQuiet ghosts old new

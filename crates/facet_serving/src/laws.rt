@@ -15,9 +15,9 @@ pub fn runs_go_on<D: Disk>(disk: &D)
     let _ = disk;
 }
 
-/// States that each added operation belongs to one add, which returned its place; and that the document of each such
-/// add is there, under its session. An add whose document is accepted, whose labels fit and for which there is room
-/// returns a place, or is out of memory. The call does nothing.
+/// States that each operation after the opened ones belongs to one change, which returned its place; and that the
+/// operation of each add that returned a place is there, under its session. An add whose document is accepted, whose
+/// labels fit and for which there is room returns a place, or is out of memory. The call does nothing.
 pub fn adds_stand<D: Disk>(disk: &D)
     ensures once { EachIsAddedOnce D.Disk }
     ensures stands { EachAddStands D.Disk }
@@ -26,8 +26,8 @@ pub fn adds_stand<D: Disk>(disk: &D)
     let _ = disk;
 }
 
-/// States that whatever a crash leaves at the end has what each acknowledged commit has acknowledged: the documents of
-/// the adds before it, and the labels that its session had been shown. So has whatever a crash leaves at any moment
+/// States that whatever a crash leaves at the end has what each acknowledged commit has acknowledged: the operations of
+/// the changes before it, and the labels that its session had been shown. So has whatever a crash leaves at any moment
 /// since that commit. If the disk's count of faults does not rise and file numbers are left, a commit is acknowledged
 /// or is out of memory. This holds for scripts that are read and for generated ones. The call does nothing.
 pub fn commits_stay<D: Disk>(disk: &D)

@@ -1,7 +1,7 @@
 -- Which replies to a session that runs alone are right, and which lines they are.
-use Rattle.std.specs.Prelude.{◌≡◌, ◌≤◌, ◌⊎◌, ◌^◌, ℕ, zero, suc, max, nat_le, nat_lt, if◌then◌else◌, Bool, true, false}
-use Rattle.std.specs.Prelude.{List, [], ◌∷◌, ◌++◌, length, take, map, filter, filter_map, flat_map, fold, reverse, slice_get}
-use Rattle.std.specs.Prelude.{Option, Some, None, is_none, option_map}
+use Rattle.std.specs.Prelude.{◌≡◌, ◌≤◌, ◌+◌, ◌⊎◌, ◌^◌, ℕ, zero, suc, max, nat_le, nat_lt, if◌then◌else◌, Bool, true}
+use Rattle.std.specs.Prelude.{false, List, [], ◌∷◌, ◌++◌, length, take, map, filter, filter_map, flat_map, fold}
+use Rattle.std.specs.Prelude.{reverse, slice_get, Option, Some, None, is_none, option_map}
 use Rattle.std.specs.List.{AllZip, enumerate_from}
 use Rattle.std.specs.Prelude.{drop}
 use Rattle.facet_names.specs.Labels.{with_label, prefixes, place}
@@ -20,23 +20,29 @@ use Rattle.facet_replies.specs.Replies.{no_such_document, disk_failed, closed, n
 use Rattle.facet_replies.specs.Replies.{numbered, found, shown, stats as numbers, ranged, summed, merged, refused}
 use Rattle.facet_replies.specs.ReplyLines.{reply_line}
 
--- what a session works on: the labels with the root, the documents, how many documents and labels the last refresh
--- took, and the disk's count of faults at which a commit failed, after which none is made
+-- what a session works on: the labels with the root, the documents, and how many operations made them; the documents
+-- that the last refresh took, how many operations had made these, and how many labels it took; and the disk's count of
+-- faults at which a commit failed, after which none is made
 pub record Shelf : Type 0 where
   pub labels : List (List (List ℕ))
   pub docs : List Doc
+  pub operations : ℕ
+  pub seen : List Doc
   pub taken : ℕ
   pub taken_labels : ℕ
   pub closed : Option ℕ
 
 -- what was opened, all of which searches see
 abbrev pub opened_shelf : List (List (List ℕ)) → List Doc → Shelf
-opened_shelf labels docs = record
-    { labels = labels; docs = docs; taken = length docs; taken_labels = length labels; closed = None }
-
--- the documents that a search sees
-abbrev pub snapshot : Shelf → List Doc
-snapshot shelf = take shelf.taken shelf.docs
+opened_shelf labels docs = record {
+  labels = labels;
+  docs = docs;
+  operations = length docs;
+  seen = docs;
+  taken = length docs;
+  taken_labels = length labels;
+  closed = None;
+}
 
 -- ---- add
 
@@ -58,7 +64,11 @@ added settings shelf doc None =
     then (refused (labels_full (room settings shelf)), record shelf { labels = take (room settings shelf) all })
     else (if nat_le settings.max_docs (length shelf.docs)
     then (refused (docs_full (length shelf.docs)), record shelf { labels = all })
-    else (placed (length shelf.docs), record shelf { labels = all; docs = shelf.docs ++ doc ∷ [] }))
+    else (
+      placed shelf.operations,
+      record shelf
+          { labels = all; docs = shelf.docs ++ doc ∷ []; operations = shelf.operations + 1 },
+    ))
 
 -- without memory an add leaves the first of the labels that it would have left
 abbrev pub LeavesSome : Settings → Shelf → Doc → Option Broken → Shelf → Type 0
@@ -144,7 +154,7 @@ IsSummed operations docs c (suc n) reply = (shown : List PartSum) × IsSums (cou
 -- The reply that shows the document at a place, with the ordinals of its labels; or, if the place has none, how many
 -- documents there are.
 abbrev pub IsShown : Shelf → ℕ → Option Doc → Reply → Type 0
-IsShown shelf at None reply = reply ≡ refused (no_such_document (length (snapshot shelf)))
+IsShown shelf at None reply = reply ≡ refused (no_such_document (length shelf.seen))
 IsShown shelf at (Some doc) reply = (ordinals : List ℕ) × (map (place shelf.labels) doc.labels ≡ map Some ordinals)
     × (reply ≡ shown (record { operations = shelf.taken; at = at; doc = doc; ordinals = ordinals }))
 
@@ -153,13 +163,13 @@ IsShown shelf at (Some doc) reply = (ordinals : List ℕ) × (map (place shelf.l
 -- what the last refresh took
 abbrev pub numbers_of : Shelf → Reply
 numbers_of shelf = numbers (record
-    { operations = shelf.taken; labels = shelf.taken_labels; documents = length (snapshot shelf) })
+    { operations = shelf.taken; labels = shelf.taken_labels; documents = length shelf.seen })
 
 -- ---- commit
 
--- acknowledged with the number of all documents
+-- acknowledged with the number of all operations
 abbrev pub IsDurable : Shelf → Reply → Shelf → Type 0
-IsDurable shelf reply next = (reply ≡ numbered (length shelf.docs)) × (next ≡ shelf)
+IsDurable shelf reply next = (reply ≡ numbered shelf.operations) × (next ≡ shelf)
 
 -- the last file number would be this one, which is 2^63 or more
 abbrev pub IsSpent : Shelf → Reply → Shelf → Type 0
@@ -194,16 +204,16 @@ abbrev pub IsRight : Settings → Shelf → Command → Reply → Shelf → Type
 IsRight settings shelf (add doc) reply next =
     let r = added settings shelf doc (first_broken settings.config doc) in (reply ≡ r.0) × (next ≡ r.1)
 IsRight settings shelf refresh reply next =
-    (reply ≡ numbered (length shelf.docs))
-    × (next ≡ record shelf { taken = length shelf.docs; taken_labels = length shelf.labels })
+    (reply ≡ numbered shelf.operations)
+    × (next ≡ record shelf { seen = shelf.docs; taken = shelf.operations; taken_labels = length shelf.labels })
 IsRight settings shelf (search None s) reply next =
-    IsFound settings.config shelf.taken (snapshot shelf) s (first_refused settings.config s.asks) reply × (next ≡ shelf)
+    IsFound settings.config shelf.taken shelf.seen s (first_refused settings.config s.asks) reply × (next ≡ shelf)
 IsRight settings shelf (ranges None c rs) reply next =
-    (reply ≡ ranged_of shelf.taken (snapshot shelf) c rs) × (next ≡ shelf)
+    (reply ≡ ranged_of shelf.taken shelf.seen c rs) × (next ≡ shelf)
 IsRight settings shelf (sums None c n) reply next =
-    IsSummed shelf.taken (snapshot shelf) c n reply × (next ≡ shelf)
+    IsSummed shelf.taken shelf.seen c n reply × (next ≡ shelf)
 IsRight settings shelf (document None at) reply next =
-    IsShown shelf at (slice_get (snapshot shelf) at) reply × (next ≡ shelf)
+    IsShown shelf at (slice_get shelf.seen at) reply × (next ≡ shelf)
 IsRight settings shelf (stats None) reply next = (reply ≡ numbers_of shelf) × (next ≡ shelf)
 IsRight settings shelf commit reply next = IsCommitted shelf shelf.closed reply next
 IsRight settings shelf merge reply next = (reply ≡ merged) × (next ≡ shelf)

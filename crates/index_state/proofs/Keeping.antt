@@ -1,14 +1,12 @@
 -- What an index keeps true of its fields, where it notes more labels, a document waits, and what waits becomes a segment.
-use Rattle.std.proofs.Common.{◌≡◌, ℕ, ◌+◌, ◌≤◌, List, [], ◌∷◌, ◌++◌, length, map, refl, sym, ap, subst, ◌∙◌, arith, append_assoc, replicate, true, false, if◌then◌else◌}
+use Rattle.std.proofs.Common.{◌≡◌, ℕ, ◌+◌, ◌≤◌, List, [], ◌∷◌, ◌++◌, length, refl, sym, ap, subst, ◌∙◌, arith, append_assoc, true, false, if◌then◌else◌}
 use Rattle.std.proofs.lemmas.List.{append-nil, length-append, length-map, map-append}
 use Rattle.std.specs.Prelude.{◌≢◌, nat_lt}
 use Rattle.std.proofs.lemmas.Bool.{lt-ltb}
 use mathlib.Core.List.{IsPrefix}
 use Rattle.facet_names.specs.Labels.{GoesOn}
 use Rattle.facet_names.proofs.LabelLists.{Labels}
-use Rattle.facet_model.specs.Documents.{Doc}
 use Rattle.facet_model.specs.Flags.{Config}
-use Rattle.facet_model.specs.Histories.{Operation, docs}
 use Rattle.facet_model.specs.Stored.{Records, Decodes}
 use Rattle.seg_grammar.specs.Spelling.{IsSegment, seg_bytes}
 use Rattle.seg_terms.specs.Entries.{segment_of}
@@ -19,7 +17,7 @@ use Rattle.seg_documents.proofs.Decoded.{decoded, decodes_stay, entries_stay, fl
 use Rattle.chronicle.specs.Shown.{Shown}
 use Rattle.taxo_cache.specs.Seen.{labels_of, SeesLabels}
 use Rattle.taxo_adding.proofs.Growing.{seen_goes_on}
-use Rattle.index_state.specs.Index.{Index, StandsFor, opened, AreOwn}
+use Rattle.index_state.specs.Index.{AreOwn}
 use Rattle.index_state.specs.Kept.{IsKept}
 
 are_push : (config : Config) (known : Labels) (entries : List Entry) (e : Entry) → AreEntries config known entries → IsEntry config known e → AreEntries config known (entries ++ e ∷ [])
@@ -101,31 +99,6 @@ module _ (config : Config) (labels : Shown (List (List ℕ))) (segments : List R
   -- there is a session for each document
   pub as_many : length sessions ≡ length (docs_in (labels_of labels.seen) segments ++ docs_of waiting)
   as_many = omega (arith, kept.each, length-append (docs_in (labels_of labels.seen) segments) (docs_of waiting), length-map waiting (λ (e : Entry). e.doc))
-
--- ---- histories
-
--- it stands for the same operations where its documents and their sessions are the same
-pub still_stands : (old new : Index) → new.docs ≡ old.docs → new.sessions ≡ old.sessions → (history : List Operation) → StandsFor old history → StandsFor new history
-still_stands old new docs_same sessions_same history stands = record { documents = docs_same ∙ stands.documents; numbers = sessions_same ∙ stands.numbers }
-
-zeros_of : (ds : List Doc) → replicate (length ds) 0 ≡ map (λ (o : Operation). o.session) (opened ds)
-zeros_of [] = refl
-zeros_of (d ∷ ds) = ap (λ (l : List ℕ). 0 ∷ l) (zeros_of ds)
-
-docs_of_opened : (ds : List Doc) → ds ≡ docs (opened ds)
-docs_of_opened [] = refl
-docs_of_opened (d ∷ ds) = ap (λ (l : List Doc). d ∷ l) (docs_of_opened ds)
-
-pub opened_stands : (index : Index) → index.sessions ≡ replicate (length index.docs) 0 → StandsFor index (opened index.docs)
-opened_stands index sessions = record { documents = docs_of_opened index.docs; numbers = sessions ∙ zeros_of index.docs }
-
-pub one_more_stands : (old new : Index) (session : ℕ) (doc : Doc) → new.docs ≡ old.docs ++ doc ∷ [] → new.sessions ≡ old.sessions ++ session ∷ [] → (history : List Operation) → StandsFor old history → StandsFor new (history ++ record { session = session; doc = doc } ∷ [])
-one_more_stands old new session doc docs_more sessions_more history stands =
-    let o : Operation = record { session = session; doc = doc } in
-    record {
-      documents = docs_more ∙ ap (λ (l : List Doc). l ++ doc ∷ []) stands.documents ∙ sym (map-append (λ (x : Operation). x.doc) history (o ∷ []));
-      numbers = sessions_more ∙ ap (λ (l : List ℕ). l ++ session ∷ []) stands.numbers ∙ sym (map-append (λ (x : Operation). x.session) history (o ∷ []));
-    }
 
 -- ---- what waits, as segments
 

@@ -1,4 +1,5 @@
 pub mod Keeping
+pub mod Standing
 pub mod Crossing
 pub mod Counting
 mod Installing

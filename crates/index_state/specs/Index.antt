@@ -1,10 +1,10 @@
 -- The index as contracts see it, and the history that it represents.
-use Rattle.std.specs.Prelude.{◌≡◌, ◌++◌, ◌+◌, ℕ, nat_lt, if◌then◌else◌, List, [], ◌∷◌, length, map}
-use Rattle.std.specs.List.{AllByRecursion}
+use Rattle.std.specs.Prelude.{◌≡◌, ◌++◌, ◌+◌, ℕ, nat_lt, if◌then◌else◌, List, [], ◌∷◌, length, map, IsTrue}
+use Rattle.std.specs.List.{AllByRecursion, list_all}
 use mathlib.Core.List.{IsPrefix}
 use Rattle.facet_model.specs.Documents.{Doc}
 use Rattle.facet_model.specs.Flags.{Config}
-use Rattle.facet_model.specs.Histories.{Operation, docs}
+use Rattle.facet_model.specs.Histories.{Operation, add, docs, brought, knows, is_add}
 use Rattle.facet_model.specs.Stored.{Records, Decodes}
 use Rattle.seg_grammar.specs.Spelling.{seg_bytes, IsSegment}
 use Rattle.seg_terms.specs.declared.entry.Entry.{Entry}
@@ -51,19 +51,18 @@ index_of segments waiting sessions config max_docs labels = record {
   labels = labels;
 }
 
--- its documents and its sessions are those of the operations
+-- Its documents and its sessions are those of the operations, and it has noted the labels of each change's document.
+-- The operations are adds.
 pub record StandsFor (index : Index) (history : List Operation) : Type 0 where
   pub documents : index.docs ≡ docs history
   pub numbers : index.sessions ≡ map (λ o. o.session) history
-
--- one operation of session 0 for each document
-abbrev pub opened : List Doc → List Operation
-opened ds = map (λ d. record { session = 0; doc = d }) ds
+  pub known : IsTrue (list_all (knows (labels_of index.labels.seen)) (brought history))
+  pub adds : IsTrue (list_all (λ o. is_add o.change) history)
 
 -- it represents one operation more
 abbrev pub StandsForMore : ℕ → Doc → Index → Index → Type 0
 StandsForMore session doc old new = (history : List Operation) → StandsFor old history
-    → StandsFor new (history ++ record { session = session; doc = doc } ∷ [])
+    → StandsFor new (history ++ record { session = session; change = add doc } ∷ [])
 
 -- one document more waits, of this session, and what is noted of the labels goes on
 pub record IsAppended (session : ℕ) (doc : Doc) (old new : Index) : Type 0 where

@@ -1,4 +1,5 @@
 ghost use Rattle.std.specs.Prelude.{◌≡◌};
+ghost use Rattle.facet_model.specs.Histories.{add as added};
 
 use facet_model::Document;
 use std::marker::Model;
@@ -13,17 +14,17 @@ pub struct Operation {
 }
 
 impl Model for Operation {
-    ghost use Rattle.facet_model.specs.Histories.{Operation as Added};
+    ghost use Rattle.facet_model.specs.Histories.{Operation as Entered, add};
 
-    ghost Value = { Added };
+    ghost Value = { Entered };
 
-    ghost view = { λ o. record { session = o.session; doc = o.doc.value } };
+    ghost view = { λ o. record { session = o.session; change = add o.doc.value } };
 }
 
 impl Operation {
     /// Returns the operation for a document that the session with this number added.
-    pub fn new(session: u32, doc: &Document) -> Operation
-        ensures { result ≡ record { session = session; doc = doc.now } }
+    pub fn add(session: u32, doc: &Document) -> Operation
+        ensures { result ≡ record { session = session; change = added doc.now } }
     {
         Operation {
             session,

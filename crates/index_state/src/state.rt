@@ -2,7 +2,7 @@ ghost use Rattle.std.specs.Prelude.{◌≡◌, ◌≢◌, ◌≤◌, ◌<◌, �
 ghost use Rattle.std.specs.Prelude.{OnErr, List, length, map, take, drop};
 ghost use Rattle.std.specs.Arc.{arc_value};
 ghost use mathlib.Core.List.{IsPrefix};
-ghost use Rattle.facet_model.specs.Histories.{Operation as Added};
+ghost use Rattle.facet_model.specs.Histories.{Operation as Entered, opened};
 ghost use Rattle.facet_model.specs.Stored.{Decodes};
 ghost use Rattle.chronicle.specs.Shown.{IsNoteOf, SameToken, SeesOn};
 ghost use Rattle.seg_grammar.specs.Spelling.{IsSegment, seg_bytes};
@@ -10,7 +10,7 @@ ghost use Rattle.seg_documents.specs.Decoding.{records_in};
 ghost use Rattle.seg_documents.specs.Entries.{IsEntry};
 ghost use Rattle.merge_policy.specs.Tiers.{first_small};
 ghost use Rattle.taxo_cache.specs.Seen.{labels_of, SeesLabels};
-ghost use Rattle.index_state.specs.Index.{StandsFor, StandsForMore, opened, docs_under, DecodeUnder, AreOwn};
+ghost use Rattle.index_state.specs.Index.{StandsFor, StandsForMore, docs_under, DecodeUnder, AreOwn};
 ghost use Rattle.index_state.specs.Index.{IsAppended, IsFlushed};
 ghost use Rattle.index_state.specs.Kept.{IsFirst};
 ghost use Rattle.index_state.specs.Merging.{live_sizes, ComeAfter, IsRangeOf, HasNoPlace, IsInstalled};
@@ -47,7 +47,7 @@ pub struct IndexState {
     // the first of the segments, as the last snapshot shared them
     shared: ArcList<Segment>,
     waiting: Vec<Entry>,
-    // of each document
+    // of each operation: so far each adds a document
     sessions: Vec<u32>,
     config: Arc<FacetsConfig>,
     max_docs: u32,
@@ -71,7 +71,8 @@ impl Model for IndexState {
 }
 
 impl Standing for IndexState {
-    ghost use Rattle.index_state.specs.Index.{StandsFor, opened};
+    ghost use Rattle.facet_model.specs.Histories.{opened};
+    ghost use Rattle.index_state.specs.Index.{StandsFor};
     ghost use Rattle.index_state.specs.Frames.{frame_of};
 
     type Entry = Operation;
@@ -142,9 +143,9 @@ impl IndexState {
         })
     }
 
-    /// Adds a document of a session after all others and returns its place, from 0. Its ordinals are those under the
-    /// labels that `seen` has seen. The index has then noted these labels. The cost does not depend on how many
-    /// documents there are.
+    /// Adds a document of a session after all others and returns the place of this operation, from 0. The document's
+    /// ordinals are those under the labels that `seen` has seen. The index has then noted these labels. The cost does
+    /// not depend on how many documents there are.
     ///
     /// Errors: `DocsFull`; out of memory. Then nothing changes.
     pub fn append(
@@ -158,7 +159,7 @@ impl IndexState {
         requires labels { SeesLabels seen.old }
         requires entry { IsEntry self.old.config (labels_of seen.old.seen) entry }
         ensures seen { seen.new ≡ seen.old }
-        ensures place { IfOk result (λ at. at ≡ length self.old.docs) }
+        ensures place { IfOk result (λ at. at ≡ length self.old.sessions) }
         ensures appended { OnOk result (IsAppended session entry.doc self.old self.new) }
         ensures stands { OnOk result (StandsForMore session entry.doc self.old self.new) }
         ensures noted { OnOk result (IsPrefix seen.old.seen self.new.labels.seen) }
@@ -204,7 +205,8 @@ impl IndexState {
         ensures rest { (self.new ≡ self.old) ⊎ IsFlushed self.old self.new }
         ensures flushed { OnOk result (IsFlushed self.old self.new) }
         ensures segments { IfOk result (λ v. v.segments ≡ self.new.segments) }
-        ensures operations { IfOk result (λ v. v.operations ≡ length self.old.docs) }
+        ensures operations { IfOk result (λ v. v.operations ≡ length self.old.sessions) }
+        ensures documents { IfOk result (λ v. v.documents ≡ length self.old.docs) }
         ensures note { IfOk result (λ v. IsNoteOf self.old.labels v.labels) }
         ensures labels { IfOk result (λ v. SeesLabels v.labels) }
         ensures decodes { IfOk result
@@ -216,6 +218,7 @@ impl IndexState {
         Ok(IndexView {
             segments,
             operations: self.sessions.len() as u64,
+            documents: self.sessions.len() as u32,
             labels: chronicle.note(&mut self.labels),
         })
     }
@@ -232,7 +235,7 @@ impl IndexState {
         ensures list { self.new.segments ≡ take first self.old.segments
             ++ arc_value merged ∷ drop (first + count) self.old.segments }
         ensures rest { self.new ≡ record self.old { segments = self.new.segments } }
-        ensures stands { (history : List Added) → StandsFor self.old history → StandsFor self.new history }
+        ensures stands { (history : List Entered) → StandsFor self.old history → StandsFor self.new history }
     {
         self.shared = ArcList::new(self.alloc);
         put_merged(&mut self.segments, first, count, merged);
@@ -339,7 +342,7 @@ impl IndexState {
         ensures installed { result ≡ true → IsInstalled before (arc_value merged) self.old.segments self.new.segments }
         ensures none { result ≡ false → (self.new.segments ≡ self.old.segments)
             × HasNoPlace before (length (records_in (arc_value merged ∷ []))) self.old.segments }
-        ensures stands { (history : List Added) → StandsFor self.old history → StandsFor self.new history }
+        ensures stands { (history : List Entered) → StandsFor self.old history → StandsFor self.new history }
     {
         self.note_labels(chronicle, labels);
         self.install_at(before, merged)
@@ -367,7 +370,7 @@ impl IndexState {
         ensures rest { self.new ≡ record self.old { segments = self.new.segments; waiting = self.new.waiting } }
         ensures one { OnOk result ((self.new.waiting ≡ 0) × (length self.new.segments ≤ 1)) }
         ensures failed { OnErr result ((self.new ≡ self.old) ⊎ IsFlushed self.old self.new) }
-        ensures stands { (history : List Added) → StandsFor self.old history → StandsFor self.new history }
+        ensures stands { (history : List Entered) → StandsFor self.old history → StandsFor self.new history }
     {
         let _ = self.flush()?;
         let count = self.segments().len();

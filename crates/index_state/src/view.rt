@@ -7,11 +7,12 @@ use facet_names::Path;
 use seg_file::Segment;
 
 /// The index as it was under its lock: its segments, which have all documents, at most 1,000,000; how many operations
-/// there were; and a note of the labels under which the segments decode.
+/// there were, and how many documents they left; and a note of the labels under which the segments decode.
 #[derive(Drop)]
 pub struct IndexView {
     pub segments: ArcList<Segment>,
     pub operations: u64,
+    pub documents: u32,
     pub labels: Token<Path>,
     ghost note: { (labels.is_note ≡ true) × (labels.holds_turn ≡ false) },
     ghost few: { length (records_in segments) ≤ 1000000 },

@@ -16,8 +16,8 @@ pub only_one : (P : ℕ → Type 0) (numbers : List ℕ) (n : ℕ) → numbers �
 only_one P numbers n is all = let one : All P (n ∷ []) = subst (All P) is all in one 0 n (omega arith)
 
 -- where a document was appended there was room for it
-pub room_left : (most many at : ℕ) → at ≡ many → (most ≤ many → (let x : Result ℕ AppendFault = Ok at in x) ≡ Err (DocsFull many)) → at < most
-room_left most many at is full = dite (dec_lt at most) (λ lt. lt) (λ none. absurd (apart (full (omega (arith, is, none)))))
+pub room_left : (most many at : ℕ) → (most ≤ many → (let x : Result ℕ AppendFault = Ok at in x) ≡ Err (DocsFull many)) → many < most
+room_left most many at full = dite (dec_lt many most) (λ lt. lt) (λ none. absurd (apart (full (omega (arith, none)))))
   where
     apart : (let x : Result ℕ AppendFault = Ok at in x) ≡ Err (DocsFull many) → ⊥
     apart e = cc

@@ -1,7 +1,7 @@
 -- Publications, where labels and operations go on, and one more is published.
-use Rattle.std.proofs.Common.{◌≡◌, ℕ, ◌+◌, ◌≤◌, Bool, true, false, if◌then◌else◌, List, [], ◌∷◌, ◌++◌, length, take, map, get_or, refl, sym, ap, subst, ◌∙◌, arith}
+use Rattle.std.proofs.Common.{◌≡◌, ℕ, ◌≤◌, true, List, [], ◌∷◌, ◌++◌, length, take, map, get_or, refl, sym, ap, subst, ◌∙◌, arith}
 use Rattle.std.specs.Prelude.{◌&&◌, nat_le}
-use Rattle.std.specs.List.{list_all, AllZip}
+use Rattle.std.specs.List.{list_all}
 use Rattle.std.proofs.lemmas.Bool.{and_parts, and_from, leb-true, le-leb}
 use Rattle.std.proofs.lemmas.List.{length-append, length-map, get_or-map, map-append, take-take, take_all, take-append-le}
 use Rattle.std.proofs.lemmas.List.Folds.{list_all-append}
@@ -9,13 +9,8 @@ use Rattle.std.proofs.lemmas.List.Sums.{AllPass-from_list_all}
 use mathlib.Core.List.{IsPrefix}
 use Rattle.facet_names.specs.Labels.{GoesOn}
 use Rattle.facet_names.proofs.LabelLists.{Labels}
-use Rattle.facet_model.specs.Documents.{Doc}
-use Rattle.facet_model.specs.Flags.{Config}
-use Rattle.facet_model.specs.Histories.{Operation, docs, knows, covers, never_falls, is_pair, are_publications}
-use Rattle.facet_model.specs.Stored.{Stored, Records, alive, alive_from, is_dead, live_docs, IsRecordOf, IsSegmentOf, Decodes}
+use Rattle.facet_model.specs.Histories.{Operation, brought, knows, covers, never_falls, is_pair, are_publications}
 use Rattle.facet_model.proofs.Fronts.{weaker}
-use Rattle.seg_documents.specs.Decoding.{doc_in, docs_in, records_in}
-use Rattle.seg_documents.proofs.Decoded.{decoded}
 use Rattle.chronicle.specs.History.{entries}
 use Rattle.chronicle.proofs.Entries.{entries-prefix}
 use Rattle.taxo_cache.specs.Seen.{labels_of}
@@ -24,35 +19,6 @@ use Rattle.pair_manager.specs.declared.publication.Publication.{Publication}
 use Rattle.pair_manager.specs.Published.{Published, publication_of, numbers, ArePublications, IsNewest, StandsFor}
 use Rattle.pair_manager.specs.Kept.{IsPair}
 use Rattle.facet_model.proofs.Histories.{never_falls_push}
-
--- ---- labels under which segments decode know their documents
-
-records_known : (known : Labels) (config : Config) (rs : List Stored) (ds : List Doc) → AllZip (IsRecordOf known config) rs ds → list_all (knows known) ds ≡ true
-records_known known config [] [] all = refl
-records_known known config [] (d ∷ ds) all = absurd all
-records_known known config (r ∷ rs) [] all = absurd all
-records_known known config (r ∷ rs) (d ∷ ds) all = and_from (knows known d) (list_all (knows known) ds) all.0.prefixes (records_known known config rs ds all.1)
-
-alive_passes : (test : Doc → Bool) (dead : List ℕ) (place : ℕ) (ds : List Doc) → list_all test ds ≡ true → list_all test (alive_from dead place ds) ≡ true
-alive_passes test dead place [] all = refl
-alive_passes test dead place (d ∷ ds) all =
-    let both = and_parts (test d) (list_all test ds) all in
-    by (is_dead dead place) both.0 (alive_passes test dead (place + 1) ds both.1)
-  where
-    by : (b : Bool) → test d ≡ true → list_all test (alive_from dead (place + 1) ds) ≡ true → list_all test (if b then alive_from dead (place + 1) ds else d ∷ alive_from dead (place + 1) ds) ≡ true
-    by true first rest = rest
-    by false first rest = and_from (test d) (list_all test (alive_from dead (place + 1) ds)) first rest
-
-pieces_known : (known : Labels) (config : Config) (ss : List Records) (ps : List (List Doc)) → AllZip (IsSegmentOf known config) ss ps → list_all (knows known) (live_docs ss ps) ≡ true
-pieces_known known config [] [] all = refl
-pieces_known known config [] (p ∷ ps) all = absurd all
-pieces_known known config (s ∷ ss) [] all = absurd all
-pieces_known known config (s ∷ ss) (p ∷ ps) all =
-    list_all-append (knows known) (alive s.dead p) (live_docs ss ps)
-    ∙ and_from (list_all (knows known) (alive s.dead p)) (list_all (knows known) (live_docs ss ps)) (alive_passes (knows known) s.dead 0 p (records_known known config s.records p all.0.records)) (pieces_known known config ss ps all.1)
-
-pub decoded_known : (known : Labels) (config : Config) (segments : List Records) (ds : List Doc) → Decodes known config segments ds → list_all (knows known) ds ≡ true
-decoded_known known config segments ds d = ap (list_all (knows known)) d.2 ∙ pieces_known known config segments d.0 d.1
 
 -- ---- the parts of publications
 
@@ -88,7 +54,7 @@ module _ (a b : Labels) (h k : List Operation) (on : GoesOn a b) (more : IsPrefi
       let same : take p.0 k ≡ take p.0 h = ap (take p.0) (sym more.1) ∙ take-append-le p.0 h more.0 bounds.0 in
       and_from (nat_le p.0 (length k) && nat_le p.1 (length b)) (covers b p.1 k p.0)
       (and_from (nat_le p.0 (length k)) (nat_le p.1 (length b)) (le-leb p.0 (length k) (omega (arith, bounds.0, longer_history))) (le-leb p.1 (length b) (omega (arith, bounds.1, on.0))))
-      ((λ i. list_all (knows (front i)) (docs (same i))) ∙ cover)
+      ((λ i. list_all (knows (front i)) (brought (same i))) ∙ cover)
 
   pub still_publications : (ps : List (ℕ × ℕ)) → are_publications a h ps ≡ true → are_publications b k ps ≡ true
   still_publications ps is =
@@ -97,12 +63,12 @@ module _ (a b : Labels) (h k : List Operation) (on : GoesOn a b) (more : IsPrefi
 
 -- ---- one more
 
-module _ (b : Labels) (k : List Operation) (known : list_all (knows b) (docs k) ≡ true) where
+module _ (b : Labels) (k : List Operation) (known : list_all (knows b) (brought k) ≡ true) where
   whole_pair : is_pair b k (length k, length b) ≡ true
   whole_pair =
       and_from (nat_le (length k) (length k) && nat_le (length b) (length b)) (covers b (length b) k (length k))
       (and_from (nat_le (length k) (length k)) (nat_le (length b) (length b)) (le-leb (length k) (length k) (omega arith)) (le-leb (length b) (length b) (omega arith)))
-      ((λ i. list_all (knows (take_all (length b) b (let same : length b ≤ length b = omega arith in same) i)) (docs (take_all (length k) k (let same : length k ≤ length k = omega arith in same) i))) ∙ known)
+      ((λ i. list_all (knows (take_all (length b) b (let same : length b ≤ length b = omega arith in same) i)) (brought (take_all (length k) k (let same : length k ≤ length k = omega arith in same) i))) ∙ known)
 
   pub published_first : are_publications b k ((length k, length b) ∷ []) ≡ true
   published_first = and_from true (is_pair b k (length k, length b) && true) refl (and_from (is_pair b k (length k, length b)) true whole_pair refl)
@@ -125,7 +91,7 @@ module _ (labels labels_now : List (ℕ × List (List ℕ))) (history history_no
   pub still_right : ArePublications labels_now history_now publications
   still_right = still_publications (labels_of labels) (labels_of labels_now) (entries history) (entries history_now) (seen_goes_on labels labels_now on) (entries-prefix history history_now more) (map numbers publications) right
 
-pub right_next : (labels : List (ℕ × List (List ℕ))) (history : List (ℕ × Operation)) (publications : List Publication) → list_all (knows (labels_of labels)) (docs (entries history)) ≡ true → ArePublications labels history publications
+pub right_next : (labels : List (ℕ × List (List ℕ))) (history : List (ℕ × Operation)) (publications : List Publication) → list_all (knows (labels_of labels)) (brought (entries history)) ≡ true → ArePublications labels history publications
     → ArePublications labels history (publications ++ record { operations = length history; labels = length (labels_of labels) } ∷ [])
 right_next labels history publications known right =
     let next : Publication = record { operations = length history; labels = length (labels_of labels) } in
@@ -133,7 +99,7 @@ right_next labels history publications known right =
     ap (are_publications (labels_of labels) (entries history)) (map-append numbers publications (next ∷ []) ∙ ap (λ (n : ℕ). map numbers publications ++ (n, length (labels_of labels)) ∷ []) (sym size))
     ∙ published_next (labels_of labels) (entries history) known (map numbers publications) right
 
-pub right_first : (labels : List (ℕ × List (List ℕ))) (history : List (ℕ × Operation)) → list_all (knows (labels_of labels)) (docs (entries history)) ≡ true → ArePublications labels history (record { operations = length history; labels = length (labels_of labels) } ∷ [])
+pub right_first : (labels : List (ℕ × List (List ℕ))) (history : List (ℕ × Operation)) → list_all (knows (labels_of labels)) (brought (entries history)) ≡ true → ArePublications labels history (record { operations = length history; labels = length (labels_of labels) } ∷ [])
 right_first labels history known = right_next labels history [] known refl
 
 -- no publication has more than all
@@ -146,21 +112,11 @@ right_newest labels history publications right k d lt =
 
 -- ---- the pair that is published next
 
-pub pair_knows : (p : Published) → IsPair p → list_all (knows (labels_of p.labels.seen)) (docs (entries p.history.seen)) ≡ true
-pair_knows p is = decoded_known (labels_of p.labels.seen) p.config p.segments (docs (entries p.history.seen)) is.decoded
-
 pub stands_next : (last next : Published) (before now : List Publication) → StandsFor last before → IsPair next → IsPrefix last.labels.seen next.labels.seen → IsPrefix last.history.seen next.history.seen → now ≡ before ++ publication_of next ∷ [] → StandsFor next now
 stands_next last next before now stands is on more entered = record {
-  right = subst (ArePublications next.labels.seen next.history.seen) (sym entered) (right_next next.labels.seen next.history.seen before (pair_knows next is) (still_right last.labels.seen next.labels.seen last.history.seen next.history.seen on more before stands.right));
+  right = subst (ArePublications next.labels.seen next.history.seen) (sym entered) (right_next next.labels.seen next.history.seen before is.known (still_right last.labels.seen next.labels.seen last.history.seen next.history.seen on more before stands.right));
   last = (before, entered);
 }
 
 pub stands_first : (p : Published) → IsPair p → StandsFor p (publication_of p ∷ [])
-stands_first p is = record { right = right_first p.labels.seen p.history.seen (pair_knows p is); last = ([], refl) }
-
--- there are no more operations than documents
-pub pair_few : (p : Published) → IsPair p → length p.history.seen ≤ 1000000
-pair_few p is =
-    let known = labels_of p.labels.seen in
-    let all : docs_in known p.segments ≡ docs (entries p.history.seen) = decoded known p.config p.segments (docs (entries p.history.seen)) is.decoded in
-    omega (arith, is.few, ap length all, length-map (records_in p.segments) (doc_in known), length-map (entries p.history.seen) (λ (o : Operation). o.doc), length-map p.history.seen (λ (x : ℕ × Operation). x.1))
+stands_first p is = record { right = right_first p.labels.seen p.history.seen is.known; last = ([], refl) }

@@ -1,12 +1,12 @@
 -- Segments that are shared in one turn and replaced in a later one.
-use Rattle.std.proofs.Common.{◌≡◌, ◌⊎◌, inl, inr, ◌<◌, ℕ, Result, Ok, Err, IfOk, OnOk, List, [], ◌∷◌, ◌++◌, length, refl, sym, ap, subst, ◌∙◌}
-use Rattle.std.proofs.lemmas.List.{map-append}
+use Rattle.std.proofs.Common.{◌≡◌, true, ℕ, Result, Ok, Err, IfOk, OnOk, List, [], ◌∷◌, ◌++◌, sym, ap, subst, ◌∙◌}
+use Rattle.std.specs.List.{list_all}
 use mathlib.Core.List.{IsPrefix}
 use Rattle.atomic_table.specs.Seated.{TableId}
 use Rattle.facet_names.proofs.LabelLists.{Labels}
 use Rattle.facet_model.specs.Documents.{Doc}
 use Rattle.facet_model.specs.Flags.{Config}
-use Rattle.facet_model.specs.Histories.{Operation, docs}
+use Rattle.facet_model.specs.Histories.{Operation, docs, is_add}
 use Rattle.facet_model.specs.Stored.{Records, Decodes}
 use Rattle.facet_model.proofs.ConfigTexts.{config_told}
 use Rattle.seg_documents.proofs.Decoded.{decoded}
@@ -19,7 +19,7 @@ use Rattle.taxo_cache.specs.Seen.{labels_of, SeesLabels}
 use Rattle.index_state.specs.Index.{Index, StandsFor, DecodeUnder, docs_under, IsFlushed}
 use Rattle.index_state.specs.Frames.{frame_of, index_frame}
 use Rattle.index_state.specs.Merging.{ComeAfter, IsRangeOf}
-use Rattle.index_state.proofs.Keeping.{still_stands}
+use Rattle.index_state.proofs.Standing.{same_stands, docs_on}
 use Rattle.pair_manager.specs.Merging.{AreShared, AreFrom, IsReplaced, IsReplacedIn, first_in}
 use Rattle.pair_manager.specs.declared.merging.MergeScope.{MergeScope}
 
@@ -29,6 +29,10 @@ pub on_ok : {T E P : Type 0} (r : Result T E) → P → OnOk r P
 on_ok (Ok _) p = p
 on_ok (Err _) p = tt
 
+pub if_any : {T E : Type 0} {P : Type 0} (r : Result T E) → P → IfOk r (λ _. P)
+if_any (Ok _) p = p
+if_any (Err _) p = tt
+
 pub if_both : {T E : Type 0} (r : Result T E) (P Q R : T → Type 0) → ((x : T) → P x → Q x → R x) → IfOk r P → IfOk r Q → IfOk r R
 if_both (Ok x) P Q R more p q = more x p q
 if_both (Err _) P Q R more p q = tt
@@ -36,7 +40,7 @@ if_both (Err _) P Q R more p q = tt
 -- ---- an index
 
 pub flushed_stands : (old new : Index) → IsFlushed old new → (history : List Operation) → StandsFor old history → StandsFor new history
-flushed_stands old new flushed = still_stands old new (ap (λ (x : Index). x.docs) flushed.rest) (ap (λ (x : Index). x.sessions) flushed.rest)
+flushed_stands old new flushed = same_stands old new (ap (λ (x : Index). x.docs) flushed.rest) (ap (λ (x : Index). x.sessions) flushed.rest) (ap (λ (x : Index). x.labels) flushed.rest)
 
 pub flushed_frame : (old new : Index) → IsFlushed old new → frame_of new ≡ frame_of old
 flushed_frame old new flushed = ap (λ (x : Index). frame_of x) flushed.rest
@@ -47,8 +51,8 @@ installed_frame old new rest same = ap (λ (x : Index). frame_of x) rest ∙ ap 
 
 -- ---- operations that go on
 
-docs_prefix : (xs ys : List (ℕ × Operation)) → IsPrefix xs ys → IsPrefix (docs (entries xs)) (docs (entries ys))
-docs_prefix xs ys p = let q = entries-prefix xs ys p in (docs q.0, sym (map-append (λ (o : Operation). o.doc) (entries xs) q.0) ∙ ap docs q.1)
+docs_prefix : (xs ys : List (ℕ × Operation)) → IsPrefix xs ys → list_all (λ (o : Operation). is_add o.change) (entries ys) ≡ true → IsPrefix (docs (entries xs)) (docs (entries ys))
+docs_prefix xs ys p adds = docs_on (entries xs) (entries ys) (entries-prefix xs ys p) adds
 
 module _ (labels : TableId) (note : Shown (List (List ℕ))) (before : ℕ) where
   -- where the index of a turn shares them
@@ -63,15 +67,15 @@ module _ (labels : TableId) (note : Shown (List (List ℕ))) (before : ℕ) wher
     after = subst (ComeAfter before (docs_under note segments)) (stands.documents ∙ ap (λ (l : List (ℕ × Operation)). docs (entries l)) (sym seen)) after;
   }
 
-  -- while more is entered
-  pub shared_on : (old new : Shown Operation) (segments : List Records) → SameToken old new → SeesOn old new → AreShared labels old note before segments → AreShared labels new note before segments
-  shared_on old new segments same more shared = record {
+  -- while more documents are added
+  pub shared_on : (old new : Shown Operation) (segments : List Records) → SameToken old new → SeesOn old new → list_all (λ (o : Operation). is_add o.change) (entries new.seen) ≡ true → AreShared labels old note before segments → AreShared labels new note before segments
+  shared_on old new segments same more adds shared = record {
     own = shared.own;
     list = shared.list;
     config = shared.config;
     texts = shared.texts ∙ ap (λ (f : Frame). f.texts) (sym same.4);
     decoded = shared.decoded;
-    after = (shared.after.0, shared.after.1, prefix_trans (shared.after.0 ++ docs_under note segments) (docs (entries old.seen)) (docs (entries new.seen)) shared.after.2 (docs_prefix old.seen new.seen more.0));
+    after = (shared.after.0, shared.after.1, prefix_trans (shared.after.0 ++ docs_under note segments) (docs (entries old.seen)) (docs (entries new.seen)) shared.after.2 (docs_prefix old.seen new.seen more.0 adds));
   }
 
   -- their merged segment

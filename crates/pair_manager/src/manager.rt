@@ -1,12 +1,13 @@
 ghost use Rattle.std.specs.Prelude.{◌≡◌, ◌≢◌, ◌<◌, ◌≤◌, ◌++◌, ◌∷◌, [], false, true, ℕ, List, IfOk, IfErr, OnOk, OnErr};
-ghost use Rattle.std.specs.Prelude.{flat_map, length, map, take};
+ghost use Rattle.std.specs.Prelude.{flat_map, length, map, take, IsTrue};
+ghost use Rattle.std.specs.List.{list_all};
 ghost use Rattle.std.specs.Arc.{arc_value};
 ghost use mathlib.Core.List.{IsPrefix};
 ghost use Rattle.facet_names.specs.Labels.{prefixes};
 ghost use Rattle.facet_model.specs.ConfigTexts.{config_texts};
 ghost use Rattle.facet_model.specs.CountedPaths.{AreResolved};
 ghost use Rattle.facet_model.specs.Flags.{Config};
-ghost use Rattle.facet_model.specs.Histories.{docs};
+ghost use Rattle.facet_model.specs.Histories.{add, is_add, docs, opened};
 ghost use Rattle.facet_model.specs.Stored.{Decodes};
 ghost use Rattle.chronicle.specs.History.{entries};
 ghost use Rattle.chronicle.specs.Shown.{mine, MayEnter, MayTake, SameToken, SeesOn, EntersBehind};
@@ -16,11 +17,12 @@ ghost use Rattle.seg_documents.specs.Entries.{IsEntry};
 ghost use Rattle.taxo_cache.specs.Seen.{labels_of, SeesLabels};
 ghost use Rattle.taxo_list.specs.declared.fault.TaxoFault.TheVariants.{NoMemory as ListNoMemory};
 ghost use Rattle.taxo_adding.specs.Several.{AddsInTurn, IsFullForOne};
-ghost use Rattle.index_state.specs.Index.{opened, docs_under, DecodeUnder, AreOwn};
+ghost use Rattle.index_state.specs.Index.{docs_under, DecodeUnder, AreOwn};
 ghost use Rattle.index_state.specs.Frames.{index_frame};
 ghost use Rattle.index_state.specs.declared.fault.AppendFault.TheVariants.{DocsFull};
 ghost use Rattle.pair_manager.specs.Published.{ArePublications, publication_of, frame_of, pair_frame, StandsFor};
 ghost use Rattle.pair_manager.specs.Published.{IsLast, IsNewest, seen_of};
+ghost use Rattle.pair_manager.specs.Kept.{CoversAll};
 ghost use Rattle.pair_manager.specs.Next.{Ends, GoOn, IsNext};
 ghost use Rattle.pair_manager.specs.Passes.{IsOf, IsFirst, SamePass, all_seen};
 ghost use Rattle.pair_manager.specs.Appended.{HasNoRoom, IsPlaced};
@@ -164,6 +166,9 @@ impl<N: Name> Manager<N> {
         ensures own { IfOk result (λ v. v.labels.identity ≡ self.now.writer.labels) }
         ensures labels { IfOk result (λ v. SeesLabels v.labels) }
         ensures operations { IfOk result (λ v. v.operations ≡ length token.new.seen) }
+        ensures documents { IfOk result (λ v. v.documents ≡ length (docs (entries token.new.seen))) }
+        ensures covers { IfOk result (λ v. CoversAll v.labels token.new) }
+        ensures adds { IfOk result (λ v. IsTrue (list_all (λ o. is_add o.change) (entries token.new.seen))) }
         ensures decodes { IfOk result (λ v. (config : Config) → config_texts config ≡ token.old.frame.texts
             → Decodes (labels_of v.labels.seen) config v.segments (docs (entries token.new.seen))) }
         ensures read { IfOk result (λ v. AreOwn v.segments) }
@@ -324,8 +329,8 @@ impl<N: Name> Manager<N> {
         self.writer.resolve_each(rt, &mut pass.labels, paths)
     }
 
-    /// Adds the document of an entry after all others, as an operation of this session, and returns its place, from 0.
-    /// The entry has to be one under the labels that the pass has seen.
+    /// Adds the document of an entry after all others, as an operation of this session, and returns the operation's
+    /// place, from 0. The entry has to be one under the labels that the pass has seen.
     ///
     /// Locks: that of the operations. In it, the document is only moved into memory, as by [`IndexState::append`].
     ///
@@ -345,12 +350,13 @@ impl<N: Name> Manager<N> {
             × (pass.new.commits ≡ pass.old.commits) }
         ensures placed { IfOk result (λ at. IsPlaced at (record {
           session = session;
-          doc = entry.doc;
+          change = add entry.doc;
         }) pass.old.operations pass.new.operations) }
         ensures none { OnErr result (SeesOn pass.old.operations pass.new.operations) }
-        ensures full { IfErr result (λ e. (count : ℕ) → e ≡ DocsFull count → HasNoRoom count pass.new.operations) }
+        ensures full { IfErr result (λ e. (count : ℕ) → e ≡ DocsFull count
+            → HasNoRoom (add entry.doc) count pass.new.operations) }
     {
-        let operation = Operation::new(session, &entry.doc);
+        let operation = Operation::add(session, &entry.doc);
         let mut index = self.operations.take(rt, &mut pass.operations);
         match index.append(self.writer.labels(), &mut pass.labels, session, entry) {
             Ok(at) => {
@@ -387,6 +393,7 @@ impl<N: Name> Manager<N> {
         let IndexView {
             segments,
             operations: count,
+            documents,
             labels: noted,
         } = self.take_index(rt, operations)?;
         self.writer.meet(labels, noted);
@@ -397,6 +404,7 @@ impl<N: Name> Manager<N> {
             segments,
             config,
             count,
+            documents,
             self.operations.note(operations),
             self.writer.note(labels),
         ))

@@ -2,7 +2,7 @@
 //! merged one.
 ghost use Rattle.std.specs.Prelude.{◌≡◌, ◌≤◌, ◌⊎◌, false, [], ◌∷◌, List, IfOk, OnOk, length, map};
 ghost use Rattle.std.specs.Arc.{arc_value};
-ghost use Rattle.facet_model.specs.Histories.{Operation as Added};
+ghost use Rattle.facet_model.specs.Histories.{Operation as Entered};
 ghost use Rattle.seg_grammar.specs.Spelling.{IsSegment, seg_bytes};
 ghost use Rattle.taxo_cache.specs.Seen.{SeesLabels};
 ghost use Rattle.index_state.specs.Index.{StandsFor, DecodeUnder, docs_under, IsFlushed};
@@ -45,7 +45,7 @@ pub(crate) fn share(
     scope: MergeScope,
 ) -> Result<SegmentRange, NoMemory>
     requires own { index.old.labels.identity ≡ chronicle.now }
-    ensures stands { (history : List Added) → StandsFor index.old history → StandsFor index.new history }
+    ensures stands { (history : List Entered) → StandsFor index.old history → StandsFor index.new history }
     ensures frame { frame_of index.new ≡ frame_of index.old }
     ensures rest { (index.new ≡ index.old) ⊎ IsFlushed index.old index.new }
     ensures flushed { OnOk result (IsFlushed index.old index.new) }
@@ -73,7 +73,7 @@ pub(crate) fn replace(
     requires decodes { DecodeUnder labels index.old.config (arc_value merged ∷ []) }
     requires docs { ComeAfter before (docs_under labels (arc_value merged ∷ [])) index.old.docs }
     requires read { IsSegment (seg_bytes (arc_value merged)) (arc_value merged) }
-    ensures stands { (history : List Added) → StandsFor index.old history → StandsFor index.new history }
+    ensures stands { (history : List Entered) → StandsFor index.old history → StandsFor index.new history }
     ensures frame { frame_of index.new ≡ frame_of index.old }
     ensures replaced { OnOk result (IsReplaced scope before (arc_value merged) index.old index.new) }
 {

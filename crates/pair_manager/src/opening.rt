@@ -1,13 +1,14 @@
 //! The first index and the first pair.
 ghost use Rattle.std.specs.Prelude.{◌≡◌, ◌≤◌, [], ◌∷◌, IfOk, length, map};
 ghost use Rattle.std.specs.Arc.{arc_value};
-ghost use Rattle.facet_model.specs.Histories.{docs};
+ghost use Rattle.facet_model.specs.Histories.{docs, opened};
 ghost use Rattle.facet_model.specs.Stored.{Decodes};
 ghost use Rattle.chronicle.specs.History.{entries, numbered};
 ghost use Rattle.chronicle.specs.Shown.{MayTake};
 ghost use Rattle.taxo_cache.specs.Seen.{labels_of, SeesLabels};
-ghost use Rattle.index_state.specs.Index.{StandsFor, opened, docs_under, DecodeUnder, AreOwn};
+ghost use Rattle.index_state.specs.Index.{StandsFor, docs_under, DecodeUnder, AreOwn};
 ghost use Rattle.index_state.specs.Frames.{index_frame, frame_of};
+ghost use Rattle.pair_manager.specs.Kept.{CoversAll};
 ghost use Rattle.pair_manager.specs.Passes.{IsFirst};
 ghost use Rattle.pair_manager.specs.Published.{ArePublications, pair_frame, seen_of};
 
@@ -50,6 +51,7 @@ pub fn open_index(
     ensures frame { IfOk result (λ r. frame_of r.0 ≡ index_frame (arc_value config.now) max_docs chronicle.now) }
     ensures noted { IfOk result (λ r. (r.1.labels.seen ≡ labels.old.seen) × (r.1.labels.identity ≡ chronicle.now)) }
     ensures operations { IfOk result (λ r. r.1.operations ≡ length r.0.docs) }
+    ensures documents { IfOk result (λ r. r.1.documents ≡ length r.0.docs) }
     ensures decodes { IfOk result (λ r. Decodes (labels_of labels.old.seen)
         (arc_value config.now) r.1.segments r.0.docs) }
 {
@@ -103,8 +105,10 @@ pub fn open_pairs<N: Name>(
     requires list { SeesLabels labels.old }
     requires view { view ≡ labels_of labels.old.seen }
     requires count { taken.operations ≡ length first.old.seen }
+    requires documents { taken.documents ≡ length (docs (entries first.old.seen)) }
     requires decodes { Decodes (labels_of labels.old.seen) (arc_value config) taken.segments
         (docs (entries first.old.seen)) }
+    requires covers { CoversAll labels.old first.old }
     ensures labels { labels.new ≡ labels.old }
     ensures first { first.new ≡ first.old }
     ensures pairs { IfOk result (λ r. IsFirst r.1 r.0 (seen_of first.old labels.old ∷ [])) }
@@ -117,6 +121,7 @@ pub fn open_pairs<N: Name>(
         taken.segments,
         config,
         taken.operations,
+        taken.documents,
         operations.note(first),
         writer.note(labels),
     );

@@ -6,7 +6,7 @@ ghost use Rattle.seg_documents.specs.Decoding.{records_in};
 ghost use Rattle.chronicle.specs.History.{entries};
 ghost use Rattle.taxo_cache.specs.Seen.{labels_of, SeesLabels};
 ghost use Rattle.pair_manager.specs.Published.{published};
-ghost use Rattle.pair_manager.specs.Kept.{IsNote, IsPair, DecodesTo};
+ghost use Rattle.pair_manager.specs.Kept.{IsNote, IsPair, DecodesTo, CoversAll};
 
 use arc_list::ArcList;
 use chronicle::Token;
@@ -29,6 +29,7 @@ pub struct Pair {
     segments: ArcList<Segment>,
     config: Arc<FacetsConfig>,
     operations: u64,
+    documents: u32,
     history: Token<Operation>,
     labels: Token<Path>,
 }
@@ -43,17 +44,18 @@ impl Model for Pair {
     ghost view = { λ p. published p.history p.labels (arc_value p.config) p.segments };
 
     ghost invariant = { λ p. IsKept (published p.history p.labels (arc_value p.config) p.segments)
-        (arc_value p.view) p.operations };
+        (arc_value p.view) p.operations p.documents };
 }
 
 impl Pair {
-    // The pair of this view and of the segments of so many operations, with notes of these operations and of the
-    // labels.
+    // The pair of this view and of the segments of so many operations and documents, with notes of these operations and
+    // of the labels.
     pub(crate) fn new(
         view: Arc<TaxoView>,
         segments: ArcList<Segment>,
         config: Arc<FacetsConfig>,
         operations: u64,
+        documents: u32,
         history: Token<Operation>,
         labels: Token<Path>,
     ) -> Pair
@@ -61,7 +63,9 @@ impl Pair {
         requires list { SeesLabels labels }
         requires view { arc_value view ≡ labels_of labels.seen }
         requires operations { operations ≡ length history.seen }
+        requires documents { documents ≡ length (docs (entries history.seen)) }
         requires decodes { DecodesTo labels (arc_value config) segments history }
+        requires covers { CoversAll labels history }
         requires few { length (records_in segments) ≤ 1000000 }
         ensures pair { result ≡ published history labels (arc_value config) segments }
         ensures is { IsPair result }
@@ -71,6 +75,7 @@ impl Pair {
             segments,
             config,
             operations,
+            documents,
             history,
             labels,
         }
@@ -83,11 +88,11 @@ impl Pair {
         self.operations
     }
 
-    /// Returns how many documents there are, at most 1,000,000. Each operation added one.
+    /// Returns how many documents there are, at most 1,000,000.
     pub fn documents(&self) -> u32
         ensures { result ≡ length (docs (entries self.now.history.seen)) }
     {
-        self.operations as u32
+        self.documents
     }
 
     /// Returns the labels.

@@ -1,9 +1,6 @@
 -- The document at a place of stored segments.
 use Rattle.std.proofs.Common.{◌≡◌, ◌∙◌, ◌<◌, ℕ, List, length, slice_get, Option, Some, None, option_map, refl, sym, ap, subst}
 use Rattle.std.specs.Prelude.{All}
-use Rattle.std.proofs.lemmas.List.{length-map}
-use Rattle.chronicle.specs.History.{entries}
-use Rattle.facet_model.specs.Histories.{Operation, docs as docs_of}
 use Rattle.std.proofs.lemmas.Option.{get_or_from_slice_get, slice_get_within}
 use Rattle.facet_names.specs.Labels.{GoesOn, IsLabelList}
 use Rattle.facet_names.proofs.LabelLists.{Labels}
@@ -40,7 +37,3 @@ module _ (config : Config) (view : Labels) (segments : List Records) (docs : Lis
   -- there is none
   pub none_at : (labels : Labels) (n count : ℕ) → count ≡ length docs → slice_get (records_in segments) at ≡ None → IsShown labels n docs at (slice_get docs at) (refused (no_such_document count))
   none_at labels n count many is = subst (λ (o : Option Doc). IsShown labels n docs at o (refused (no_such_document count))) (sym (seen ∙ ap (option_map (doc_in view)) is)) (ap (λ k. refused (no_such_document k)) many)
-
--- as many documents as operations
-pub docs_many : (seen : List (ℕ × Operation)) → length (docs_of (entries seen)) ≡ length seen
-docs_many seen = let doc : Operation → Doc = λ o. o.doc in let entry : ℕ × Operation → Operation = λ e. e.1 in length-map (entries seen) doc ∙ length-map seen entry

@@ -102,7 +102,7 @@ fn show_in(
             Err(NoMemory) => Err(DocumentFault::NoMemory),
         },
         None => Err(DocumentFault::NoSuchDocument {
-            count: pair.operations(),
+            count: u64::from(pair.documents()),
         }),
     }
 }

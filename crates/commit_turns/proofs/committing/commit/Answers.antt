@@ -10,7 +10,6 @@ use Rattle.commit_plan.specs.declared.fault.CommitFault.TheVariants.{Disk as OfD
 use Rattle.commit_turns.specs.Points.{made, failed_after, entered}
 use Rattle.commit_turns.specs.Turns.{StandsFor, StandsOn}
 use Rattle.taxo_cache.specs.Seen.{labels_of}
-use Rattle.commit_turns.specs.Seen.{docs_of}
 use Rattle.pair_manager.specs.declared.point.CommitPoint.{CommitPoint}
 use Rattle.commit_turns.proofs.Entering.{enters_these, enters_none, closed_by}
 use Rattle.commit_turns.proofs.Turning.{stands_on, stands_still}
@@ -24,7 +23,7 @@ returns-in-Ok-clause-enters g c =
     let is : c.commit_in_turn.new.state.last ≡ made c.in-Ok.n (length (labels_of c.commit_in_turn.new.seen_labels.seen)) = c.in-Ok.ensures.ok.1 in
     let e = c.enter.ensures in
     let gave = c.give.ensures in
-    enters_these (length (labels_of c.commit_in_turn.new.seen_labels.seen)) c.args.pass.now.commits t.new.token c.give.new.token t.result.committer.closed (Ok c.in-Ok.n) (d.faults t.result.committer.disk) (length (labels_of t.result.labels.seen)) (length (docs_of t.result.operations.seen)) t.result.last t.ensures.more st.points st.closed
+    enters_these (length (labels_of c.commit_in_turn.new.seen_labels.seen)) c.args.pass.now.commits t.new.token c.give.new.token t.result.committer.closed (Ok c.in-Ok.n) (d.faults t.result.committer.disk) (length (labels_of t.result.labels.seen)) (length (entries t.result.operations.seen)) t.result.last t.ensures.more st.points st.closed
     c.in-Ok.ensures.closed (gave.idle.0.0 ∙ e.turn.0.0) (made c.in-Ok.n (length (labels_of c.commit_in_turn.new.seen_labels.seen)) ∷ []) refl
     (gave.seen.0 ∙ e.added ∙ ap (λ (p : CommitPoint). t.new.token.seen ++ numbered t.new.token.number (p ∷ [])) is)
     (gave.seen.1 ∙ e.mine ∙ ap (λ (p : CommitPoint). mine t.new.token ++ numbered t.new.token.number (p ∷ [])) is)
@@ -37,7 +36,7 @@ returns-in-Err-Disk-clause-enters g c =
     let is : c.commit_in_turn.new.state.last ≡ failed_after t.result.last c.in-Err-Disk.count = (c.in-Err-Disk.ensures.disk c.in-Err-Disk.count c.in-Err-Disk.field-0-is).0 in
     let e = c.enter-in-Err-Disk.ensures in
     let gave = c.give-in-Err-Disk.ensures in
-    enters_these (length (labels_of c.commit_in_turn.new.seen_labels.seen)) c.args.pass.now.commits t.new.token c.give-in-Err-Disk.new.token t.result.committer.closed (Err (OfDisk c.in-Err-Disk.count)) (d.faults t.result.committer.disk) (length (labels_of t.result.labels.seen)) (length (docs_of t.result.operations.seen)) t.result.last t.ensures.more st.points st.closed
+    enters_these (length (labels_of c.commit_in_turn.new.seen_labels.seen)) c.args.pass.now.commits t.new.token c.give-in-Err-Disk.new.token t.result.committer.closed (Err (OfDisk c.in-Err-Disk.count)) (d.faults t.result.committer.disk) (length (labels_of t.result.labels.seen)) (length (entries t.result.operations.seen)) t.result.last t.ensures.more st.points st.closed
     (closed_by t.result.committer.closed _ _ c.in-Err-Disk.field-0-is c.in-Err-Disk.ensures.closed) (gave.idle.0.0 ∙ e.turn.0.0) (failed_after t.result.last c.in-Err-Disk.count ∷ []) refl
     (gave.seen.0 ∙ e.added ∙ ap (λ (p : CommitPoint). t.new.token.seen ++ numbered t.new.token.number (p ∷ [])) is)
     (gave.seen.1 ∙ e.mine ∙ ap (λ (p : CommitPoint). mine t.new.token ++ numbered t.new.token.number (p ∷ [])) is)
@@ -48,7 +47,7 @@ returns-in-Err-Closed-clause-enters g c =
     let t = c.take-turn in
     let st = t.ensures.value.0.stands in
     let gave = c.give-in-Err-Closed.ensures in
-    enters_none (length (labels_of c.commit_in_turn.new.seen_labels.seen)) c.args.pass.now.commits t.new.token c.give-in-Err-Closed.new.token t.result.committer.closed (Err (Closed c.in-Err-Closed.count)) (d.faults t.result.committer.disk) (length (labels_of t.result.labels.seen)) (length (docs_of t.result.operations.seen)) t.result.last t.ensures.more st.points st.closed
+    enters_none (length (labels_of c.commit_in_turn.new.seen_labels.seen)) c.args.pass.now.commits t.new.token c.give-in-Err-Closed.new.token t.result.committer.closed (Err (Closed c.in-Err-Closed.count)) (d.faults t.result.committer.disk) (length (labels_of t.result.labels.seen)) (length (entries t.result.operations.seen)) t.result.last t.ensures.more st.points st.closed
     (closed_by t.result.committer.closed _ _ c.in-Err-Closed.field-0-is c.in-Err-Closed.ensures.closed) gave.idle.0.0 refl gave.seen.0 gave.seen.1
 
 pub returns-in-Err-NoMemory-clause-enters : goal.returns-in-Err-NoMemory-clause-enters
@@ -57,7 +56,7 @@ returns-in-Err-NoMemory-clause-enters g c =
     let t = c.take-turn in
     let st = t.ensures.value.0.stands in
     let gave = c.give-in-Err-NoMemory.ensures in
-    enters_none (length (labels_of c.commit_in_turn.new.seen_labels.seen)) c.args.pass.now.commits t.new.token c.give-in-Err-NoMemory.new.token t.result.committer.closed (Err NoMemory) (d.faults t.result.committer.disk) (length (labels_of t.result.labels.seen)) (length (docs_of t.result.operations.seen)) t.result.last t.ensures.more st.points st.closed
+    enters_none (length (labels_of c.commit_in_turn.new.seen_labels.seen)) c.args.pass.now.commits t.new.token c.give-in-Err-NoMemory.new.token t.result.committer.closed (Err NoMemory) (d.faults t.result.committer.disk) (length (labels_of t.result.labels.seen)) (length (entries t.result.operations.seen)) t.result.last t.ensures.more st.points st.closed
     (closed_by t.result.committer.closed _ _ c.in-Err-NoMemory.field-0-is c.in-Err-NoMemory.ensures.closed) gave.idle.0.0 refl gave.seen.0 gave.seen.1
 
 pub returns-in-Err-NumbersSpent-clause-enters : goal.returns-in-Err-NumbersSpent-clause-enters
@@ -66,7 +65,7 @@ returns-in-Err-NumbersSpent-clause-enters g c =
     let t = c.take-turn in
     let st = t.ensures.value.0.stands in
     let gave = c.give-in-Err-NumbersSpent.ensures in
-    enters_none (length (labels_of c.commit_in_turn.new.seen_labels.seen)) c.args.pass.now.commits t.new.token c.give-in-Err-NumbersSpent.new.token t.result.committer.closed (Err (NumbersSpent c.in-Err-NumbersSpent.number)) (d.faults t.result.committer.disk) (length (labels_of t.result.labels.seen)) (length (docs_of t.result.operations.seen)) t.result.last t.ensures.more st.points st.closed
+    enters_none (length (labels_of c.commit_in_turn.new.seen_labels.seen)) c.args.pass.now.commits t.new.token c.give-in-Err-NumbersSpent.new.token t.result.committer.closed (Err (NumbersSpent c.in-Err-NumbersSpent.number)) (d.faults t.result.committer.disk) (length (labels_of t.result.labels.seen)) (length (entries t.result.operations.seen)) t.result.last t.ensures.more st.points st.closed
     (closed_by t.result.committer.closed _ _ c.in-Err-NumbersSpent.field-0-is c.in-Err-NumbersSpent.ensures.closed) gave.idle.0.0 refl gave.seen.0 gave.seen.1
 
 pub invariant_of-pass-clause-right : goal.invariant_of-pass-clause-right

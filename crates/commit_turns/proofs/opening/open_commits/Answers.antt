@@ -1,10 +1,10 @@
 use Rattle.std.proofs.Common.{◌≡◌, ℕ, ◌∙◌, [], ◌∷◌, length, sym, ap, subst}
+use Rattle.chronicle.specs.History.{entries}
 use Rattle.commit_turns.specs.Points.{made}
 use Rattle.taxo_cache.specs.Seen.{labels_of}
-use Rattle.commit_turns.specs.Seen.{docs_of}
 use Rattle.commit_turns.proofs.AtOpening.{stands_opened}
 use Rattle.commit_turns.proofs.Carried.{On}
-use Rattle.commit_turns.proofs.Prefixed.{docs_count}
+use Rattle.commit_turns.proofs.Prefixed.{entries_count}
 use Rattle.commit_turns.proofs.Surviving.{marked}
 use Rattle.commit_turns.proofs.opening.open_commits.Goals as goal
 
@@ -16,9 +16,9 @@ open-requires g c =
     let k = c.args.committer in
     let labels = c.args.seen_labels.now.seen in
     let operations = c.args.seen_operations.now.seen in
-    let st = stands_opened d only_now n.told n.settled n.quiet c.args.start.value k (labels_of labels) (docs_of operations) c.requires.opened c.requires.told c.requires.settled c.requires.quiet in
-    let point : made (length (docs_of operations)) (length (labels_of labels)) ≡ c.args.opened = ap (λ (n : ℕ). made n (length (labels_of labels))) (docs_count operations) ∙ sym c.requires.point in
+    let st = stands_opened d only_now n.told n.settled n.quiet c.args.start.value k (labels_of labels) (entries operations) c.requires.opened c.requires.told c.requires.settled c.requires.quiet in
+    let point : made (length (entries operations)) (length (labels_of labels)) ≡ c.args.opened = ap (λ (n : ℕ). made n (length (labels_of labels))) (entries_count operations) ∙ sym c.requires.point in
     record {
       marks = marked k.disk c.args.opened;
-      stands = subst (λ (T : Type 0). T) (λ i. On d n.told n.settled n.quiet c.args.start.value (sym c.of-begun.ensures i).state k (point i) (labels_of (sym c.note-2.ensures.note.2 i)) (docs_of (sym c.note.ensures.note.2 i)) (point i ∷ []) (marked k.disk (point i))) st;
+      stands = subst (λ (T : Type 0). T) (λ i. On d n.told n.settled n.quiet c.args.start.value (sym c.of-begun.ensures i).state k (point i) (labels_of (sym c.note-2.ensures.note.2 i)) (entries (sym c.note.ensures.note.2 i)) (point i ∷ []) (marked k.disk (point i))) st;
     }

@@ -6,6 +6,7 @@ use Rattle.facet_model.proofs.ConfigTexts.{config_told}
 use Rattle.facet_model.specs.CountedPaths.{AreResolved}
 use Rattle.facet_model.specs.Documents.{Doc}
 use Rattle.facet_model.specs.Flags.{Config}
+use Rattle.facet_model.specs.Histories.{add}
 use Rattle.facet_names.specs.Labels.{prefixes}
 use Rattle.seg_documents.proofs.Ordinals.{resolved_known}
 use Rattle.seg_documents.specs.Entries.{IsEntry}
@@ -45,7 +46,7 @@ returns-in-Ok-append-clause-tried g c =
     let mid = c.resolve_each.new.pass in
     let known = labels_of mid.labels.seen in
     let resolved : AreResolved known c.args.doc.labels c.in-Ok.resolved.items = subst (λ (ps : List (List (List ℕ))). AreResolved known ps c.in-Ok.resolved.items) c.facets.ensures.labels c.in-Ok.ensures.resolved in
-    tried_placed c.args.manager.now.writer.limit c.args.session c.args.doc c.args.pass.now mid c.append.new.pass c.in-Ok-entry_of.entry.doc c.in-Ok-entry_of.ensures.doc
+    tried_placed c.args.manager.now.writer.limit c.args.session add c.args.doc c.args.pass.now mid c.append.new.pass c.in-Ok-entry_of.entry.doc c.in-Ok-entry_of.ensures.doc
     c.resolve_each.ensures.rest.0 c.append.ensures.rest.0 (resolved_known known c.args.doc.labels c.in-Ok.resolved.items resolved) c.in-Ok-append.at c.in-Ok-append.ensures.placed
 
 pub returns-in-Err-DocsFull-clause-tried : goal.returns-in-Err-DocsFull-clause-tried
@@ -53,7 +54,7 @@ returns-in-Err-DocsFull-clause-tried g c =
     let mid = c.resolve_each.new.pass in
     let known = labels_of mid.labels.seen in
     let resolved : AreResolved known c.args.doc.labels c.in-Ok.resolved.items = subst (λ (ps : List (List (List ℕ))). AreResolved known ps c.in-Ok.resolved.items) c.facets.ensures.labels c.in-Ok.ensures.resolved in
-    tried_full c.args.manager.now.writer.limit c.args.session c.args.doc c.args.pass.now mid c.append.new.pass c.in-Ok-entry_of.entry.doc c.in-Ok-entry_of.ensures.doc
+    tried_full c.args.manager.now.writer.limit c.args.session add c.args.doc c.args.pass.now mid c.append.new.pass c.in-Ok-entry_of.entry.doc c.in-Ok-entry_of.ensures.doc
     c.resolve_each.ensures.rest.0 c.append.ensures.rest.0 (resolved_known known c.args.doc.labels c.in-Ok.resolved.items resolved) c.in-Err-DocsFull.count c.in-Err-DocsFull.ensures.none (c.in-Err-DocsFull.ensures.full c.in-Err-DocsFull.count c.in-Err-DocsFull.field-0-is)
 
 pub returns-in-Ok-append-clause-adds : goal.returns-in-Ok-append-clause-adds

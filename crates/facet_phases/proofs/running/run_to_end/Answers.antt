@@ -3,14 +3,14 @@ use Rattle.std.specs.Prelude.{All}
 use Rattle.chronicle.specs.Frame.{Frame}
 use Rattle.chronicle.specs.History.{entries}
 use Rattle.facet_names.specs.Labels.{IsLabelList}
+use Rattle.facet_model.specs.Histories.{Operation}
 use Rattle.facet_io.specs.Faults.{Rose}
 use Rattle.facet_output.specs.Outputs.{sessions_in}
 use Rattle.facet_output.specs.Seen.{history_of, labels_of}
-use Rattle.facet_phases.proofs.Tracing.{sessions_told}
+use Rattle.facet_phases.proofs.Tracing.{operations_told, sessions_told}
 use Rattle.commit_turns.specs.Ending.{Lasts, FailsWith}
 use Rattle.commit_turns.specs.Frames.{HasNumbers}
 use Rattle.commit_turns.specs.Points.{count_after, last_of}
-use Rattle.commit_turns.specs.Seen.{docs_of}
 use Rattle.pair_manager.specs.declared.point.CommitPoint.{CommitPoint}
 use Rattle.facet_engine.specs.declared.notes.Notes.{Notes}
 use Rattle.facet_engine.specs.Notes.{noted}
@@ -64,9 +64,15 @@ returns-clause-failed g c next moment faults failures told numbers =
 
 pub returns-clause-lasts : goal.returns-clause-lasts
 returns-clause-lasts g c config next moment faults failures settled texts numbers =
-    subst (λ (n : Notes). Lasts g.D.Disk config moment (labels_of (noted n)) (docs_of n.operations.seen) (entries n.commits.seen) c.end-ended.result.disk) (sym c.spread_all.ensures.notes)
+    let first = c.run_sessions-result.new.first in
+    let notes = c.end-ended.result.notes in
+    let ready : AreReady c.args.system.now first c.deref_mut.result.now = subst (λ (l : List (Lane g.row.C.Denot)). AreReady c.args.system.now first l) (sym c.deref_mut.ensures.value) c.run_sessions-result.ensures.ready in
+    let operations : entries notes.operations.seen ≡ history_of (noted notes) =
+    operations_told c.args.system.now first c.deref_mut.result.now c.spread_all.new.lanes notes ready c.spread_all.ensures.told c.spread_all.ensures.named (c.end-ended.ensures.named ready.made.named) c.end-ended.ensures.numbers in
+    subst (λ (n : Notes). Lasts g.D.Disk config moment (labels_of (noted n)) (history_of (noted n)) (entries n.commits.seen) c.end-ended.result.disk) (sym c.spread_all.ensures.notes)
+    (subst (λ (h : List Operation). Lasts g.D.Disk config moment (labels_of (noted notes)) h (entries notes.commits.seen) c.end-ended.result.disk) operations
     (c.end-ended.ensures.lasts config next moment faults failures settled (texts ∙ ap (λ (f : Frame). f.texts) (sym c.run_sessions-result.ensures.frames.1))
-    (subst (λ (f : Frame). HasNumbers next moment faults failures f) (sym c.run_sessions-result.ensures.frames.1) numbers))
+    (subst (λ (f : Frame). HasNumbers next moment faults failures f) (sym c.run_sessions-result.ensures.frames.1) numbers)))
 
 pub returns-clause-quiet : goal.returns-clause-quiet
 returns-clause-quiet g c few = c.end-ended.ensures.quiet (subst (λ (n : Notes). length (entries n.commits.seen) ≤ 1) c.spread_all.ensures.notes few)

@@ -1,5 +1,4 @@
-use Rattle.std.proofs.Common.{◌∙◌, inl, inr, sym, subst, ap}
-use Rattle.std.proofs.lemmas.Result.{IfOk-weaker}
+use Rattle.std.proofs.Common.{◌∙◌, inl, ap}
 use Rattle.index_state.specs.Index.{Index}
 use Rattle.index_state.specs.Frames.{frame_of}
 use Rattle.pair_manager.proofs.Sharing.{installed_frame}

@@ -1,6 +1,9 @@
-use Rattle.std.proofs.Common.{rules, ◌≡◌, ◌∙◌, ◌∷◌, [], ℕ, List, ap, sym, subst}
+use Rattle.std.proofs.Common.{rules, ◌≡◌, ◌∙◌, ◌∷◌, [], ℕ, true, List, ap, sym, subst}
 use Rattle.std.proofs.lemmas.Result.{IfOk-weaker}
-use Rattle.facet_model.specs.Histories.{Operation}
+use Rattle.std.specs.List.{list_all}
+use Rattle.facet_model.specs.Histories.{Operation, brought, knows}
+use Rattle.chronicle.specs.History.{entries}
+use Rattle.taxo_cache.specs.Seen.{labels_of}
 use Rattle.pair_manager.specs.declared.publication.Publication.{Publication}
 use Rattle.pair_manager.specs.Published.{Published, ArePublications, StandsFor, publication_of}
 use Rattle.pair_manager.proofs.Publishing.{stands_first}
@@ -8,6 +11,11 @@ use Rattle.pair_manager.proofs.opening.open_pairs.Goals as goal
 
 pub open_chronicle-requires : goal.open_chronicle-requires
 open_chronicle-requires g c = subst (λ (p : Published). StandsFor p (publication_of p ∷ [])) (sym c.in_ok-state.ensures) (stands_first _ c.new-pair.ensures.is)
+
+pub new-pair-requires-clause-covers : goal.new-pair-requires-clause-covers
+new-pair-requires-clause-covers g c =
+    subst (λ (l : List (ℕ × List (List ℕ))). list_all (knows (labels_of l)) (brought (entries c.note.result.seen)) ≡ true) (sym c.note-2.ensures.note.2)
+    (subst (λ (l : List (ℕ × Operation)). list_all (knows (labels_of c.args.labels.now.seen)) (brought (entries l)) ≡ true) (sym c.note.ensures.note.2) c.requires.covers)
 
 pub returns-clause-right : goal.returns-clause-right
 returns-clause-right g c =

@@ -1,4 +1,4 @@
-use Rattle.std.proofs.Common.{◌≡◌, ◌∙◌, ℕ, List, length, map, refl, sym, ap, subst}
+use Rattle.std.proofs.Common.{◌≡◌, ◌∙◌, List, length, map, refl, sym, ap, subst}
 use Rattle.std.proofs.lemmas.List.{length-map}
 use Rattle.std.specs.Arc.{arc_value}
 use Rattle.chronicle.specs.History.{entries}
@@ -8,9 +8,8 @@ use Rattle.facet_model.specs.Histories.{docs}
 use Rattle.facet_model.specs.Hits.{hits}
 use Rattle.facet_model.specs.Stored.{Decodes}
 use Rattle.facet_output.specs.Replies.{ranged}
-use Rattle.facet_replies.specs.ReplyViews.{range_view}
 use Rattle.number_facets.specs.Results.{RangeCounts}
-use Rattle.number_facets.specs.Values.{Range, range_count, valued}
+use Rattle.number_facets.specs.Values.{range_count, valued}
 use Rattle.value_facets.specs.Ranging.{RangeQuestion}
 use Rattle.pair_search.proofs.Numbered.{decoded_in}
 use Rattle.pair_search.proofs.Searched.{searchable}

@@ -1,4 +1,4 @@
-use Rattle.std.proofs.Common.{List, map, sym}
+use Rattle.std.proofs.Common.{map}
 use Rattle.facet_output.specs.Replies as replies
 use Rattle.facet_model.specs.ResultViews.{answer_view}
 use Rattle.seg_documents.specs.Decoding.{docs_in}

@@ -8,7 +8,7 @@ use Rattle.facet_output.specs.Replying.{IsShown}
 use Rattle.seg_documents.specs.Decoding.{doc_in, records_in}
 use Rattle.seg_grammar.specs.Lookups.{record_of}
 use Rattle.taxo_cache.specs.Seen.{labels_of}
-use Rattle.pair_search.proofs.Stored.{leaves_at, shown_at, none_at, docs_many}
+use Rattle.pair_search.proofs.Stored.{leaves_at, shown_at, none_at}
 use Rattle.pair_search.proofs.showing.show_in.Goals as goal
 
 pub show-requires-clause-leaves : goal.show-requires-clause-leaves
@@ -31,5 +31,5 @@ returns-in-Ok c other labels list on =
 pub returns-in-None : goal.returns-in-None
 returns-in-None c other labels list on =
     let pair = c.args.pair.now in
-    none_at pair.config (labels_of pair.labels.seen) pair.segments (docs (entries pair.history.seen)) c.requires.is.list c.requires.is.decoded c.args.at labels (length pair.history.seen) c.operations-in-None.result (c.operations-in-None.ensures ∙ sym (docs_many pair.history.seen))
+    none_at pair.config (labels_of pair.labels.seen) pair.segments (docs (entries pair.history.seen)) c.requires.is.list c.requires.is.decoded c.args.at labels (length pair.history.seen) c.from.result (c.from.ensures ∙ c.documents.ensures)
     (ap (λ s. slice_get (records_in s) c.args.at) (sym c.requires.segments) ∙ c.in-None.ensures)

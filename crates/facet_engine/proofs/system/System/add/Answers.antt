@@ -1,6 +1,7 @@
 use Rattle.std.proofs.Common.{◌∙◌, ap, refl, sym}
 use Rattle.facet_model.specs.Accepts.{first_broken}
 use Rattle.facet_model.specs.Flags.{Config}
+use Rattle.facet_model.specs.Histories as histories
 use Rattle.facet_engine.proofs.Added.{begins_on, broken_step, named, tried_step}
 use Rattle.facet_engine.proofs.SeenPairs.{all_still_seen, same_pass, sees_self}
 use Rattle.facet_engine.specs.HeldPairs.{numbers_held}
@@ -11,13 +12,13 @@ pub invariant_of-session-clause-own : goal.invariant_of-session-clause-own
 invariant_of-session-clause-own g c =
     let session = c.args.session.now in
     let e = c.add_to.ensures in
-    named session.number c.self.inside.manager.writer.limit c.args.doc session.pass c.add_to.new.pass e.same session.own c.add_to.result e.tried
+    named session.number c.self.inside.manager.writer.limit (histories.add c.args.doc) c.args.doc session.pass c.add_to.new.pass e.same session.own c.add_to.result e.tried
 
 pub invariant_of-session-clause-seen : goal.invariant_of-session-clause-seen
 invariant_of-session-clause-seen g c =
     let session = c.args.session.now in
     let e = c.add_to.ensures in
-    all_still_seen session.pass c.add_to.new.pass session.held e.same (begins_on c.self.inside.manager.writer.limit (record { session = session.number; doc = c.args.doc }) session.pass c.add_to.new.pass c.add_to.result e.tried) e.more session.seen
+    all_still_seen session.pass c.add_to.new.pass session.held e.same (begins_on c.self.inside.manager.writer.limit session.number (histories.add c.args.doc) c.args.doc session.pass c.add_to.new.pass c.add_to.result e.tried) e.more session.seen
 
 pub returns-in-Ok-clause-step : goal.returns-in-Ok-clause-step
 returns-in-Ok-clause-step g c settings phase line is =

@@ -1,13 +1,12 @@
 use Rattle.std.proofs.Common.{◌≡◌, ◌∙◌, ◌≤◌, ℕ, List, Some, All, length, map, sym, ap, subst}
 use mathlib.Core.List.{IsPrefix}
 use Rattle.chronicle.specs.History.{entries}
+use Rattle.chronicle.proofs.Entries.{entries-prefix}
 use Rattle.chronicle.proofs.Prefixes.{prefix_trans}
 use Rattle.facet_disk.specs.Calls.{Rose}
 use Rattle.facet_model.specs.Histories.{Operation}
 use Rattle.commit_turns.specs.Ending.{Lasts, FailsWith}
 use Rattle.commit_turns.specs.Points.{count_after, last_of}
-use Rattle.commit_turns.specs.Seen.{docs_of}
-use Rattle.commit_turns.proofs.Prefixed.{docs_on}
 use Rattle.pair_manager.specs.declared.point.CommitPoint.{CommitPoint}
 use Rattle.pair_manager.proofs.Publishing.{still_right}
 use Rattle.taxo_cache.specs.Seen.{labels_of}
@@ -87,8 +86,8 @@ returns-clause-lasts g c config next moment faults failures settled texts number
     let points = entries e.new.token.seen in
     let more_labels = subst (λ l. IsPrefix e.new.seen_labels.seen l) (sym n.ensures.labels.1.2) c.end-list.ensures.more.0 in
     let more_operations = subst (λ l. IsPrefix e.new.seen_operations.seen l) (sym n.ensures.operations.1.2) c.end-index.ensures.more.0 in
-    subst (λ (l : List (ℕ × CommitPoint)). Lasts g.D.Disk config moment (labels_of labels) (docs_of operations) (entries l) e.result) (sym n.ensures.commits.1.2)
-    (lasts_more config (labels_of e.new.seen_labels.seen) (labels_of labels) (docs_of e.new.seen_operations.seen) (docs_of operations) (seen_goes_on e.new.seen_labels.seen labels more_labels) (docs_on e.new.seen_operations.seen operations more_operations)
+    subst (λ (l : List (ℕ × CommitPoint)). Lasts g.D.Disk config moment (labels_of labels) (entries operations) (entries l) e.result) (sym n.ensures.commits.1.2)
+    (lasts_more config (labels_of e.new.seen_labels.seen) (labels_of labels) (entries e.new.seen_operations.seen) (entries operations) (seen_goes_on e.new.seen_labels.seen labels more_labels) (entries-prefix e.new.seen_operations.seen operations more_operations)
     g.D.Disk moment points e.result (e.ensures.lasts config next moment faults failures settled texts numbers))
 
 pub returns-clause-quiet : goal.returns-clause-quiet

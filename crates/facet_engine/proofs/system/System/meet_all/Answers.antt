@@ -28,7 +28,7 @@ returns g c = record {
             operations
             (record { same = p.same; one = p.one; longest = p.longer; told = p.told; more = p.more; counted = p.counted })
             (record { same = k.same; one = k.one; longest = k.longer; told = k.told; more = k.more; counted = k.counted }),
-        λ sees. meets_all (λ (x : Operation). x.doc) c.args.pass.now.operations c.meet-2.new.into c.args.notes.operations operations sees.operations,
+        λ sees. meets_all (λ (x : Operation). x.change) c.args.pass.now.operations c.meet-2.new.into c.args.notes.operations operations sees.operations,
       );
 }
 

@@ -12,7 +12,8 @@ use Rattle.taxo_cache.specs.Seen.{labels_of}
 use Rattle.taxo_cache.proofs.Seen.{longer_list}
 use Rattle.index_state.specs.Index.{Index}
 use Rattle.index_state.specs.Kept.{IsKept}
-use Rattle.index_state.proofs.Keeping.{kept_appended, appended_docs, one_more_stands}
+use Rattle.index_state.proofs.Keeping.{kept_appended, appended_docs}
+use Rattle.index_state.proofs.Standing.{knows_on, one_more_stands}
 use Rattle.index_state.proofs.state.IndexState.append.Goals as goal
 
 listed : (c : goal.After-self-2-1) → IsLabelList (labels_of c.meet.new.into.seen)
@@ -20,17 +21,19 @@ listed c = subst (λ (l : List (ℕ × List (List ℕ))). IsLabelList (labels_of
     (longer_list c.self.inside.labels.seen c.note-note.result.seen c.self.invariant.list
     (subst (λ (l : List (ℕ × List (List ℕ))). IsLabelList (labels_of l)) (sym c.note-note.ensures.note.2) c.requires.labels))
 
+-- it has noted what the token has seen
+begins : (c : goal.After-self-2-1) → IsPrefix c.args.seen.now.seen c.meet.new.into.seen
+begins c = subst (λ (l : List (ℕ × List (List ℕ))). IsPrefix l c.meet.new.into.seen) c.note-note.ensures.note.2 c.meet.ensures.told
+
 pub invariant_of-self-2 : goal.invariant_of-self-2
 invariant_of-self-2 c =
     let s = c.self.inside in
     let all = map arc_value s.segments.items in
     let told = c.args.seen.now in
     let next = c.meet.new.into in
-    let noted : c.note-note.result.seen ≡ told.seen = c.note-note.ensures.note.2 in
-    let begins : IsPrefix told.seen next.seen = subst (λ (l : List (ℕ × List (List ℕ))). IsPrefix l next.seen) noted c.meet.ensures.told in
     subst (λ (sessions : List ℕ). IsKept (arc_value s.config) next all c.add_waiting.new.waiting.items sessions s.max_docs) (sym c.in_ok-add_waiting.ensures.sessions)
     (subst (λ (entries : List Entry). IsKept (arc_value s.config) next all entries (s.sessions.items ++ c.args.session ∷ []) s.max_docs) (sym c.in_ok-add_waiting.ensures.waiting)
-    (kept_appended (arc_value s.config) s.labels all s.waiting.items s.sessions.items s.max_docs c.self.invariant next c.meet.ensures.more.0 (listed c) told c.args.entry c.args.session (search (rules, c.meet.ensures.same, c.self.invariant.note)) c.requires.labels begins
+    (kept_appended (arc_value s.config) s.labels all s.waiting.items s.sessions.items s.max_docs c.self.invariant next c.meet.ensures.more.0 (listed c) told c.args.entry c.args.session (search (rules, c.meet.ensures.same, c.self.invariant.note)) c.requires.labels (begins c)
     (subst (λ (config : Config). IsEntry config (labels_of told.seen) c.args.entry) (sym (ap (λ (x : Index). x.config) c.self.view_is)) c.requires.entry)
     (omega (arith, c.if-at-self.false, c.len-at.ensures))))
 
@@ -58,3 +61,4 @@ returns-clause-appended c =
 
 pub returns-clause-stands : goal.returns-clause-stands
 returns-clause-stands c = one_more_stands c.args.self.now _ c.args.session c.args.entry.doc (docs_are c) (c.in_ok-add_waiting.ensures.sessions ∙ ap (λ (x : Index). x.sessions ++ c.args.session ∷ []) c.self.view_is)
+    (subst (λ (x : Index). IsPrefix x.labels.seen c.meet.new.into.seen) c.self.view_is c.meet.ensures.more.0) (knows_on c.args.seen.now.seen c.meet.new.into.seen (begins c) c.args.entry.doc c.requires.entry.known)

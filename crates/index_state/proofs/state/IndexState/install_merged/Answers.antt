@@ -5,6 +5,7 @@ use Rattle.facet_model.specs.Stored.{Records}
 use Rattle.seg_documents.specs.Entries.{docs_of}
 use Rattle.index_state.specs.Index.{Index, DecodeUnder, docs_under}
 use Rattle.index_state.specs.Kept.{IsKept}
+use Rattle.index_state.proofs.Standing.{same_stands}
 use Rattle.index_state.proofs.Installing.{mapped, in_parts, installed_docs, kept_installed}
 use Rattle.index_state.proofs.state.IndexState.install_merged.Goals as goal
 
@@ -47,7 +48,4 @@ returns-clause-rest c =
 pub returns-clause-stands : goal.returns-clause-stands
 returns-clause-stands c =
     let rest = returns-clause-rest c in
-    λ history stands. record {
-      documents = (λ i. (rest i).docs) ∙ stands.documents;
-      numbers = (λ i. (rest i).sessions) ∙ stands.numbers;
-    }
+    same_stands c.args.self.now _ (ap (λ (x : Index). x.docs) rest) (ap (λ (x : Index). x.sessions) rest) (ap (λ (x : Index). x.labels) rest)

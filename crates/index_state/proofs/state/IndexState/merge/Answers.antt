@@ -4,7 +4,7 @@ use Rattle.std.specs.Arc.{arc_value}
 use Rattle.facet_model.specs.Histories.{Operation}
 use Rattle.facet_model.specs.Stored.{Records}
 use Rattle.index_state.specs.Index.{Index, StandsFor, IsFlushed, docs_under}
-use Rattle.index_state.proofs.Keeping.{still_stands}
+use Rattle.index_state.proofs.Standing.{same_stands}
 use Rattle.index_state.proofs.state.IndexState.merge.Goals as goal
 
 waiting_is : (old mid new : Index) → IsFlushed old mid → new ≡ record mid { segments = new.segments } → new.waiting ≡ 0
@@ -19,7 +19,7 @@ rest_same : (old new : Index) → new ≡ old → new ≡ record old { segments 
 rest_same old new same = same ∙ (λ i. record old { segments = (sym same i).segments; waiting = (sym same i).waiting })
 
 stands_on : (old new : Index) → new ≡ record old { segments = new.segments; waiting = new.waiting } → (history : List Operation) → StandsFor old history → StandsFor new history
-stands_on old new rest = still_stands old new (ap (λ (x : Index). x.docs) rest) (ap (λ (x : Index). x.sessions) rest)
+stands_on old new rest = same_stands old new (ap (λ (x : Index). x.docs) rest) (ap (λ (x : Index). x.sessions) rest) (ap (λ (x : Index). x.labels) rest)
 
 pub merged-requires : goal.merged-requires
 merged-requires c = omega (arith, c.if-count-lt2.false, ap length c.segments-count.ensures.segments, length-map c.segments-count.result.now arc_value)

@@ -8,7 +8,7 @@ use Rattle.seg_documents.specs.Decoding.{records_in}
 use Rattle.chronicle.specs.Shown.{Shown, SameToken, SeesOn}
 use Rattle.index_state.specs.Index.{Index, DecodeUnder, docs_under}
 use Rattle.index_state.specs.Merging.{ComeAfter, IsInstalled, HasNoPlace}
-use Rattle.index_state.proofs.Keeping.{still_stands}
+use Rattle.index_state.proofs.Standing.{still_stands}
 use Rattle.index_state.proofs.Placing.{docs_on, decode_on}
 use Rattle.index_state.proofs.state.IndexState.try_install.Goals as goal
 
@@ -60,4 +60,4 @@ returns-clause-none c is =
 pub returns-clause-stands : goal.returns-clause-stands
 returns-clause-stands c =
     let rest = returns-clause-rest c in
-    still_stands c.args.self.now c.install_at.new.self (ap (λ (x : Index). x.docs) rest) (ap (λ (x : Index). x.sessions) rest)
+    still_stands c.args.self.now c.install_at.new.self (ap (λ (x : Index). x.docs) rest) (ap (λ (x : Index). x.sessions) rest) (returns-clause-more c).0

@@ -5,7 +5,8 @@ use mathlib.Core.List.{IsPrefix}
 use Rattle.chronicle.specs.Frame.{Frame}
 use Rattle.chronicle.specs.History.{entries, own_of}
 use Rattle.chronicle.proofs.Prefixes.{prefix_self, prefix_trans}
-use Rattle.facet_model.specs.Histories.{Operation}
+use Rattle.facet_model.specs.Documents.{Doc}
+use Rattle.facet_model.specs.Histories.{Operation, docs}
 use Rattle.pair_manager.proofs.Publishing.{still_right}
 use Rattle.taxo_cache.specs.Seen.{SeesLabels}
 use Rattle.pair_manager.proofs.Appended.{all_one, room_left, is_full}
@@ -19,18 +20,17 @@ returns-in-Ok-clause-placed g c =
     let t = c.take-index in
     let seen = t.new.token.seen in
     let same = t.ensures.turn.0 in
-    let size : length t.result.docs ≡ length seen = ap length t.ensures.value.0.documents ∙ length-map (entries seen) (λ (o : Operation). o.doc) ∙ length-map seen (λ (x : ℕ × Operation). x.1) in
-    let place = c.in-Ok.ensures.place in
-    let low : c.in-Ok.at < t.result.max_docs = room_left t.result.max_docs (length t.result.docs) c.in-Ok.at place c.in-Ok.ensures.full in
+    let count : length t.result.sessions ≡ length seen = ap length t.ensures.value.0.numbers ∙ length-map (entries seen) (λ (o : Operation). o.session) ∙ length-map seen (λ (x : ℕ × Operation). x.1) in
+    let low : length (docs (entries seen)) < t.result.max_docs = subst (λ (ds : List Doc). length ds < t.result.max_docs) t.ensures.value.0.documents (room_left t.result.max_docs (length t.result.docs) c.in-Ok.at c.in-Ok.ensures.full) in
     record {
       enters = record {
         between = seen;
         on = t.ensures.more.0;
         none = (λ i. own_of (sym same.2 i) (sym same.0 i) seen) ∙ t.ensures.more.1;
-        seen = c.give.ensures.seen.0 ∙ c.enter.ensures.added ∙ (λ i. seen ++ (same.0 i, c.new-operation.ensures i) ∷ []);
+        seen = c.give.ensures.seen.0 ∙ c.enter.ensures.added ∙ (λ i. seen ++ (same.0 i, c.add-operation.ensures i) ∷ []);
       };
-      place = place ∙ size;
-      room = subst (All (λ most. c.in-Ok.at < most)) (ap (λ (f : Frame). f.numbers) (t.ensures.value.1 ∙ same.4)) (all_one (λ most. c.in-Ok.at < most) t.result.max_docs low);
+      place = c.in-Ok.ensures.place ∙ count;
+      room = subst (All (λ most. length (docs (entries seen)) < most)) (ap (λ (f : Frame). f.numbers) (t.ensures.value.1 ∙ same.4)) (all_one (λ most. length (docs (entries seen)) < most) t.result.max_docs low);
     }
 
 pub returns-in-Err-clause-none : goal.returns-in-Err-clause-none
@@ -42,8 +42,7 @@ returns-in-Err-clause-none g c =
 pub returns-in-Err-clause-full : goal.returns-in-Err-clause-full
 returns-in-Err-clause-full g c count is =
     let t = c.take-index in
-    let seen = t.new.token.seen in
-    let size : length t.result.docs ≡ length c.give-in-Err.new.token.seen = ap length t.ensures.value.0.documents ∙ length-map (entries seen) (λ (o : Operation). o.doc) ∙ length-map seen (λ (x : ℕ × Operation). x.1) ∙ ap length (sym c.give-in-Err.ensures.seen.0) in
+    let size : length t.result.docs ≡ length (docs (entries c.give-in-Err.new.token.seen)) = ap length t.ensures.value.0.documents ∙ ap (λ (l : List (ℕ × Operation)). length (docs (entries l))) (sym c.give-in-Err.ensures.seen.0) in
     let full = is_full t.result.max_docs (length t.result.docs) count c.in-Err.fault is c.in-Err.ensures.refused in
     record {
       size = full.0 ∙ size;

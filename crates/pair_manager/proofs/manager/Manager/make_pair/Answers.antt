@@ -1,10 +1,11 @@
-use Rattle.std.proofs.Common.{◌≡◌, ◌∙◌, ℕ, List, map, ap, sym, subst}
+use Rattle.std.proofs.Common.{◌≡◌, ◌∙◌, ℕ, true, List, ap, sym, subst}
 use Rattle.std.specs.Arc.{arc_value}
+use Rattle.std.specs.List.{list_all}
 use mathlib.Core.List.{IsPrefix}
 use Rattle.facet_names.specs.Labels.{IsLabelList, GoesOn}
 use Rattle.facet_names.proofs.LabelLists.{Labels}
 use Rattle.facet_model.specs.Flags.{Config}
-use Rattle.facet_model.specs.Histories.{Operation, docs}
+use Rattle.facet_model.specs.Histories.{Operation, docs, brought, knows}
 use Rattle.facet_model.specs.Stored.{Decodes}
 use Rattle.seg_documents.proofs.Decoded.{decodes_stay}
 use Rattle.chronicle.specs.History.{entries}
@@ -12,6 +13,7 @@ use Rattle.chronicle.proofs.Prefixes.{prefix_trans}
 use Rattle.taxo_cache.specs.Seen.{labels_of}
 use Rattle.taxo_adding.proofs.Growing.{labels_begin, seen_goes_on}
 use Rattle.chronicle.specs.Shown.{Shown, IsNoteOf}
+use Rattle.index_state.proofs.Standing.{known_on}
 use Rattle.pair_manager.specs.Published.{Published}
 use Rattle.pair_manager.proofs.Going.{same_self, same_on, sees_self, sees_on, go_as}
 use Rattle.pair_manager.proofs.manager.Manager.make_pair.Goals as goal
@@ -40,6 +42,15 @@ new-requires-clause-decodes g c =
     let shared : arc_value c.in_ok-config.config ≡ config = c.in_ok-config.ensures ∙ c.shared_config.ensures ∙ ap (λ (p : Published). p.config) (c.deref-2.ensures ∙ c.last.view_is) in
     subst (λ (x : Config). Decodes (labels_of labels.seen) x all (docs (entries history.seen))) (sym shared)
     (decodes_stay config (labels_of index.labels.seen) (labels_of labels.seen) c.in_ok-segments.ensures.labels list on all (docs (entries history.seen)) decodes)
+
+pub new-requires-clause-covers : goal.new-requires-clause-covers
+new-requires-clause-covers g c =
+    let index = c.in_ok-segments.field-0 in
+    let history = c.note.result in
+    let labels = c.note-2.result in
+    let more : IsPrefix index.labels.seen labels.seen = subst (IsPrefix index.labels.seen) (sym c.note-2.ensures.note.2) (prefix_trans index.labels.seen c.meet.new.into.seen c.renew.new.token.seen c.meet.ensures.told c.renew.ensures.more.0) in
+    known_on index.labels.seen labels.seen more (brought (entries history.seen))
+    (subst (λ (l : List (ℕ × Operation)). list_all (knows (labels_of index.labels.seen)) (brought (entries l)) ≡ true) (sym c.note.ensures.note.2) c.in_ok-segments.ensures.covers)
 
 pub returns-in_err-segments-clause-tokens : goal.returns-in_err-segments-clause-tokens
 returns-in_err-segments-clause-tokens g c =

@@ -8,7 +8,6 @@ use Rattle.facet_model.specs.Flags.{Config}
 use Rattle.facet_model.specs.Stored.{Decodes}
 use Rattle.seg_documents.specs.Decoding.{records_in}
 use Rattle.taxo_cache.specs.Seen.{labels_of}
-use Rattle.chronicle.specs.History.{entries}
 use Rattle.chronicle.proofs.Prefixes.{prefix_self}
 use Rattle.seg_merge.specs.Merged.{IsMergeOf}
 use Rattle.index_state.specs.Index.{docs_under}
