@@ -53,17 +53,17 @@ module _ {D : Type 0} (disk : Ghosts D) (own : (d : D) (s : Told) → disk.told 
     ends run c left = one_of_three disk config old now labels view segs ss at p after own s told leads on c
         (run s at.taxonomy at.index all.taxonomy_after all.index_after told all.leads from c left)
 
-    pub acknowledged : Leading (λ t i t' i'. IsAt disk.may_leave p.to t' i' end) → IsCommittedAt disk config after end view ss
-    acknowledged done = record {
+    pub acknowledged : Leading (λ t i t' i'. IsAt disk.may_leave p.to t' i' end) → (ss ≡ [] → segs ≡ []) → IsCommittedAt disk config after end view ss
+    acknowledged done empty = record {
       taxonomy = all.taxonomy_after;
       index = all.index_after;
       stands = subst (λ n. IsAt disk.may_leave n all.taxonomy_after all.index_after end) plan.to (done s at.taxonomy at.index all.taxonomy_after all.index_after told all.leads from);
-      known = all.known;
+      known = all.known empty;
     }
 
-    pub settles : Leading (λ t i t' i'. IsAt disk.may_leave p.to t' i' end) → (u : Told) → disk.told end ≡ Some u → IsSettled disk config u end
-    settles done u tells =
-        let there = acknowledged done in
+    pub settles : Leading (λ t i t' i'. IsAt disk.may_leave p.to t' i' end) → (ss ≡ [] → segs ≡ []) → (u : Told) → disk.told end ≡ Some u → IsSettled disk config u end
+    settles done empty u tells =
+        let there = acknowledged done empty in
         stands_settled config after.next there.taxonomy there.index (record { labels = view; segments = ss }) there.known.files disk end u (own end u tells) there.stands
 
   -- ---- what it tells

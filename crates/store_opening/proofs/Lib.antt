@@ -1,7 +1,6 @@
 pub mod Accepted
 pub mod Damages
 pub mod Documents
-pub mod Thinned
 pub mod Greatest
 pub mod Held
 pub mod Loops
