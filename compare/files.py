@@ -89,10 +89,12 @@ class Cursor:
         if not holds:
             raise Malformed(at)
 
-    def head(self, kind):
+    def head(self, kind, versions=(1,)):
         self.expect(self.data[:4] == kind, 0)
         self.at = 4
-        self.expect(self.u32() == 1, 4)
+        version = self.u32()
+        self.expect(version in versions, 4)
+        return version
 
     def end(self):
         self.expect(self.at == len(self.data), self.at)
@@ -135,15 +137,16 @@ def label_commit(number, labels, parts):
     return sealed(body + b"".join(u64(n) + u32(first) + u32(count) + kept for n, first, count, kept in parts))
 
 
-def commit_cursor(data, number, kind):
+def commit_cursor(data, number, kind, versions=(1,)):
+    """What is behind the number of a commit file, and its version."""
     cursor = Cursor(data[:-32])
-    cursor.head(kind)
+    version = cursor.head(kind, versions)
     cursor.expect(cursor.u64() == number and number > 0, 8)
-    return cursor
+    return cursor, version
 
 
 def read_label_commit(data, number):
-    cursor = commit_cursor(data, number, b"FTCM")
+    cursor, _ = commit_cursor(data, number, b"FTCM")
     labels = cursor.u32()
     cursor.expect(labels <= 1000000, 16)
     count = cursor.u32()
@@ -232,16 +235,36 @@ def read_rising(cursor, count, below):
         last = number
 
 
+def live_bits(documents, dead):
+    """A bit for each document, from the lowest of the first byte on, which is set where the document is live."""
+    bits = sum(1 << place for place in range(documents) if place not in dead)
+    return bits.to_bytes((documents + 7) // 8, "little")
+
+
 def document_commit(number, needs, flags, parts):
-    """Parts are the number, the documents and the digest of each segment."""
+    """Parts are the number, the documents, the digest and the places of the dead documents of each segment."""
     kept = sorted((dim.encode(), sum(bit for bit, is_set in zip((1, 2, 4), of) if is_set)) for dim, of in flags.items() if any(of))
-    body = b"FICM" + u32(1) + u64(number) + u32(needs) + vint(len(kept))
+    body = b"FICM" + u32(2) + u64(number) + u32(needs) + vint(len(kept))
     body += b"".join(text(dim) + bytes([bits]) for dim, bits in kept) + u32(len(parts))
-    return sealed(body + b"".join(u64(n) + u32(documents) + of for n, documents, of in parts))
+    for n, documents, of, dead in parts:
+        body += u64(n) + u32(documents) + of + u32(documents - len(dead)) + (live_bits(documents, dead) if dead else b"")
+    return sealed(body)
+
+
+def read_dead(cursor, documents, before):
+    """The places of the dead documents of a segment, when the segments before it have so many live ones."""
+    at, live = cursor.at, cursor.u32()
+    cursor.expect(0 < live <= documents and before + live <= 1000000, at)
+    if live == documents:
+        return ()
+    at, bits = cursor.at, cursor.take((documents + 7) // 8)
+    is_set = [bits[place // 8] >> place % 8 & 1 for place in range(8 * len(bits))]
+    cursor.expect(sum(is_set) == live and not any(is_set[documents:]), at)
+    return tuple(place for place in range(documents) if not is_set[place])
 
 
 def read_document_commit(data, number):
-    cursor = commit_cursor(data, number, b"FICM")
+    cursor, version = commit_cursor(data, number, b"FICM", (1, 2))
     needs = cursor.u32()
     flags, last = {}, b""
     for _ in range(cursor.vint()):
@@ -252,13 +275,15 @@ def read_document_commit(data, number):
         cursor.expect(1 <= bits <= 7, at)
         flags[dim] = tuple(bool(bits & bit) for bit in (1, 2, 4))
     at, count = cursor.at, cursor.u32()
-    cursor.expect(count > 0, at)
+    cursor.expect(count > 0 or version == 2, at)
     parts, total = [], 0
     for _ in range(count):
         part, at = cursor.u64(), cursor.at
         documents = cursor.u32()
-        total += documents
-        cursor.expect(total <= 1000000, at)
-        parts.append((part, documents, cursor.take(32)))
+        cursor.expect(version == 2 or total + documents <= 1000000, at)
+        kept = cursor.take(32)
+        dead = read_dead(cursor, documents, total) if version == 2 else ()
+        total += documents - len(dead)
+        parts.append((part, documents, kept, dead))
     cursor.end()
     return needs, flags, parts

@@ -102,8 +102,8 @@ class Session:
         self.auto_merge = config.get("auto_merge", False)
         self.labels = [()]
         self.documents = []
-        # where the segments end, and how many documents and labels a search sees
-        self.ends = []
+        # where the segments end, each with its bytes and its dead documents if it has any, and how many documents and labels a search sees
+        self.ends, self.bodies = [], []
         self.label_commit, self.label_parts = None, []
         self.document_commit, self.kept = None, []
         self.open()
@@ -173,13 +173,13 @@ class Session:
                 raise NotOpened(10, {"dim": dim, "fault": "other_config"})
         if needs > len(self.labels):
             raise NotOpened(7, {"fault": "uncovered", "has": len(self.labels), "needs": needs})
-        for part, size, kept in parts:
+        for part, size, kept, dead in parts:
             name = f"index/segment-{part}"
             data = self.segment_file(name, kept)
-            self.within(name, self.open_segment, data, needs, size)
-            self.kept.append((part, data))
+            self.within(name, self.open_segment, data, needs, size, dead)
+            self.kept.append((part, data, size, dead))
 
-    def open_segment(self, data, needs, size):
+    def open_segment(self, data, needs, size, dead):
         documents = []
         for at, id, string, leaves in files.read_document_segment(data, size):
             for leaf_at, leaf in leaves:
@@ -192,8 +192,9 @@ class Session:
         written = files.document_segment(documents)
         if written != data:
             raise Malformed(next((at for at, pair in enumerate(zip(written, data)) if pair[0] != pair[1]), min(len(written), len(data))))
-        self.documents += documents
+        self.documents += [document for place, document in enumerate(documents) if place not in dead]
         self.ends.append(len(self.documents))
+        self.bodies.append((data, size, dead) if dead else None)
 
     # ---- adding
 
@@ -239,17 +240,24 @@ class Session:
     def flush(self):
         if len(self.documents) > (self.ends[-1] if self.ends else 0):
             self.ends.append(len(self.documents))
+            self.bodies.append(None)
+
+    def end_at(self, ends):
+        """Segments end there, where the last one is a new one if it begins earlier than it did."""
+        if len(ends) < len(self.ends):
+            self.bodies = self.bodies[: len(ends) - 1] + [None]
+        self.ends = ends
 
     def merge(self, order):
         self.flush()
-        self.ends = self.ends[-1:]
+        self.end_at(self.ends[-1:])
         return {"merged": True}
 
     def settle(self):
         """Puts all documents into segments, and with `auto_merge` makes these few."""
         self.flush()
         if self.auto_merge:
-            self.ends = tiered(self.ends)
+            self.end_at(tiered(self.ends))
 
     def refresh(self, order):
         self.settle()
@@ -373,22 +381,24 @@ class Session:
             put[f"taxonomy/segment-{following}"] = segment
             put[f"taxonomy/commit-{label_commit}"] = files.label_commit(label_commit, len(self.labels), label_parts)
             following += 2
-        segments = [files.document_segment(self.documents[start:end]) for start, end in zip([0] + self.ends, self.ends)]
+        segments = [
+            body or (files.document_segment(self.documents[start:end]), end - start, ())
+            for start, end, body in zip([0] + self.ends, self.ends, self.bodies)
+        ]
         document_commit, kept = self.document_commit, self.kept
-        if segments and segments != [data for _, data in kept]:
+        if segments != [of[1:] for of in kept]:
             kept, left = [], list(self.kept)
-            for segment in segments:
-                twin = next((place for place, of in enumerate(left) if of[1] == segment), None)
+            for data, size, dead in segments:
+                twin = next((place for place, of in enumerate(left) if of[1] == data), None)
                 if twin is None:
-                    put[f"index/segment-{following}"] = segment
-                    kept.append((following, segment))
+                    put[f"index/segment-{following}"] = data
+                    kept.append((following, data, size, dead))
                     following += 1
                 else:
-                    kept.append(left[twin])
+                    kept.append((left[twin][0], data, size, dead))
                     left = left[twin + 1 :]
             document_commit = following
-            sizes = [end - start for start, end in zip([0] + self.ends, self.ends)]
-            parts = [(part, size, digest(data)) for (part, data), size in zip(kept, sizes)]
+            parts = [(part, size, digest(data), dead) for part, data, size, dead in kept]
             put[f"index/commit-{document_commit}"] = files.document_commit(document_commit, len(self.labels), self.flags, parts)
             following += 1
         if put and following > 2**63:
@@ -401,7 +411,7 @@ class Session:
 
     def remove_strays(self):
         named = {f"taxonomy/commit-{self.label_commit}", f"index/commit-{self.document_commit}"}
-        named |= {f"taxonomy/segment-{part[0]}" for part in self.label_parts} | {f"index/segment-{part}" for part, _ in self.kept}
+        named |= {f"taxonomy/segment-{part[0]}" for part in self.label_parts} | {f"index/segment-{part[0]}" for part in self.kept}
         for name in set(self.stored) - named:
             del self.stored[name]
 

@@ -1,5 +1,5 @@
 -- What is spelled so, and is within the limits, is read.
-use Rattle.std.proofs.Common.{◌≡◌, ℕ, ◌+◌, ◌^◌, ◌≤◌, ◌<◌, Bool, true, false, List, [], ◌∷◌, ◌++◌, length, Result, Ok, refl, sym, ap, append_assoc, arith, length-append, inl, inr}
+use Rattle.std.proofs.Common.{◌≡◌, ℕ, ◌+◌, ◌-◌, ◌^◌, ◌≤◌, ◌<◌, Bool, true, false, List, [], ◌∷◌, ◌++◌, length, Result, Ok, refl, sym, ap, subst, ◌∙◌, append_assoc, arith, length-append, inl, inr}
 use Rattle.std.specs.Prelude.{◌==◌, ◌||◌, ◌&&◌, not}
 use Rattle.std.specs.List.{flat_map, AllByRecursion, sum_by}
 use Rattle.std.specs.List.Sorted.{IsStrictlySortedBy}
@@ -8,7 +8,7 @@ use Rattle.std.specs.Ordering.{is_lt}
 use Rattle.std.specs.declared.cmp.Ordering.TheVariants.{Less}
 use Rattle.std.proofs.lemmas.List.{append-nil}
 use Rattle.std.proofs.lemmas.List.Sums.{sum_by-cons}
-use Rattle.std.proofs.lemmas.Bool.{le-ltb, eq-eqb, ne_eqb, cases_eq}
+use Rattle.std.proofs.lemmas.Bool.{lt-ltb, le-ltb, eq-eqb, ne_eqb, cases_eq}
 use Rattle.facet_codec.specs.Places.{Place}
 use Rattle.facet_codec.specs.Faults.{fault_at}
 use Rattle.facet_codec.specs.Spelling.{one_byte, be32, be64, vint, text}
@@ -22,13 +22,16 @@ use Rattle.facet_model.specs.Words.{word_cmp}
 use Rattle.commit_file.specs.declared.fault.FileFault.{FileFault}
 use Rattle.commit_file.specs.declared.fault.FileFault.TheVariants.{Malformed}
 use Rattle.commit_file.specs.declared.taxonomy.LabelPart.{LabelPart}
-use Rattle.commit_file.specs.declared.index.DocumentPart.{DocumentPart}
-use Rattle.commit_file.specs.Commits.{TaxonomyListing, IndexListing, end_of, documents_of, with_documents, AreInOrder, is_some_set, kept_of}
-use Rattle.commit_file.specs.Spelling.{head_bytes, label_bytes, taxonomy_bytes, taxonomy_commit_bytes, flags_number, declaration_bytes, document_bytes, index_bytes, index_commit_bytes}
-use Rattle.commit_file.specs.Limits.{IsLabelPart, IsDocumentPart, IsDeclaration}
-use Rattle.commit_file.specs.Reading.{told, word_at, number_at, head_at, some_at, digest_at, each_at, labels_at, first_at, count_at, label_part_at, taxonomy_at, taxonomy_commit, flags_at, dim_at, declaration_at, documents_at, document_part_at, index_at, index_commit}
+use Rattle.commit_file.specs.LiveParts.{LivePart, live_of, with_live}
+use Rattle.commit_file.specs.Commits.{TaxonomyListing, IndexListing, documents_listed, end_of, AreInOrder, is_some_set, kept_of}
+use Rattle.commit_file.specs.LiveBits.{bits_len, bits_of}
+use Rattle.commit_file.specs.Spelling.{head_bytes, label_bytes, taxonomy_bytes, taxonomy_commit_bytes, flags_number, declaration_bytes, document_bytes, records_bytes, live_bytes, part_bytes, index_bytes, index_commit_bytes}
+use Rattle.commit_file.specs.Limits.{IsLabelPart, IsDocumentPart, IsLivePart, IsDeclaration}
+use Rattle.commit_file.specs.Reading.{told, word_at, version_at, number_at, head_at, some_at, digest_at, each_at, labels_at, first_at, count_at, label_part_at, taxonomy_at, taxonomy_commit, flags_at, dim_at, declaration_at, part_count_at, documents_at, bits_at, live_at, live_records_at, dead_at, part_at, index_at, index_commit}
 use Rattle.commit_file.proofs.Ordering.{is_set, kept_sorted, kept_set}
 use Rattle.commit_file.proofs.Digests.{unsealed_again}
+use Rattle.commit_file.proofs.LiveBytes.{bits_long, dead_again, are_bits_again}
+use Rattle.seg_postings.specs.Rising.{IsRising}
 
 -- ---- numbers and texts
 
@@ -55,19 +58,24 @@ number_again : (n at : ℕ) (rest : List ℕ) → 0 < n → n < 2 ^ 64 → numbe
 unfolding number_at
 number_again n at rest some lt = rw (u64_again at n rest lt, ne_eqb n 0 (λ e. omega (arith, e, some)), eq-eqb n n refl) refl
 
-head_again : (kind number at : ℕ) (rest : List ℕ) → kind < 2 ^ 32 → 0 < number → number < 2 ^ 64 → head_at kind number (place_at at (head_bytes kind number ++ rest)) ≡ Ok (place_at (at + length (head_bytes kind number)) rest)
+version_again : (newest n at : ℕ) (rest : List ℕ) → 0 < n → n ≤ newest → newest < 2 ^ 32 → version_at newest (place_at at (be32 n ++ rest)) ≡ Ok (n, place_at (at + length (be32 n)) rest)
+unfolding version_at
+version_again newest n at rest some le fits = rw (u32_again at n rest (omega (arith, le, fits)), ne_eqb n 0 (λ e. omega (arith, e, some)), le-ltb newest n le) refl
+
+-- a head of this version, read by who knows the versions up to the newest
+head_again : (kind newest version number at : ℕ) (rest : List ℕ) → kind < 2 ^ 32 → newest < 2 ^ 32 → 0 < version → version ≤ newest → 0 < number → number < 2 ^ 64 → head_at kind newest number (place_at at (head_bytes kind version number ++ rest)) ≡ Ok (version, place_at (at + length (head_bytes kind version number)) rest)
 unfolding head_at head_bytes
-head_again kind number at rest kind_fits some fits =
+head_again kind newest version number at rest kind_fits newest_fits one known some fits =
     let t2 : List ℕ = be64 number ++ rest in
-    let t1 : List ℕ = be32 1 ++ t2 in
-    let regrouped : head_bytes kind number ++ rest ≡ be32 kind ++ t1 = simp append_assoc in
+    let t1 : List ℕ = be32 version ++ t2 in
+    let regrouped : head_bytes kind version number ++ rest ≡ be32 kind ++ t1 = simp append_assoc in
     let a1 = at + length (be32 kind) in
-    let a2 = a1 + length (be32 1) in
+    let a2 = a1 + length (be32 version) in
     let e1 = word_again kind at t1 kind_fits in
-    let e2 = word_again 1 a1 t2 (omega arith) in
+    let e2 = version_again newest version a1 t2 one known newest_fits in
     let e3 = number_again number a2 rest some fits in
-    let far : a2 + length (be64 number) ≡ at + length (head_bytes kind number) = simp length-append (omega arith) in
-    rw (regrouped, e1, e2, e3) (ap (λ (n : ℕ). Ok (place_at n rest)) far)
+    let far : a2 + length (be64 number) ≡ at + length (head_bytes kind version number) = simp length-append (omega arith) in
+    rw (regrouped, e1, e2, e3) (ap (λ (n : ℕ). Ok (version, place_at n rest)) far)
 
 some_again : (n at : ℕ) (rest : List ℕ) → 0 < n → n < 2 ^ 32 → some_at (place_at at (be32 n ++ rest)) ≡ Ok (n, place_at (at + length (be32 n)) rest)
 unfolding some_at
@@ -139,11 +147,11 @@ taxonomy_again number c some fits few parts parts_fit order all =
     let t4 : List ℕ = flat_map label_bytes c.parts ++ [] in
     let t3 : List ℕ = be32 (length c.parts) ++ t4 in
     let t2 : List ℕ = be32 c.labels ++ t3 in
-    let whole : taxonomy_bytes number c ≡ head_bytes 0x4654434d number ++ t2 = ap (λ (w : List ℕ). head_bytes 0x4654434d number ++ (be32 c.labels ++ (be32 (length c.parts) ++ w))) (sym (append-nil (flat_map label_bytes c.parts))) in
-    let a1 = 0 + length (head_bytes 0x4654434d number) in
+    let whole : taxonomy_bytes number c ≡ head_bytes 0x4654434d 1 number ++ t2 = ap (λ (w : List ℕ). head_bytes 0x4654434d 1 number ++ (be32 c.labels ++ (be32 (length c.parts) ++ w))) (sym (append-nil (flat_map label_bytes c.parts))) in
+    let a1 = 0 + length (head_bytes 0x4654434d 1 number) in
     let a2 = a1 + length (be32 c.labels) in
     let a3 = a2 + length (be32 (length c.parts)) in
-    let e1 = head_again 0x4654434d number 0 t2 (omega arith) some fits in
+    let e1 = head_again 0x4654434d 1 1 number 0 t2 (omega arith) (omega arith) (omega arith) (omega arith) some fits in
     let e2 = u32_again a1 c.labels t3 (omega (arith, few)) in
     let e3 = some_again (length c.parts) a2 t4 parts parts_fit in
     let e4 = each_again (label_part_at c.labels) (λ _ part. end_of part) label_bytes (FitsBehind c.labels) (label_again c.labels) 1 a3 c.parts [] (labels_fit c.labels 1 c.parts order all) in
@@ -195,50 +203,93 @@ above_empty (d ∷ ds) all = (by d.0 all.0.some, above_empty ds all.1)
     by [] some = absurd (omega (arith, some))
     by (x ∷ xs) some = refl
 
--- a segment of documents behind so many documents
-pub record FitsBeside (left before : ℕ) (part : DocumentPart) : Type 0 where
-  pub fits : IsDocumentPart part
-  pub few : before + part.documents ≤ 1000000
+-- a segment that has live records, behind so many live ones of other segments
+pub record FitsBeside (left before : ℕ) (p : LivePart) : Type 0 where
+  pub fits : IsDocumentPart p.part
+  pub are : IsLivePart p
+  pub some : 0 < live_of p
+  pub few : before + live_of p ≤ 1000000
 
-document_again : (left before at : ℕ) (part : DocumentPart) (rest : List ℕ) → FitsBeside left before part → document_part_at before (place_at at (document_bytes part ++ rest)) ≡ Ok (part, place_at (at + length (document_bytes part)) rest)
-unfolding document_part_at documents_at document_bytes
-document_again left before at part rest fits =
-    let t3 : List ℕ = part.digest ++ rest in
+bits_again : (documents : ℕ) (dead : List ℕ) (at : ℕ) (rest : List ℕ) → IsRising dead → AllByRecursion (IsBelow documents) dead → length dead ≤ documents → bits_at documents (documents - length dead) (place_at at (bits_of documents dead ++ rest)) ≡ Ok (dead, place_at (at + length (bits_of documents dead)) rest)
+unfolding bits_at
+bits_again documents dead at rest rise below few =
+    let read = told_read_back (λ e. Malformed (fault_at e)) (bytes_at (bits_len documents)) (λ bytes. bytes) (HasLength (bits_len documents)) (bytes_read_back (bits_len documents)) at (bits_of documents dead) rest (bits_long documents dead) in
+    rw (read, are_bits_again documents dead rise below few, dead_again documents dead rise below) refl
+
+live_again : (documents before live at : ℕ) (rest : List ℕ) → documents < 2 ^ 32 → 0 < live → live ≤ documents → before + live ≤ 1000000 → live_at documents before (place_at at (be32 live ++ rest)) ≡ Ok (live, place_at (at + length (be32 live)) rest)
+unfolding live_at
+live_again documents before live at rest fits some le few = rw (u32_again at live rest (omega (arith, le, fits)), ne_eqb live 0 (λ e. omega (arith, e, some)), le-ltb documents live le, le-ltb 1000000 (before + live) few) refl
+
+live_records_again : (documents before : ℕ) (dead : List ℕ) (at : ℕ) (rest : List ℕ) → documents < 2 ^ 32 → IsRising dead → AllByRecursion (IsBelow documents) dead → 0 < documents - length dead → before + (documents - length dead) ≤ 1000000
+    → live_records_at documents before (place_at at (records_bytes documents dead ++ rest)) ≡ Ok (dead, place_at (at + length (records_bytes documents dead)) rest)
+unfolding live_records_at
+live_records_again documents before [] at rest fits rise below some few =
+    let all : documents - 0 ≡ documents = omega arith in
+    let spelled : records_bytes documents [] ≡ be32 (documents - 0) ++ [] = rw (le-ltb (documents - 0) documents (omega arith)) refl in
+    let regrouped : records_bytes documents [] ++ rest ≡ be32 (documents - 0) ++ rest = ap (λ bytes. bytes ++ rest) (spelled ∙ append-nil (be32 (documents - 0))) in
+    let e1 = live_again documents before (documents - 0) at rest fits some (omega arith) few in
+    let far : at + length (be32 (documents - 0)) ≡ at + length (records_bytes documents []) = ap (λ (bytes : List ℕ). at + length bytes) (sym (spelled ∙ append-nil (be32 (documents - 0)))) in
+    rw (regrouped, e1, eq-eqb (documents - 0) documents all) (ap (λ (n : ℕ). Ok ([], place_at n rest)) far)
+live_records_again documents before (d ∷ ds) at rest fits rise below some few =
+    let dead : List ℕ = d ∷ ds in
+    let live : ℕ = documents - length dead in
+    let less : live < documents = omega (arith, some) in
+    let bits : List ℕ = bits_of documents dead in
+    let spelled : records_bytes documents dead ≡ be32 live ++ bits = rw (lt-ltb live documents less) refl in
+    let regrouped : records_bytes documents dead ++ rest ≡ be32 live ++ (bits ++ rest) = ap (λ (bytes : List ℕ). bytes ++ rest) spelled ∙ append_assoc (be32 live) bits rest in
+    let a1 = at + length (be32 live) in
+    let e1 = live_again documents before live at (bits ++ rest) fits some (omega (arith, less)) few in
+    let e2 = bits_again documents dead a1 rest rise below (omega (arith, some)) in
+    let far : a1 + length bits ≡ at + length (records_bytes documents dead) = omega (arith, ap length spelled, length-append (be32 live) bits) in
+    rw (regrouped, e1, ne_eqb live documents (λ e. omega (arith, e, less)), e2) (ap (λ (n : ℕ). Ok (dead, place_at n rest)) far)
+
+part_again : (left before at : ℕ) (p : LivePart) (rest : List ℕ) → FitsBeside left before p → part_at 2 before (place_at at (part_bytes 2 p ++ rest)) ≡ Ok (p, place_at (at + length (part_bytes 2 p)) rest)
+unfolding part_at documents_at dead_at document_bytes part_bytes
+part_again left before at p rest fits =
+    let part = p.part in
+    let live : List ℕ = live_bytes p in
+    let t4 : List ℕ = live ++ rest in
+    let t3 : List ℕ = part.digest ++ t4 in
     let t2 : List ℕ = be32 part.documents ++ t3 in
+    let regrouped : part_bytes 2 p ++ rest ≡ be64 part.number ++ t2 = simp append_assoc in
     let a1 = at + length (be64 part.number) in
     let a2 = a1 + length (be32 part.documents) in
+    let a3 = a2 + length part.digest in
     let e1 = u64_again at part.number t2 fits.fits.number in
     let e2 = u32_again a1 part.documents t3 fits.fits.documents in
-    let e3 = digest_again a2 part.digest rest fits.fits.digest in
-    let far : a2 + length part.digest ≡ at + length (document_bytes part) = simp length-append (omega arith) in
-    rw (e1, e2, le-ltb 1000000 (before + part.documents) fits.few, e3) (ap (λ (n : ℕ). Ok (part, place_at n rest)) far)
+    let e3 = digest_again a2 part.digest t4 fits.fits.digest in
+    let e4 = live_records_again part.documents before p.dead a3 rest fits.fits.documents fits.are.rise fits.are.below fits.some fits.few in
+    let far : a3 + length live ≡ at + length (part_bytes 2 p) = simp length-append (omega arith) in
+    subst (λ (bytes : List ℕ). part_at 2 before (place_at at bytes) ≡ Ok (p, place_at (at + length (part_bytes 2 p)) rest)) (sym regrouped)
+    (rw (e1, e2, e3, e4) (ap (λ (n : ℕ). Ok (p, place_at n rest)) far))
 
-documents_fit : (before : ℕ) (parts : List DocumentPart) → before + sum_by documents_of parts ≤ 1000000 → AllByRecursion IsDocumentPart parts → EachFits (λ _. document_part_at) with_documents document_bytes FitsBeside before parts
-documents_fit before [] few all = tt
-documents_fit before (part ∷ parts) few all =
-    let sum : sum_by documents_of (part ∷ parts) ≡ part.documents + sum_by documents_of parts = sum_by-cons documents_of part parts in
-    (record { fits = all.0; few = omega (arith, few, sum) }, documents_fit (before + part.documents) parts (omega (arith, few, sum)) all.1)
+parts_fit : (before : ℕ) (parts : List LivePart) → before + sum_by live_of parts ≤ 1000000 → AllByRecursion IsLivePart parts → AllByRecursion (λ p. 0 < live_of p) parts → AllByRecursion (λ p. IsDocumentPart p.part) parts → EachFits (λ _. part_at 2) with_live (part_bytes 2) FitsBeside before parts
+parts_fit before [] few are some fit = tt
+parts_fit before (p ∷ parts) few are some fit =
+    let sum : sum_by live_of (p ∷ parts) ≡ live_of p + sum_by live_of parts = sum_by-cons live_of p parts in
+    (record { fits = fit.0; are = are.0; some = some.0; few = omega (arith, few, sum) }, parts_fit (before + live_of p) parts (omega (arith, few, sum)) are.1 some.1 fit.1)
 
-pub index_again : (number needs : ℕ) (config : Config) (parts : List DocumentPart) → 0 < number → number < 2 ^ 64 → needs < 2 ^ 32 → length (kept_of config) < 2 ^ 32 → AllByRecursion IsDeclaration (kept_of config) → 0 < length parts → length parts < 2 ^ 32 → sum_by documents_of parts ≤ 1000000 → AllByRecursion IsDocumentPart parts → index_commit number (index_commit_bytes number (record { needs = needs; kept = kept_of config; parts = parts })) ≡ Ok (record { needs = needs; kept = kept_of config; parts = parts })
-unfolding index_commit index_at index_bytes
-index_again number needs config parts some fits needs_fit kept_fit all some_part parts_fit few parts_all =
+pub index_again : (number needs : ℕ) (config : Config) (parts : List LivePart) → 0 < number → number < 2 ^ 64 → needs < 2 ^ 32 → length (kept_of config) < 2 ^ 32 → AllByRecursion IsDeclaration (kept_of config) → length parts < 2 ^ 32 → AllByRecursion IsLivePart parts → AllByRecursion (λ p. 0 < live_of p) parts → sum_by live_of parts ≤ 1000000 → AllByRecursion (λ p. IsDocumentPart p.part) parts
+    → index_commit number (index_commit_bytes number (documents_listed needs (kept_of config) parts)) ≡ Ok (documents_listed needs (kept_of config) parts)
+unfolding index_commit index_at index_bytes part_count_at
+index_again number needs config parts some fits needs_fit kept_fit all parts_count are live few parts_all =
     let ds : Config = kept_of config in
-    let c : IndexListing = record { needs = needs; kept = ds; parts = parts } in
-    let t5 : List ℕ = flat_map document_bytes parts ++ [] in
+    let c : IndexListing = documents_listed needs ds parts in
+    let t5 : List ℕ = flat_map (part_bytes 2) parts ++ [] in
     let t4 : List ℕ = be32 (length parts) ++ t5 in
     let t3 : List ℕ = flat_map declaration_bytes ds ++ t4 in
     let t2 : List ℕ = vint (length ds) ++ t3 in
     let t1 : List ℕ = be32 needs ++ t2 in
-    let whole : index_bytes number c ≡ head_bytes 0x4649434d number ++ t1 = ap (λ (w : List ℕ). head_bytes 0x4649434d number ++ (be32 needs ++ (vint (length ds) ++ (flat_map declaration_bytes ds ++ (be32 (length parts) ++ w))))) (sym (append-nil (flat_map document_bytes parts))) in
-    let a1 = 0 + length (head_bytes 0x4649434d number) in
+    let whole : index_bytes 2 number c ≡ head_bytes 0x4649434d 2 number ++ t1 = ap (λ (w : List ℕ). head_bytes 0x4649434d 2 number ++ (be32 needs ++ (vint (length ds) ++ (flat_map declaration_bytes ds ++ (be32 (length parts) ++ w))))) (sym (append-nil (flat_map (part_bytes 2) parts))) in
+    let a1 = 0 + length (head_bytes 0x4649434d 2 number) in
     let a2 = a1 + length (be32 needs) in
     let a3 = a2 + length (vint (length ds)) in
     let a4 = a3 + length (flat_map declaration_bytes ds) in
     let a5 = a4 + length (be32 (length parts)) in
-    let e1 = head_again 0x4649434d number 0 t1 (omega arith) some fits in
+    let e1 = head_again 0x4649434d 2 2 number 0 t1 (omega arith) (omega arith) (omega arith) (omega arith) some fits in
     let e2 = u32_again a1 needs t2 needs_fit in
     let e3 = vint_again a2 (length ds) t3 kept_fit in
     let e4 = each_again (λ _. declaration_at) (λ _ d. d.0) declaration_bytes FitsAfter declaration_again [] a3 ds t4 (declarations_fit [] ds (above_empty ds all) (kept_sorted config) (kept_set config) all) in
-    let e5 = some_again (length parts) a4 t5 some_part parts_fit in
-    let e6 = each_again (λ _. document_part_at) with_documents document_bytes FitsBeside document_again 0 a5 parts [] (documents_fit 0 parts (omega (arith, few)) parts_all) in
-    rw (unsealed_again (index_bytes number c), whole, e1, e2, e3, e4, e5, e6) refl
+    let e5 = u32_again a4 (length parts) t5 parts_count in
+    let e6 = each_again (λ _. part_at 2) with_live (part_bytes 2) FitsBeside part_again 0 a5 parts [] (parts_fit 0 parts (omega (arith, few)) are live parts_all) in
+    rw (unsealed_again (index_bytes 2 number c), whole, e1, e2, e3, e4, e5, e6) refl

@@ -9,8 +9,8 @@ use Rattle.facet_model.specs.Words.{word_cmp}
 use Rattle.commit_file.specs.declared.taxonomy.LabelPart.{LabelPart}
 use Rattle.commit_file.specs.declared.taxonomy.TaxonomyCommit.{TaxonomyCommit}
 use Rattle.commit_file.specs.declared.kept.Declaration.{Declaration}
-use Rattle.commit_file.specs.declared.index.DocumentPart.{DocumentPart}
 use Rattle.commit_file.specs.declared.index.IndexCommit.{IndexCommit}
+use Rattle.commit_file.specs.LiveParts.{LivePart}
 
 -- ---- the taxonomy
 
@@ -43,14 +43,14 @@ labels_listed labels parts = record { labels = labels; parts = parts }
 pub record IndexListing : Type 0 where
   pub needs : ℕ
   pub kept : Config
-  pub parts : List DocumentPart
+  pub parts : List LivePart
 
 -- an index commit as plain data
 abbrev pub index_listing : IndexCommit → IndexListing
 index_listing c = record { needs = c.needs; kept = c.kept; parts = c.parts.items }
 
 -- documents that need so many labels, stored under these declarations, in these segments
-abbrev pub documents_listed : ℕ → Config → List DocumentPart → IndexListing
+abbrev pub documents_listed : ℕ → Config → List LivePart → IndexListing
 documents_listed needs kept parts = record { needs = needs; kept = kept; parts = parts }
 
 -- a declaration as plain data
@@ -60,14 +60,6 @@ declaration d = (d.dim.now, d.flags)
 -- a dimension with its flags in a map, as plain data
 abbrev pub entry : Bor (List ℕ) × DimFlags → List ℕ × DimFlags
 entry e = (e.0.now, e.1)
-
--- how many documents a segment has
-abbrev pub documents_of : DocumentPart → ℕ
-documents_of part = part.documents
-
--- the documents of a segment and of those before it
-abbrev pub with_documents : ℕ → DocumentPart → ℕ
-with_documents before part = before + part.documents
 
 -- one of the flags is set
 abbrev pub is_some_set : DimFlags → Bool

@@ -1,4 +1,6 @@
+pub mod LiveParts
 pub mod Commits
+pub mod LiveBits
 pub mod Spelling
 pub mod Reading
 pub mod Limits

@@ -14,8 +14,9 @@ use Rattle.facet_model.specs.Words.{word_cmp}
 use Rattle.commit_file.specs.declared.fault.FileFault.{FileFault}
 use Rattle.commit_file.specs.declared.fault.FileFault.TheVariants.{Damaged, Malformed, NoMemory}
 use Rattle.commit_file.specs.declared.taxonomy.LabelPart.{LabelPart}
-use Rattle.commit_file.specs.declared.index.DocumentPart.{DocumentPart}
-use Rattle.commit_file.specs.Commits.{TaxonomyListing, IndexListing, end_of, with_documents}
+use Rattle.commit_file.specs.LiveParts.{LivePart, with_live}
+use Rattle.commit_file.specs.Commits.{TaxonomyListing, IndexListing, end_of}
+use Rattle.commit_file.specs.LiveBits.{bits_len, dead_in, are_bits}
 
 -- ---- what a call returns
 
@@ -58,12 +59,19 @@ number_at number p = do
   n ← told (u64_at p)
   if n.0 == 0 || not (n.0 == number) then Err (Malformed p.at) else Ok n.1
 
--- the kind of the file, version 1, and the number of the file's name
-unfoldable pub head_at : ℕ → ℕ → Place → Result Place FileFault
-head_at kind number p = do
+-- a version from 1 to the newest one
+unfoldable pub version_at : ℕ → Place → Result (ℕ × Place) FileFault
+version_at newest p = do
+  n ← told (u32_at p)
+  if n.0 == 0 || nat_lt newest n.0 then Err (Malformed p.at) else Ok n
+
+-- the kind of the file, its version, and the number of the file's name; the value is the version
+unfoldable pub head_at : ℕ → ℕ → ℕ → Place → Result (ℕ × Place) FileFault
+head_at kind newest number p = do
   magic ← word_at kind p
-  version ← word_at 1 magic
-  number_at number version
+  version ← version_at newest magic
+  start ← number_at number version.1
+  Ok (version.0, start)
 
 -- a number that is not 0
 unfoldable pub some_at : Place → Result (ℕ × Place) FileFault
@@ -137,8 +145,8 @@ label_parts_at labels n p = each_at (label_part_at labels) (λ _ part. end_of pa
 -- what precedes the digest of a taxonomy commit
 unfoldable pub taxonomy_at : ℕ → List ℕ → Result TaxonomyListing FileFault
 taxonomy_at number bytes = do
-  start ← head_at 0x4654434d number (record { at = 0; rest = bytes })
-  labels ← labels_at start
+  start ← head_at 0x4654434d 1 number (record { at = 0; rest = bytes })
+  labels ← labels_at start.1
   n ← some_at labels.1
   parts ← label_parts_at labels.0 n.0 n.1
   ended (record { labels = labels.0; parts = parts.0 }) parts.1
@@ -178,33 +186,68 @@ declaration_at before p = do
 abbrev pub declarations_at : ℕ → Place → Result (Config × Place) FileFault
 declarations_at n p = each_at (λ _. declaration_at) (λ _ d. d.0) n [] p
 
--- how many documents a segment has; with the `before` ones of the segments before it they are at most 1,000,000
-unfoldable pub documents_at : ℕ → Place → Result (ℕ × Place) FileFault
-documents_at before p = do
-  n ← told (u32_at p)
-  if nat_lt 1000000 (before + n.0) then Err (Malformed p.at) else Ok n
+-- how many segments of documents there are; in version 1 at least one
+unfoldable pub part_count_at : ℕ → Place → Result (ℕ × Place) FileFault
+part_count_at version p = if version == 1 then some_at p else told (u32_at p)
 
--- a segment of documents after so many documents
-unfoldable pub document_part_at : ℕ → Place → Result (DocumentPart × Place) FileFault
-document_part_at before p = do
+-- how many documents a segment has; in version 1 they are at most 1,000,000 with the `before` ones of the segments
+-- before it
+unfoldable pub documents_at : ℕ → ℕ → Place → Result (ℕ × Place) FileFault
+documents_at version before p = do
+  n ← told (u32_at p)
+  if version == 1 && nat_lt 1000000 (before + n.0) then Err (Malformed p.at) else Ok n
+
+-- the bits of so many records, of which so many are live; the value is the records that are not
+unfoldable pub bits_at : ℕ → ℕ → Place → Result (List ℕ × Place) FileFault
+bits_at documents live p = do
+  bits ← told (bytes_at (bits_len documents) p)
+  if are_bits documents live bits.0 then Ok (dead_in documents bits.0, bits.1) else Err (Malformed p.at)
+
+-- how many of so many records are live: at least one, and at most 1,000,000 with the `before` ones of the segments
+-- before it
+unfoldable pub live_at : ℕ → ℕ → Place → Result (ℕ × Place) FileFault
+live_at documents before p = do
+  n ← told (u32_at p)
+  if n.0 == 0 || (nat_lt documents n.0 || nat_lt 1000000 (before + n.0)) then Err (Malformed p.at) else Ok n
+
+-- how many of so many records are live, and the bits if these are not all; the value is the records that are not
+unfoldable pub live_records_at : ℕ → ℕ → Place → Result (List ℕ × Place) FileFault
+live_records_at documents before p = do
+  live ← live_at documents before p
+  if live.0 == documents then Ok ([], live.1) else bits_at documents live.0 live.1
+
+-- the records that are not live, of so many after `before` live ones of other segments; in version 1 there are none
+unfoldable pub dead_at : ℕ → ℕ → ℕ → Place → Result (List ℕ × Place) FileFault
+dead_at version documents before p = if version == 1 then Ok ([], p) else live_records_at documents before p
+
+-- a segment of documents after so many live documents
+unfoldable pub part_at : ℕ → ℕ → Place → Result (LivePart × Place) FileFault
+part_at version before p = do
   number ← told (u64_at p)
-  documents ← documents_at before number.1
+  documents ← documents_at version before number.1
   digest ← digest_at documents.1
-  Ok (record { number = number.0; documents = documents.0; digest = digest.0 }, digest.1)
+  dead ← dead_at version documents.0 before digest.1
+  Ok (
+    record {
+      part = record { number = number.0; documents = documents.0; digest = digest.0 };
+      dead = dead.0;
+    },
+    dead.1,
+  )
 
 -- so many segments of documents
-abbrev pub document_parts_at : ℕ → Place → Result (List DocumentPart × Place) FileFault
-document_parts_at n p = each_at (λ _. document_part_at) with_documents n 0 p
+abbrev pub parts_at : ℕ → ℕ → Place → Result (List LivePart × Place) FileFault
+parts_at version n p = each_at (λ _. part_at version) with_live n 0 p
 
 -- what precedes the digest of an index commit
 unfoldable pub index_at : ℕ → List ℕ → Result IndexListing FileFault
 index_at number bytes = do
-  start ← head_at 0x4649434d number (record { at = 0; rest = bytes })
-  needs ← told (u32_at start)
+  start ← head_at 0x4649434d 2 number (record { at = 0; rest = bytes })
+  needs ← told (u32_at start.1)
   declarations ← told (vint_at needs.1)
   kept ← declarations_at declarations.0 declarations.1
-  n ← some_at kept.1
-  parts ← document_parts_at n.0 n.1
+  n ← part_count_at start.0 kept.1
+  parts ← parts_at start.0 n.0 n.1
   ended (record { needs = needs.0; kept = kept.0; parts = parts.0 }) parts.1
 
 -- the index commit of this number that the bytes are, or the first fault

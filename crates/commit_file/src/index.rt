@@ -6,23 +6,26 @@ ghost use Rattle.std.specs.List.{AllByRecursion, sum_by};
 ghost use Rattle.facet_model.specs.Words.{word_cmp};
 ghost use Rattle.facet_config.specs.Faults.{declare_fault};
 ghost use Rattle.facet_config.specs.Declarations.{AreDimensions};
-ghost use Rattle.commit_file.specs.Commits.{index_listing, declaration, documents_of, documents_listed, kept_of};
-ghost use Rattle.commit_file.specs.Limits.{IsDocumentPart, IsDeclaration};
+ghost use Rattle.commit_file.specs.LiveParts.{live_of};
+ghost use Rattle.commit_file.specs.Commits.{index_listing, declaration, documents_listed, kept_of};
+ghost use Rattle.commit_file.specs.Limits.{IsDocumentPart, IsLivePart, IsDeclaration, IsIndex};
 ghost use Rattle.commit_file.specs.Spelling.{index_commit_bytes};
 ghost use Rattle.commit_file.specs.Reading.{Reads, Gives, flags_of, flags_at, dim_at, declaration_at, declarations_at};
-ghost use Rattle.commit_file.specs.Reading.{documents_at, document_part_at, document_parts_at, index_at, index_commit};
+ghost use Rattle.commit_file.specs.Reading.{index_at, index_commit};
 
 use crate::digest::{body, seal};
 use crate::fault::FileFault;
 use crate::kept::{Declaration, kept};
-use crate::reading::{digest, head, some};
-use crate::writing::{put_declarations, put_documents, put_head};
+use crate::parts::{part_count, parts};
+use crate::reading::head;
+use crate::writing::{put_declarations, put_head, put_parts};
 use facet_codec::{Cursor, put_u32, put_vint};
 use facet_config::{DeclareFault, FacetsConfig};
 use facet_model::DimFlags;
 use facet_names::NoMemory;
 use std::alloc::Global;
 use std::hash::RandomState;
+use std::marker::Model;
 
 /// A segment of documents, as a commit names it.
 #[derive(Clone, Copy, Debug, PartialEq, Eq)]
@@ -35,6 +38,23 @@ pub struct DocumentPart {
     pub digest: [u8; 32],
 }
 
+/// A segment of documents, and which of its records are not live. Contracts see `dead` as a list.
+#[derive(Drop)]
+pub struct LivePart {
+    /// The segment, as a commit names it.
+    pub part: DocumentPart,
+    /// The places of its records that are not live, counted from 0, rising. They are never all of its records.
+    pub dead: Vec<u32>,
+}
+
+impl Model for LivePart {
+    ghost use Rattle.commit_file.specs.LiveParts.{LivePart as Live};
+
+    ghost Value = { Live };
+
+    ghost view = { λ p. record { part = p.part; dead = p.dead.items } };
+}
+
 /// A commit of the index.
 #[derive(Drop)]
 pub struct IndexCommit {
@@ -43,10 +63,13 @@ pub struct IndexCommit {
     /// The flags of the dimensions under which the documents were stored; dimensions without a flag are left out.
     pub kept: FacetsConfig,
     /// The segments of documents, in order.
-    pub parts: Vec<DocumentPart>,
+    pub parts: Vec<LivePart>,
 }
 
 const MAGIC: u32 = 0x4649_434d;
+
+// The version that is written. Version 1 is read too.
+const VERSION: u32 = 2;
 
 // Returns the flags in a number: 1 for hierarchical, 2 for multi-valued, 4 for a required count.
 fn flags_of(n: u8) -> DimFlags
@@ -132,56 +155,6 @@ fn declarations(
     Ok(kept)
 }
 
-// Reads how many documents a segment has, after `before` documents of other segments.
-#[tactic(auto, unfolding(crate::specs::Reading::documents_at))]
-fn documents(cursor: &mut Cursor<'_>, before: u64) -> Result<u32, FileFault>
-    requires { before ≤ 1000000 }
-    ensures read { Reads (λ x. x) result cursor.new (documents_at before cursor.old) }
-    ensures few { IfOk result (λ n. before + n ≤ 1000000) }
-{
-    let at = cursor.at() as u64;
-    let n = cursor.u32()?;
-    if before + n as u64 > 1_000_000 {
-        return Err(FileFault::Malformed { at });
-    }
-    Ok(n)
-}
-
-// Reads a segment of documents, after `before` documents of other segments.
-#[tactic(auto, unfolding(crate::specs::Reading::document_part_at))]
-fn document_part(cursor: &mut Cursor<'_>, before: u64) -> Result<DocumentPart, FileFault>
-    requires { before ≤ 1000000 }
-    ensures read { Reads (λ x. x) result cursor.new (document_part_at before cursor.old) }
-    ensures few { IfOk result (λ part. before + part.documents ≤ 1000000) }
-{
-    let number = cursor.u64()?;
-    let documents = documents(cursor, before)?;
-    let digest = digest(cursor)?;
-    Ok(DocumentPart {
-        number,
-        documents,
-        digest,
-    })
-}
-
-// Reads `n` segments of documents.
-fn document_parts(
-    alloc: Global,
-    cursor: &mut Cursor<'_>,
-    n: u32,
-) -> Result<Vec<DocumentPart>, FileFault>
-    ensures { Reads (λ v. v.items) result cursor.new (document_parts_at n cursor.old) }
-{
-    let mut parts = Vec::new(alloc);
-    let mut before: u64 = 0;
-    for _ in 0..n {
-        let part = document_part(cursor, before)?;
-        before += part.documents as u64;
-        parts.push(part)?;
-    }
-    Ok(parts)
-}
-
 // Reads what precedes the digest.
 #[tactic(auto, unfolding(crate::specs::Reading::index_at))]
 fn index(
@@ -193,12 +166,12 @@ fn index(
     ensures { Gives index_listing result (index_at wanted body.now) }
 {
     let mut cursor = Cursor::new(body);
-    head(&mut cursor, MAGIC, wanted)?;
+    let version = head(&mut cursor, MAGIC, VERSION, wanted)?;
     let needs = cursor.u32()?;
     let n = cursor.vint()?;
     let kept = declarations(alloc, keys, &mut cursor, n)?;
-    let n = some(&mut cursor)?;
-    let parts = document_parts(alloc, &mut cursor, n)?;
+    let n = part_count(&mut cursor, version)?;
+    let parts = parts(alloc, &mut cursor, version, n)?;
     if cursor.rest() > 0 {
         return Err(FileFault::Malformed {
             at: cursor.at() as u64,
@@ -210,7 +183,8 @@ fn index(
 /// Reads a commit of the index from the bytes of the file with this number. It checks the digest first, and then reads
 /// the rest from left to right. Look-ups of declared dimensions hash names with `keys`.
 ///
-/// Costs: it reads the bytes twice, and allocates memory for the declarations and segments that it reads.
+/// Costs: it reads the bytes twice. It allocates memory for the declarations and segments that it reads, and 4 bytes for
+/// each record that is not live; no allocation depends on a number whose bytes are missing.
 ///
 /// Errors: the first fault; out of memory.
 #[tactic(auto, unfolding(crate::specs::Reading::index_commit))]
@@ -222,6 +196,7 @@ pub fn read_index_commit(
 ) -> Result<IndexCommit, FileFault>
     ensures ok { IfOk result (λ c. index_commit number bytes.now ≡ Ok (index_listing c)) }
     ensures err { IfErr result (λ e. e ≢ Memory → index_commit number bytes.now ≡ Err e) }
+    ensures limits { IfOk result (λ c. IsIndex (index_listing c)) }
 {
     let body = body(bytes)?;
     index(alloc, keys, number, body)
@@ -233,30 +208,32 @@ fn write(
     number: u64,
     needs: u32,
     kept: &[Declaration<'_>],
-    parts: &[DocumentPart],
+    parts: &[LivePart],
 ) -> Result<Vec<u8>, facet_codec::NoMemory>
     requires kept { length kept.now < 2 ^ 32 }
     requires named { AreDimensions (map declaration kept.now) }
     requires parts { length parts.now < 2 ^ 32 }
+    requires are { AllByRecursion IsLivePart parts.now }
     ensures bytes { IfOk result (λ v. v.items
         ≡ index_commit_bytes number (documents_listed needs (map declaration kept.now) parts.now)) }
     ensures declarations { IfOk result (λ _. AllByRecursion IsDeclaration (map declaration kept.now)) }
-    ensures documents { IfOk result (λ _. AllByRecursion IsDocumentPart parts.now) }
+    ensures documents { IfOk result (λ _. AllByRecursion (λ p. IsDocumentPart p.part) parts.now) }
 {
     let mut out = Vec::new(alloc);
-    put_head(&mut out, MAGIC, number)?;
+    put_head(&mut out, MAGIC, VERSION, number)?;
     put_u32(&mut out, needs)?;
     put_vint(&mut out, kept.len() as u32)?;
     put_declarations(&mut out, kept)?;
     put_u32(&mut out, parts.len() as u32)?;
-    put_documents(&mut out, parts)?;
+    put_parts(&mut out, parts)?;
     seal(&mut out)?;
     Ok(out)
 }
 
-/// Returns the bytes of a commit of the index with this number. A declaration without a flag is left out.
+/// Returns the bytes of a commit of the index with this number, in version 2. A declaration without a flag is left out.
 ///
-/// Costs: it sorts the declarations, visits each segment once, and allocates memory for both and for the bytes.
+/// Costs: it sorts the declarations, and visits each segment and each record that is not live once. It allocates memory
+/// for the declarations and for the bytes: one bit per record in each segment that has records that are not live.
 ///
 /// Errors: out of memory, also for 2^32 declarations or more.
 pub fn write_index_commit(
@@ -264,12 +241,13 @@ pub fn write_index_commit(
     number: u64,
     needs: u32,
     config: &FacetsConfig,
-    parts: &[DocumentPart],
+    parts: &[LivePart],
 ) -> Result<Vec<u8>, NoMemory>
     requires number { 0 < number }
-    requires some { 0 < length parts.now }
     requires few { length parts.now < 2 ^ 32 }
-    requires documents { sum_by documents_of parts.now ≤ 1000000 }
+    requires parts { AllByRecursion IsLivePart parts.now }
+    requires some { AllByRecursion (λ p. 0 < live_of p) parts.now }
+    requires live { sum_by live_of parts.now ≤ 1000000 }
     ensures bytes { IfOk result (λ v. v.items
         ≡ index_commit_bytes number (documents_listed needs (kept_of config.now) parts.now)) }
     ensures again { IfOk result (λ v. index_commit number v.items

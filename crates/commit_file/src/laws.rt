@@ -1,12 +1,12 @@
 //! Laws of commits, for proofs of other crates. Each call does nothing: its contract is the law. A commit that was read
-//! is spelled as it was read, so a commit has exactly one spelling; and it is within the limits of writing.
+//! is spelled as it was read, so in each version a commit has exactly one spelling; and it is within the limits.
 
-ghost use Rattle.std.specs.Prelude.{◌≡◌, ℕ, List, Ok};
+ghost use Rattle.std.specs.Prelude.{◌≡◌, ◌⊎◌, ℕ, List, Ok};
 ghost use Rattle.facet_codec.specs.Places.{IsBytes};
 ghost use Rattle.facet_model.specs.Flags.{Config, flags};
 ghost use Rattle.commit_file.specs.Commits.{TaxonomyListing, IndexListing, kept_of};
 ghost use Rattle.commit_file.specs.Limits.{IsTaxonomy, IsIndex};
-ghost use Rattle.commit_file.specs.Spelling.{taxonomy_commit_bytes, index_commit_bytes};
+ghost use Rattle.commit_file.specs.Spelling.{taxonomy_commit_bytes, index_commit_bytes, old_index_commit_bytes};
 ghost use Rattle.commit_file.specs.Reading.{taxonomy_commit, index_commit};
 
 /// States the laws of commits of the taxonomy that were read.
@@ -20,7 +20,8 @@ pub fn of_taxonomy_commit()
 /// States the laws of commits of the index that were read.
 pub fn of_index_commit()
     ensures spelled { (number : ℕ) (bytes : List ℕ) (c : IndexListing) → IsBytes bytes
-        → index_commit number bytes ≡ Ok c → bytes ≡ index_commit_bytes number c }
+        → index_commit number bytes ≡ Ok c
+        → (bytes ≡ index_commit_bytes number c) ⊎ (bytes ≡ old_index_commit_bytes number c) }
     ensures limits { (number : ℕ) (bytes : List ℕ) (c : IndexListing) → IsBytes bytes
         → index_commit number bytes ≡ Ok c → IsIndex c }
 {}

@@ -39,6 +39,8 @@ pub struct TaxonomyCommit {
 
 const MAGIC: u32 = 0x4654_434d;
 
+const VERSION: u32 = 1;
+
 // Reads how many labels there are.
 #[tactic(auto, unfolding(crate::specs::Reading::labels_at))]
 fn labels(cursor: &mut Cursor<'_>) -> Result<u32, FileFault>
@@ -125,7 +127,7 @@ fn taxonomy(alloc: Global, wanted: u64, body: &[u8]) -> Result<TaxonomyCommit, F
     ensures { Gives taxonomy_listing result (taxonomy_at wanted body.now) }
 {
     let mut cursor = Cursor::new(body);
-    head(&mut cursor, MAGIC, wanted)?;
+    head(&mut cursor, MAGIC, VERSION, wanted)?;
     let labels = labels(&mut cursor)?;
     let n = some(&mut cursor)?;
     let parts = label_parts(alloc, &mut cursor, labels, n)?;
@@ -168,7 +170,7 @@ fn write(
     ensures fit { IfOk result (λ _. AllByRecursion IsLabelPart parts.now) }
 {
     let mut out = Vec::new(alloc);
-    put_head(&mut out, MAGIC, number)?;
+    put_head(&mut out, MAGIC, VERSION, number)?;
     put_u32(&mut out, labels)?;
     put_u32(&mut out, parts.len() as u32)?;
     put_labels(&mut out, parts)?;

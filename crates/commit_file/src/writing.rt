@@ -2,22 +2,30 @@ ghost use Rattle.std.specs.Prelude.{◌≡◌, ◌<◌, ◌^◌, ◌++◌, map, 
 ghost use Rattle.std.specs.List.{flat_map, AllByRecursion};
 ghost use Rattle.facet_config.specs.Declarations.{AreDimensions, IsDimension};
 ghost use Rattle.commit_file.specs.Commits.{declaration};
-ghost use Rattle.commit_file.specs.Limits.{IsLabelPart, IsDocumentPart, IsDeclaration};
+ghost use Rattle.commit_file.specs.Limits.{IsLabelPart, IsDocumentPart, IsLivePart, IsDeclaration};
 ghost use Rattle.commit_file.specs.Spelling.{head_bytes, label_bytes, flags_number, declaration_bytes, document_bytes};
+ghost use Rattle.commit_file.specs.Spelling.{live_bytes, part_bytes};
 
-use crate::index::DocumentPart;
+use crate::bits::put_bits;
+use crate::index::{DocumentPart, LivePart};
 use crate::kept::Declaration;
+use crate::parts::live_of;
 use crate::taxonomy::LabelPart;
 use facet_codec::{NoMemory, put_text, put_u8, put_u32, put_u64};
 use facet_model::DimFlags;
 
 /// Appends the kind of the file, the version, and the number of the commit.
 #[tactic(auto, unfolding(crate::specs::Spelling::head_bytes))]
-pub(crate) fn put_head(out: &mut Vec<u8>, kind: u32, number: u64) -> Result<(), NoMemory>
-    ensures { OnOk result (out.new.items ≡ out.old.items ++ head_bytes kind number) }
+pub(crate) fn put_head(
+    out: &mut Vec<u8>,
+    kind: u32,
+    version: u32,
+    number: u64,
+) -> Result<(), NoMemory>
+    ensures { OnOk result (out.new.items ≡ out.old.items ++ head_bytes kind version number) }
 {
     put_u32(out, kind)?;
-    put_u32(out, 1)?;
+    put_u32(out, version)?;
     put_u64(out, number)?;
     Ok(())
 }
@@ -104,13 +112,39 @@ fn put_document(out: &mut Vec<u8>, part: &DocumentPart) -> Result<(), NoMemory>
     Ok(())
 }
 
-/// Appends segments of documents.
-pub(crate) fn put_documents(out: &mut Vec<u8>, parts: &[DocumentPart]) -> Result<(), NoMemory>
-    ensures bytes { OnOk result (out.new.items ≡ out.old.items ++ flat_map document_bytes parts.now) }
-    ensures fit { OnOk result (AllByRecursion IsDocumentPart parts.now) }
+// Appends how many records are live, and the bits if these are not all.
+fn put_live(out: &mut Vec<u8>, part: &LivePart) -> Result<(), NoMemory>
+    requires { IsLivePart part.now }
+    ensures { OnOk result (out.new.items ≡ out.old.items ++ live_bytes part.now) }
+{
+    let documents = part.part.documents;
+    let live = live_of(part);
+    put_u32(out, live)?;
+    if live < documents {
+        put_bits(out, documents, &part.dead)?;
+    }
+    Ok(())
+}
+
+#[tactic(auto, unfolding(crate::specs::Spelling::part_bytes))]
+fn put_part(out: &mut Vec<u8>, part: &LivePart) -> Result<(), NoMemory>
+    requires { IsLivePart part.now }
+    ensures bytes { OnOk result (out.new.items ≡ out.old.items ++ part_bytes 2 part.now) }
+    ensures fits { OnOk result (IsDocumentPart part.now.part) }
+{
+    put_document(out, &part.part)?;
+    put_live(out, part)?;
+    Ok(())
+}
+
+/// Appends segments of documents, in version 2.
+pub(crate) fn put_parts(out: &mut Vec<u8>, parts: &[LivePart]) -> Result<(), NoMemory>
+    requires { AllByRecursion IsLivePart parts.now }
+    ensures bytes { OnOk result (out.new.items ≡ out.old.items ++ flat_map (part_bytes 2) parts.now) }
+    ensures fit { OnOk result (AllByRecursion (λ p. IsDocumentPart p.part) parts.now) }
 {
     for part in parts {
-        put_document(out, part)?;
+        put_part(out, part)?;
     }
     Ok(())
 }

@@ -1,7 +1,6 @@
 -- What was read of a disk is what its directories hold.
-use Rattle.std.proofs.Common.{◌≡◌, ◌+◌, ◌≤◌, ◌<◌, ◌^◌, ℕ, List, [], ◌∷◌, length, map, Option, Some, None, Result, Ok, refl, sym, ap, ◌∙◌, subst, arith, length-append}
+use Rattle.std.proofs.Common.{◌≡◌, ◌≤◌, ◌<◌, ◌^◌, ℕ, List, [], ◌∷◌, length, map, Option, Some, None, Result, Ok, refl, sym, ap, ◌∙◌, subst, arith}
 use Rattle.std.specs.Option.{option_map}
-use Rattle.std.proofs.lemmas.List.{length-map}
 use Rattle.std.specs.List.{AllByRecursion, AllZip}
 use Rattle.facet_codec.specs.Faults.{told_as}
 use Rattle.facet_codec.specs.Reading.{◌>>=◌}
@@ -10,19 +9,20 @@ use Rattle.facet_disk.specs.declared.name.Dir.TheVariants.{Taxonomy, Index}
 use Rattle.facet_disk.specs.declared.name.Kind.TheVariants.{Segment, Commit}
 use Rattle.facet_disk.specs.declared.disk.Disk.{Ghosts}
 use Rattle.facet_disk.specs.Images.{Image}
-use Rattle.facet_model.specs.Documents.{Doc}
 use Rattle.facet_model.specs.Flags.{Config}
 use Rattle.facet_model.specs.Stored.{Stored, Records, IsRecordOf, IsSegmentOf}
 use Rattle.commit_calls.specs.Held.{Held, Stands, file, newest_file}
 use Rattle.commit_calls.specs.Moments.{IsAt}
+use Rattle.commit_file.specs.LiveParts.{LivePart}
 use Rattle.commit_file.specs.Commits.{AreInOrder, TaxonomyListing, IndexListing, documents_listed}
 use Rattle.commit_file.specs.declared.taxonomy.LabelPart.{LabelPart}
-use Rattle.commit_file.specs.declared.index.DocumentPart.{DocumentPart}
-use Rattle.seg_documents.specs.Decoding.{doc_in, docs_in, records_in}
+use Rattle.seg_documents.specs.Decoding.{doc_in}
+use Rattle.seg_documents.specs.Storing.{AreStored}
 use Rattle.seg_decoding.specs.Opening.{stored_segment, opened, documents_fit, unless_at, first_difference, counted_anew, rebuilt}
 use Rattle.seg_decoding.proofs.Differences.{same_from_none}
-use Rattle.seg_documents.proofs.Live.{records_first_live}
-use Rattle.seg_grammar.specs.Spelling.{seg_bytes}
+use Rattle.seg_file.specs.Live.{with_dead}
+use Rattle.seg_file.proofs.Live.{same_bytes}
+use Rattle.seg_grammar.specs.Spelling.{all_live, seg_bytes}
 use Rattle.store_opening.specs.declared.fault.OpenFault.{OpenFault}
 use Rattle.store_opening.specs.declared.fault.OpenFault.TheVariants.{Malformed}
 use Rattle.store_opening.specs.declared.newest.Newest.{Newest}
@@ -31,7 +31,7 @@ use Rattle.store_opening.specs.Newest.{IsNewestTaxonomy, IsNewestIndex, IsNamedA
 use Rattle.store_opening.specs.Quiet.{IsQuiet}
 use Rattle.store_opening.specs.Settled.{named, label_numbers, document_numbers, there, held_in}
 use Rattle.store_opening.proofs.Held.{taxonomy_there, files_held}
-use Rattle.commit_plan.specs.Committed.{IsKept, IsOwn, IsCommitted, segments_in}
+use Rattle.commit_plan.specs.Committed.{IsKept, IsCommitted, segments_in}
 use Rattle.commit_plan.specs.Openings.{kept_by, committed_read}
 use Rattle.commit_plan.specs.Plannings.{IsKnown}
 use Rattle.commit_plan.proofs.Held.{segment_there, found_files}
@@ -47,18 +47,18 @@ as_long R (x ∷ xs) [] all = absurd all
 as_long R (x ∷ xs) (y ∷ ys) all = omega (arith, as_long R xs ys all.1)
 
 module _ (config : Config) (labels : Labels) where
-  all_kept : (parts : List DocumentPart) (ss : List Records) → AllZip (IsNamedAs config labels) parts ss → AllByRecursion IsKept (kept_by parts ss)
+  all_kept : (parts : List LivePart) (ss : List Records) → AllZip (IsNamedAs config labels) parts ss → AllByRecursion IsKept (kept_by parts ss)
   all_kept [] ss named = tt
   all_kept (p ∷ parts) [] named = tt
-  all_kept (p ∷ parts) (s ∷ ss) named = (record { segment = named.0.own; documents = sym named.0.documents; digest = sym named.0.digest }, all_kept parts ss named.1)
+  all_kept (p ∷ parts) (s ∷ ss) named = (record { segment = named.0.own.own; documents = sym named.0.documents; digest = sym named.0.digest }, all_kept parts ss named.1)
 
-  pub all_own : (parts : List DocumentPart) (ss : List Records) → AllZip (IsNamedAs config labels) parts ss → AllByRecursion IsOwn ss
-  all_own [] [] named = tt
-  all_own [] (s ∷ ss) named = absurd named
-  all_own (p ∷ parts) [] named = tt
-  all_own (p ∷ parts) (s ∷ ss) named = (named.0.own, all_own parts ss named.1)
+  pub all_stored : (parts : List LivePart) (ss : List Records) → AllZip (IsNamedAs config labels) parts ss → AreStored ss
+  all_stored [] [] named = tt
+  all_stored [] (s ∷ ss) named = absurd named
+  all_stored (p ∷ parts) [] named = tt
+  all_stored (p ∷ parts) (s ∷ ss) named = (named.0.own, all_stored parts ss named.1)
 
-  pub all_segments : (parts : List DocumentPart) (ss : List Records) → AllZip (IsNamedAs config labels) parts ss → segments_in (kept_by parts ss) ≡ ss
+  pub all_segments : (parts : List LivePart) (ss : List Records) → AllZip (IsNamedAs config labels) parts ss → segments_in (kept_by parts ss) ≡ ss
   all_segments [] [] named = refl
   all_segments [] (s ∷ ss) named = absurd named
   all_segments (p ∷ parts) [] named = absurd named
@@ -74,29 +74,32 @@ module _ (config : Config) (labels : Labels) where
   counted_same [] are = refl
   counted_same (r ∷ rs) are = λ i. (record { id = r.id; text = r.text; leaves = r.leaves; counted = sym are.0.counted i }) ∷ counted_same rs are.1 i
 
-  rebuilt_same : (s : Records) → s.dead ≡ [] → IsSegmentOf labels config s (map (doc_in labels) s.records) → rebuilt config labels s.records ≡ s
-  rebuilt_same s live is = λ i. record { records = counted_same s.records is.records i; terms = sym is.terms i; dead = sym live i }
+  rebuilt_same : (s : Records) → IsSegmentOf labels config s (map (doc_in labels) s.records) → rebuilt config labels s.records ≡ all_live s
+  rebuilt_same s is = λ i. record { records = counted_same s.records is.records i; terms = sym is.terms i; dead = [] }
 
-  read_bytes : (needs documents : ℕ) (bytes : List ℕ) (s : Records) → stored_segment config labels needs documents bytes ≡ Ok s → s.dead ≡ [] → IsSegmentOf labels config s (map (doc_in labels) s.records) → bytes ≡ seg_bytes s
+  read_bytes : (needs documents : ℕ) (bytes : List ℕ) (read s : Records) → stored_segment config labels needs documents bytes ≡ Ok read → all_live read ≡ all_live s → IsSegmentOf labels config s (map (doc_in labels) s.records) → bytes ≡ seg_bytes s
   unfolding stored_segment
-  read_bytes needs documents bytes s e live is =
-      let a = bind_ok (opened documents bytes) (λ r. documents_fit config labels needs 12 r.records >>= λ fit. unless_at r (first_difference bytes (seg_bytes (rebuilt config labels r.records)))) s e in
-      let b = bind_ok (documents_fit config labels needs 12 a.0.records) (λ fit. unless_at a.0 (first_difference bytes (seg_bytes (rebuilt config labels a.0.records)))) s a.2 in
+  read_bytes needs documents bytes read s e alike is =
+      let a = bind_ok (opened documents bytes) (λ r. documents_fit config labels needs 12 r.records >>= λ fit. unless_at r (first_difference bytes (seg_bytes (rebuilt config labels r.records)))) read e in
+      let b = bind_ok (documents_fit config labels needs 12 a.0.records) (λ fit. unless_at a.0 (first_difference bytes (seg_bytes (rebuilt config labels a.0.records)))) read a.2 in
       let d = whole a.0 (first_difference bytes (seg_bytes (rebuilt config labels a.0.records))) b.2 in
-      same_from_none bytes (seg_bytes (rebuilt config labels a.0.records)) 0 d.1 ∙ ap (λ (r : Records). seg_bytes (rebuilt config labels r.records)) d.0 ∙ ap seg_bytes (rebuilt_same s live is)
+      same_from_none bytes (seg_bytes (rebuilt config labels a.0.records)) 0 d.1 ∙ ap (λ (r : Records). seg_bytes (rebuilt config labels r.records)) (ap all_live d.0 ∙ alike) ∙ ap seg_bytes (rebuilt_same s is) ∙ same_bytes s []
     where
-      whole : (r : Records) (o : Option ℕ) → unless_at r o ≡ Ok s → (r ≡ s) × (o ≡ None)
+      whole : (r : Records) (o : Option ℕ) → unless_at r o ≡ Ok read → (r ≡ read) × (o ≡ None)
       whole r None e = (cc e, refl)
       whole r (Some at) e = absurd (cc e)
 
-  one_there : (needs : ℕ) (g : Segments) (p : DocumentPart) (s : Records) → IsNamedAs config labels p s → segment_of config labels needs g p ≡ Ok s → g p.number ≡ Some (seg_bytes s)
+  one_there : (needs : ℕ) (g : Segments) (p : LivePart) (s : Records) → IsNamedAs config labels p s → segment_of config labels needs g p ≡ Ok s → g p.part.number ≡ Some (seg_bytes s)
   unfolding segment_of
   one_there needs g p s named e =
-      let a = bind_ok (segment_bytes (file Index Segment p.number) p.digest (g p.number)) (λ bytes. told_as (Malformed (file Index Segment p.number)) (stored_segment config labels needs p.documents bytes)) s e in
-      let reads = told_ok (Malformed (file Index Segment p.number)) (stored_segment config labels needs p.documents a.0) s a.2 in
-      segment_there (file Index Segment p.number) p.digest (g p.number) a.0 a.1 ∙ ap (λ b. Some b) (read_bytes needs p.documents a.0 s reads named.own.live named.decodes)
+      let name = file Index Segment p.part.number in
+      let a = bind_ok (segment_bytes name p.part.digest (g p.part.number)) (λ bytes. told_as (Malformed name) (stored_segment config labels needs p.part.documents bytes) >>= λ r. done {F = OpenFault} (with_dead r p.dead)) s e in
+      let b = bind_ok (told_as (Malformed name) (stored_segment config labels needs p.part.documents a.0)) (λ r. done {F = OpenFault} (with_dead r p.dead)) s a.2 in
+      let reads = told_ok (Malformed name) (stored_segment config labels needs p.part.documents a.0) b.0 b.1 in
+      let alike : all_live b.0 ≡ all_live s = ap all_live (done_is OpenFault (with_dead b.0 p.dead) s b.2) in
+      segment_there name p.part.digest (g p.part.number) a.0 a.1 ∙ ap (λ b. Some b) (read_bytes needs p.part.documents a.0 b.0 s reads alike named.decodes)
 
-  all_there : (needs : ℕ) (g : Segments) (parts : List DocumentPart) (ss : List Records) → AllZip (IsNamedAs config labels) parts ss → segments_of config labels needs g parts ≡ Ok ss → there g (map (λ part. part.number) parts) ≡ map pair (kept_by parts ss)
+  all_there : (needs : ℕ) (g : Segments) (parts : List LivePart) (ss : List Records) → AllZip (IsNamedAs config labels) parts ss → segments_of config labels needs g parts ≡ Ok ss → there g (map (λ p. p.part.number) parts) ≡ map pair (kept_by parts ss)
   unfolding segments_of
   all_there needs g [] ss named e = refl
   all_there needs g (p ∷ parts) [] named e = absurd named
@@ -107,7 +110,7 @@ module _ (config : Config) (labels : Labels) where
       let first : a.0 ≡ s = cc both in
       let others : d.0 ≡ ss = cc both in
       let here = one_there needs g p s named.0 (a.1 ∙ ap (λ r. Ok r) first) in
-      rw here (λ i. pair (record { part = p; segment = s }) ∷ all_there needs g parts ss named.1 (d.1 ∙ ap (λ r. Ok r) others) i)
+      rw here (λ i. pair (record { part = p.part; segment = s }) ∷ all_there needs g parts ss named.1 (d.1 ∙ ap (λ r. Ok r) others) i)
 
   -- ---- both directories
 
@@ -146,11 +149,11 @@ module _ (config : Config) (labels : Labels) where
   there_numbers g [] all = refl
   there_numbers g (n ∷ ns) all = rw all.0.1 (λ i. n ∷ there_numbers g ns all.1 i)
 
-  index_number_is : (o : Option (ℕ × List ℕ)) (n : Option ℕ) (parts : List DocumentPart) → IsNewestIndex o n parts → option_map (λ c. c.0) o ≡ n
+  index_number_is : (o : Option (ℕ × List ℕ)) (n : Option ℕ) (parts : List LivePart) → IsNewestIndex o n parts → option_map (λ c. c.0) o ≡ n
   index_number_is None n parts is = sym is.0
   index_number_is (Some named) n parts is = sym is.0
 
-  index_kept_is : (g : Segments) (o : Option (ℕ × List ℕ)) (n : Option ℕ) (parts : List DocumentPart) (ss : List Records) → IsNewestIndex o n parts → AllZip (IsNamedAs config labels) parts ss → index_in config labels o g ≡ Ok ss
+  index_kept_is : (g : Segments) (o : Option (ℕ × List ℕ)) (n : Option ℕ) (parts : List LivePart) (ss : List Records) → IsNewestIndex o n parts → AllZip (IsNamedAs config labels) parts ss → index_in config labels o g ≡ Ok ss
       → there g (named Index o) ≡ map pair (kept_by parts ss)
   unfolding index_in
   index_kept_is g None n parts ss is named e = ap (λ ps. map pair (kept_by ps ss)) (sym is.1)
@@ -183,11 +186,3 @@ pub at_unchanged : {D : Type 0} (disk : Ghosts D) (next : ℕ) (t i : Held) (old
 at_unchanged disk next t i old new quiet at c left =
     let was = quiet.passes.now c left in
     subst (Stands next t i) (sym was.2) (at was.0 was.1)
-
--- ---- segments without a document are none
-
-pub none_left : (labels : Labels) (ss : List Records) → AllByRecursion IsOwn ss → docs_in labels ss ≡ [] → ss ≡ []
-none_left labels [] own none = refl
-none_left labels (s ∷ ss) own none =
-    let long : length (docs_in labels (s ∷ ss)) ≡ length s.records + length (records_in ss) = length-map (records_in (s ∷ ss)) (doc_in labels) ∙ ap length (records_first_live s ss own.0.live) ∙ length-append s.records (records_in ss) in
-    absurd (omega (arith, own.0.some, long, ap (λ (docs : List Doc). length docs) none))

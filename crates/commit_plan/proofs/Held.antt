@@ -17,12 +17,13 @@ use Rattle.facet_model.specs.Stored.{Records}
 use Rattle.facet_names.specs.Labels.{IsLabelList, GoesOn}
 use Rattle.commit_calls.specs.Held.{Held, file}
 use Rattle.commit_file.specs.Reading.{index_commit}
+use Rattle.commit_file.specs.LiveParts.{LivePart}
 use Rattle.commit_file.specs.Commits.{IndexListing}
 use Rattle.commit_file.specs.declared.taxonomy.LabelPart.{LabelPart}
-use Rattle.commit_file.specs.declared.index.DocumentPart.{DocumentPart}
 use Rattle.label_file.specs.LabelReading.{stored_labels}
 use Rattle.seg_decoding.specs.Laws.{OpensAlike}
 use Rattle.seg_decoding.specs.Opening.{stored_segment}
+use Rattle.seg_file.specs.Live.{with_dead}
 use Rattle.store_opening.specs.declared.fault.OpenFault.{OpenFault}
 use Rattle.store_opening.specs.declared.fault.OpenFault.TheVariants.{Damaged, Malformed, Uncovered}
 use Rattle.store_opening.specs.Files.{Found, Segments, of_file, segment_bytes, labels_behind, labels_of, taxonomy_in, same_flags, covered, agrees, segment_of, segments_of, index_in, held_segments, files_of}
@@ -74,13 +75,13 @@ labels_one S known labels part bytes there digest same reads = rw (there, digest
 -- ---- documents
 
 module _ (config : Config) (labels longer : Labels) (alike : OpensAlike config labels longer) (list : IsLabelList labels) (list_longer : IsLabelList longer) (on : GoesOn labels longer) where
-  segment_longer : (needs : ℕ) → needs ≤ length labels → (S : Segments) (part : DocumentPart) → segment_of config longer needs S part ≡ segment_of config labels needs S part
+  segment_longer : (needs : ℕ) → needs ≤ length labels → (S : Segments) (p : LivePart) → segment_of config longer needs S p ≡ segment_of config labels needs S p
   unfolding segment_of
-  segment_longer needs low S part =
-      let same : (bytes : List ℕ) → stored_segment config longer needs part.documents bytes ≡ stored_segment config labels needs part.documents bytes = λ bytes. alike needs part.documents bytes list list_longer on low in
-      λ i. segment_bytes (file Index Segment part.number) part.digest (S part.number) >>= λ bytes. told_as (Malformed (file Index Segment part.number)) (same bytes i)
+  segment_longer needs low S p =
+      let same : (bytes : List ℕ) → stored_segment config longer needs p.part.documents bytes ≡ stored_segment config labels needs p.part.documents bytes = λ bytes. alike needs p.part.documents bytes list list_longer on low in
+      λ i. segment_bytes (file Index Segment p.part.number) p.part.digest (S p.part.number) >>= λ bytes. told_as (Malformed (file Index Segment p.part.number)) (same bytes i) >>= λ r. Ok (with_dead r p.dead)
 
-  segments_longer : (needs : ℕ) → needs ≤ length labels → (S : Segments) (parts : List DocumentPart) → segments_of config longer needs S parts ≡ segments_of config labels needs S parts
+  segments_longer : (needs : ℕ) → needs ≤ length labels → (S : Segments) (parts : List LivePart) → segments_of config longer needs S parts ≡ segments_of config labels needs S parts
   unfolding segments_of
   segments_longer needs low S [] = refl
   segments_longer needs low S (part ∷ parts) = λ i. segment_longer needs low S part i >>= λ first. segments_longer needs low S parts i >>= λ others. Ok (first ∷ others)

@@ -16,9 +16,10 @@ use Rattle.commit_calls.specs.Held.{file}
 use Rattle.commit_file.specs.declared.index.DocumentPart.{DocumentPart}
 use Rattle.seg_decoding.specs.Laws.{OpensLater}
 use Rattle.seg_grammar.specs.Reading.{segment_at}
-use Rattle.seg_grammar.specs.Spelling.{IsSegment, seg_bytes}
+use Rattle.seg_documents.specs.Storing.{IsStored, AreStored}
+use Rattle.seg_grammar.specs.Spelling.{IsSegment, all_live, seg_bytes}
 use Rattle.store_opening.specs.Files.{Segments, segment_bytes, segment_of, segments_of}
-use Rattle.commit_plan.specs.Committed.{Kept, IsKept, IsOwn, segments_in, parts_in}
+use Rattle.commit_plan.specs.Committed.{Kept, IsKept, segments_in, parts_in}
 use Rattle.commit_plan.specs.Drafts.{Drafted, Placed, taken, placed_by, place, new_part}
 use Rattle.commit_plan.proofs.Held.{held, held_front, held_new, held_one, held_has}
 use Rattle.std.proofs.lemmas.Option.{same_Some}
@@ -28,11 +29,22 @@ use Rattle.facet_codec.proofs.Lists.{each_push}
 abbrev pub AreReadOnce : Type 0
 AreReadOnce = (bytes : List ℕ) (r : Records) → IsSegment bytes r → segment_at bytes ≡ Ok r
 
-pub one_segment : AreReadOnce → (a b : Records) → IsOwn a → IsOwn b → seg_bytes a ≡ seg_bytes b → a ≡ b
+-- segments with the same bytes have the same records and terms
+pub one_segment : AreReadOnce → (a b : Records) → IsSegment (seg_bytes a) (all_live a) → IsSegment (seg_bytes b) (all_live b) → seg_bytes a ≡ seg_bytes b → all_live a ≡ all_live b
 one_segment again a b own_a own_b same =
-    let first = again (seg_bytes a) a own_a in
-    let second = again (seg_bytes b) b own_b in
+    let first = again (seg_bytes a) (all_live a) own_a in
+    let second = again (seg_bytes b) (all_live b) own_b in
     cc (sym first ∙ ap segment_at same ∙ second)
+
+-- the name of a segment is one of each segment with its bytes
+pub under_name : AreReadOnce → (k : Kept) (s : Records) (part : DocumentPart) → IsKept k → IsStored s → seg_bytes k.segment ≡ seg_bytes s → k.part ≡ part → IsKept (record { part = part; segment = s })
+under_name again k s part is stored same name =
+    let alike = one_segment again k.segment s is.segment stored.own same in
+    record {
+      segment = stored.own;
+      documents = ap (λ (p : DocumentPart). p.documents) (sym name) ∙ is.documents ∙ ap (λ (r : Records). length r.records) alike;
+      digest = ap (λ (p : DocumentPart). p.digest) (sym name) ∙ is.digest ∙ ap sha256 same;
+    }
 
 -- the number of a segment with its bytes
 abbrev pub pair : Kept → ℕ × List ℕ
@@ -108,7 +120,7 @@ module _ (again : AreReadOnce) (n : ℕ) (Old : ℕ × List ℕ → Type 0) (low
         subst (λ (xs : List (ℕ × List ℕ)). AllByRecursion (λ s. held xs s.0 ≡ Some s.1) xs) (sym all) (each_push (λ s. held (pairs ks ++ pair k ∷ []) s.0 ≡ Some s.1) (pairs ks) (pair k) front last),
       )
 
-  place_new : (ss : List Records) (p : Placed) (s : Records) → ArePlaced ss p → IsOwn s → ArePlaced (ss ++ s ∷ []) (placed_by p s None)
+  place_new : (ss : List Records) (p : Placed) (s : Records) → ArePlaced ss p → IsStored s → ArePlaced (ss ++ s ∷ []) (placed_by p s None)
   place_new ss p s is own =
       let k : Kept = record { part = new_part p.draft.next s; segment = s } in
       let e : Drafted = (placed_by p s None).draft in
@@ -117,7 +129,7 @@ module _ (again : AreReadOnce) (n : ℕ) (Old : ℕ × List ℕ → Type 0) (low
       let both = pushed p.draft e p.kept k is.files more here is.one (λ a there. absurd (fresh (held_has (HasFile p.draft) (pairs p.kept) is.files p.draft.next a there))) in
       record {
         segments = map-append (λ (k : Kept). k.segment) p.kept (k ∷ []) ∙ ap (λ xs. xs ++ s ∷ []) is.segments;
-        kept = each_push IsKept p.kept k is.kept (record { segment = own; documents = refl; digest = refl });
+        kept = each_push IsKept p.kept k is.kept (record { segment = own.own; documents = refl; digest = refl });
         behind = is.behind;
         from = omega (arith, is.from);
         files = both.0;
@@ -128,12 +140,10 @@ module _ (again : AreReadOnce) (n : ℕ) (Old : ℕ × List ℕ → Type 0) (low
       fresh {a} (inl old) = let under = low (p.draft.next, a) old in omega (arith, under, is.from)
       fresh (inr new) = omega (arith, new.1)
 
-  place_old : (ss : List Records) (p : Placed) (s : Records) → ArePlaced ss p → IsOwn s → (found : DocumentPart × List Kept) → IsTaken IsOld (seg_bytes s) found → ArePlaced (ss ++ s ∷ []) (placed_by p s (Some found))
+  place_old : (ss : List Records) (p : Placed) (s : Records) → ArePlaced ss p → IsStored s → (found : DocumentPart × List Kept) → IsTaken IsOld (seg_bytes s) found → ArePlaced (ss ++ s ∷ []) (placed_by p s (Some found))
   place_old ss p s is own found at =
       let k : Kept = record { part = found.0; segment = s } in
-      let same : at.kept.segment ≡ s = one_segment again at.kept.segment s at.is.0.segment own at.same in
-      let is_k : at.kept ≡ k = λ i. record { part = at.part i; segment = same i } in
-      let kept : IsOld k = subst IsOld is_k at.is in
+      let kept : IsOld k = (under_name again at.kept s found.0 at.is.0 own at.same at.part, subst Old (λ i. ((at.part i).number, at.same i)) at.is.1) in
       let both = pushed p.draft p.draft p.kept k is.files (λ x has. has) (inl kept.1) is.one (λ a there. known a kept.1 (held_has (HasFile p.draft) (pairs p.kept) is.files k.part.number a there)) in
       record {
         segments = map-append (λ (k : Kept). k.segment) p.kept (k ∷ []) ∙ ap (λ xs. xs ++ s ∷ []) is.segments;
@@ -148,14 +158,14 @@ module _ (again : AreReadOnce) (n : ℕ) (Old : ℕ × List ℕ → Type 0) (low
       known a old (inl other) = once found.0.number a (seg_bytes s) other old
       known a old (inr new) = absurd (omega (arith, low (found.0.number, seg_bytes s) old, new.0))
 
-  place_one : (ss : List Records) (p : Placed) (s : Records) → ArePlaced ss p → IsOwn s → ArePlaced (ss ++ s ∷ []) (place p s)
+  place_one : (ss : List Records) (p : Placed) (s : Records) → ArePlaced ss p → IsStored s → ArePlaced (ss ++ s ∷ []) (place p s)
   place_one ss p s is own = go (taken p.behind (seg_bytes s)) refl
     where
       go : (o : Option (DocumentPart × List Kept)) → taken p.behind (seg_bytes s) ≡ o → ArePlaced (ss ++ s ∷ []) (placed_by p s o)
       go None at = place_new ss p s is own
       go (Some found) at = place_old ss p s is own found (taken_is IsOld p.behind (seg_bytes s) is.behind found at)
 
-  pub place_more : (ss : List Records) (p : Placed) (more : List Records) → ArePlaced ss p → AllByRecursion IsOwn more → ArePlaced (ss ++ more) (fold place p more)
+  pub place_more : (ss : List Records) (p : Placed) (more : List Records) → ArePlaced ss p → AreStored more → ArePlaced (ss ++ more) (fold place p more)
   place_more ss p [] is own = subst (λ (xs : List Records). ArePlaced xs p) (sym (append-nil ss)) is
   place_more ss p (s ∷ more) is own = subst (λ (xs : List Records). ArePlaced xs (fold place (place p s) more)) (append_assoc ss (s ∷ []) more)
       (place_more (ss ++ s ∷ []) (place p s) more (place_one ss p s is own.0) own.1)
@@ -168,7 +178,7 @@ pub record AreNamed (ss : List Records) (p : Placed) : Type 0 where
   pub kept : AllByRecursion IsKept p.kept
   pub behind : AllByRecursion IsKept p.behind
 
-name_one : AreReadOnce → (ss : List Records) (p : Placed) (s : Records) → AreNamed ss p → IsOwn s → AreNamed (ss ++ s ∷ []) (place p s)
+name_one : AreReadOnce → (ss : List Records) (p : Placed) (s : Records) → AreNamed ss p → IsStored s → AreNamed (ss ++ s ∷ []) (place p s)
 name_one again ss p s is own = go (taken p.behind (seg_bytes s)) refl
   where
     kept_with : (k : Kept) (behind : List Kept) (d : Drafted) → k.segment ≡ s → IsKept k → AllByRecursion IsKept behind → AreNamed (ss ++ s ∷ []) (record { draft = d; behind = behind; kept = p.kept ++ k ∷ [] })
@@ -179,14 +189,12 @@ name_one again ss p s is own = go (taken p.behind (seg_bytes s)) refl
     }
 
     go : (o : Option (DocumentPart × List Kept)) → taken p.behind (seg_bytes s) ≡ o → AreNamed (ss ++ s ∷ []) (placed_by p s o)
-    go None at = kept_with (record { part = new_part p.draft.next s; segment = s }) p.behind (placed_by p s None).draft refl (record { segment = own; documents = refl; digest = refl }) is.behind
+    go None at = kept_with (record { part = new_part p.draft.next s; segment = s }) p.behind (placed_by p s None).draft refl (record { segment = own.own; documents = refl; digest = refl }) is.behind
     go (Some found) at =
         let t = taken_is IsKept p.behind (seg_bytes s) is.behind found at in
-        let same : t.kept.segment ≡ s = one_segment again t.kept.segment s t.is.segment own t.same in
-        let is_k : t.kept ≡ record { part = found.0; segment = s } = λ i. record { part = t.part i; segment = same i } in
-        kept_with (record { part = found.0; segment = s }) found.1 p.draft refl (subst IsKept is_k t.is) t.behind
+        kept_with (record { part = found.0; segment = s }) found.1 p.draft refl (under_name again t.kept s found.0 t.is own t.same t.part) t.behind
 
-pub name_more : AreReadOnce → (ss : List Records) (p : Placed) (more : List Records) → AreNamed ss p → AllByRecursion IsOwn more → AreNamed (ss ++ more) (fold place p more)
+pub name_more : AreReadOnce → (ss : List Records) (p : Placed) (more : List Records) → AreNamed ss p → AreStored more → AreNamed (ss ++ more) (fold place p more)
 name_more again ss p [] is own = subst (λ (xs : List Records). AreNamed xs p) (sym (append-nil ss)) is
 name_more again ss p (s ∷ more) is own = subst (λ (xs : List Records). AreNamed xs (fold place (place p s) more)) (append_assoc ss (s ∷ []) more)
     (name_more again (ss ++ s ∷ []) (place p s) more (name_one again ss p s is own.0) own.1)

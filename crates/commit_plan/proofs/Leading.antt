@@ -1,8 +1,7 @@
 -- A commit leads from the files of a pair of directories to those of the new labels and segments.
-use Rattle.std.proofs.Common.{rules, ◌≡◌, ◌⊎◌, ◌+◌, inl, inr, ℕ, Bool, true, false, ◌||◌, nat_le, if◌then◌else◌, List, [], ◌∷◌, ◌++◌, length, map, Option, Some, None, IfSome, Ok, Contains, refl, sym, ap, ◌∙◌, subst, arith}
+use Rattle.std.proofs.Common.{◌≡◌, ◌+◌, ℕ, Bool, true, false, if◌then◌else◌, List, [], ◌∷◌, ◌++◌, length, map, Option, Some, None, IfSome, Ok, Contains, refl, sym, ap, ◌∙◌, subst, arith}
 use Rattle.std.specs.Option.{option_map}
 use Rattle.std.specs.List.{AllByRecursion, AllZip, fold}
-use Rattle.std.proofs.lemmas.List.{nil_from_length}
 use Rattle.std.proofs.lemmas.List.Folds.{fold_stays}
 use Rattle.std.proofs.lemmas.List.Elements.{Contains-append_left, Contains-append_right, All-from_recursion}
 use Rattle.facet_config.specs.Differences.{first_different, nearer, is_different, is_one_true}
@@ -20,9 +19,10 @@ use Rattle.commit_calls.specs.Held.{Held, NamedBelow, file}
 use Rattle.commit_calls.specs.Plans.{Makes, PartLeads, Leads, IsPlan, IsAmong}
 use Rattle.commit_file.specs.Commits.{kept_of}
 use Rattle.seg_decoding.specs.Laws.{OpensLater, OpensAlike}
+use Rattle.seg_documents.specs.Storing.{AreStored}
 use Rattle.store_opening.specs.Files.{held_segments, taxonomy_in, index_in, files_of}
-use Rattle.commit_plan.specs.Committed.{Committed, Kept, IsCommitted, IsOwn, segments_in}
-use Rattle.commit_plan.specs.Drafts.{drafted, labels_first, nothing_drafted, kept_after, is_longer, is_index_left_out, are_same, commit_names, placed, committed_after, with_labels, with_index}
+use Rattle.commit_plan.specs.Committed.{Committed, Kept, IsCommitted, segments_in}
+use Rattle.commit_plan.specs.Drafts.{drafted, labels_first, nothing_drafted, kept_after, is_longer, is_index_left_out, commit_names, placed, committed_after, with_labels, with_index}
 use Rattle.commit_plan.specs.Strays.{in_order}
 use Rattle.commit_plan.proofs.InOrder.{in_order_has}
 use Rattle.commit_plan.proofs.Cleaning.{named_after, no_stray}
@@ -70,12 +70,8 @@ segments_spared {P} number names dir (x ∷ xs) (p ∷ ps) same apart =
 
 -- ---- the index as it was
 
-left_out_same : AreReadOnce → (old : Committed) (segs ss : List Records) → IsCommitted old → AllByRecursion IsOwn ss → segments_in old.kept ≡ segs → (ss ≡ [] → segs ≡ []) → is_index_left_out old ss ≡ true → segs ≡ ss
-left_out_same again old segs ss committed own documents empty left = go (nat_le (length ss) 0) refl left
-  where
-    go : (b : Bool) → nat_le (length ss) 0 ≡ b → (b || are_same old.kept ss) ≡ true → segs ≡ ss
-    go true none is = let nil : ss ≡ [] = nil_from_length ss (search rules) in empty nil ∙ sym nil
-    go false some is = sym documents ∙ same_segments again old.kept ss committed.kept own is
+left_out_same : AreReadOnce → (old : Committed) (segs ss : List Records) → IsCommitted old → AreStored ss → segments_in old.kept ≡ segs → is_index_left_out old ss ≡ true → segs ≡ ss
+left_out_same again old segs ss committed own documents left = sym documents ∙ same_segments again old.kept ss committed.kept own left
 
 -- ---- all of it
 
@@ -87,7 +83,7 @@ module _ (config : Config) (old : Committed) (view : Labels) (ss : List Records)
   labels_made name bytes has = all_made name bytes (index_files config (length view) old ss (labels_first old view) (name, bytes) has)
 
   module _ (again : AreReadOnce) (later : (s : Records) → OpensLater config view view s) (alike : first_different config (kept_of config) ≡ None) (longer : (labels : Labels) → OpensAlike config labels view)
-      (list : IsLabelList view) (committed : IsCommitted old) (own : AllByRecursion IsOwn ss) (pieces : List (List Doc)) (are : AllZip (IsSegmentOf view config) ss pieces)
+      (list : IsLabelList view) (committed : IsCommitted old) (own : AreStored ss) (pieces : List (List Doc)) (are : AllZip (IsSegmentOf view config) ss pieces)
       (t i : Held) (labels : Labels) (segs : List Records) (known : IsKnown config old t i labels segs) (on : GoesOn labels view) (below_t : NamedBelow old.next t) (below_i : NamedBelow old.next i) (one : AreFirst i) where
     before : (taxonomy_in t.commit (held_segments t) ≡ Ok labels) × (index_in config labels i.commit (held_segments i) ≡ Ok segs)
     before = found_files config t i labels segs known.files
@@ -137,15 +133,8 @@ module _ (config : Config) (old : Committed) (view : Labels) (ss : List Records)
         numbers_of : (xs : List (ℕ × List ℕ)) (ks : List Kept) → xs ≡ pairs ks → map (λ x. x.0) xs ≡ map (λ k. k.part.number) ks
         numbers_of xs ks same = ap (λ (ys : List (ℕ × List ℕ)). map (λ x. x.0) ys) same ∙ document_numbers ks
 
-    last_files : (files_of config led_t.0 led_i.0 ≡ Ok (record { labels = view; segments = segs })) ⊎ (files_of config led_t.0 led_i.0 ≡ Ok (record { labels = view; segments = ss }))
-    last_files = go (is_index_left_out old ss) refl
-      where
-        go : (b : Bool) → is_index_left_out old ss ≡ b → (files_of config led_t.0 led_i.0 ≡ Ok (record { labels = view; segments = segs })) ⊎ (files_of config led_t.0 led_i.0 ≡ Ok (record { labels = view; segments = ss }))
-        go true left = inl (subst (λ (x : Held). files_of config led_t.0 x ≡ Ok (record { labels = view; segments = segs })) (sym (led_i.1.left left)) middle_files)
-        go false new_index = inr (files_found config led_t.0 led_i.0 view ss led_t.1.reads (led_i.1.reads new_index))
-
-    known_after : (ss ≡ [] → segs ≡ []) → IsKnown config new led_t.0 led_i.0 view ss
-    known_after empty = subst (λ (s : Committed). IsKnown config s led_t.0 led_i.0 view ss) (sym is.after) (record {
+    known_after : IsKnown config new led_t.0 led_i.0 view ss
+    known_after = subst (λ (s : Committed). IsKnown config s led_t.0 led_i.0 view ss) (sym is.after) (record {
       files = files (is_index_left_out old ss) refl;
       taxonomy = led_t.1.number;
       label_numbers = led_t.1.numbers;
@@ -157,7 +146,7 @@ module _ (config : Config) (old : Committed) (view : Labels) (ss : List Records)
     })
       where
         same : is_index_left_out old ss ≡ true → segs ≡ ss
-        same left = left_out_same again old segs ss committed own known.documents empty left
+        same left = left_out_same again old segs ss committed own known.documents left
 
         files : (b : Bool) → is_index_left_out old ss ≡ b → files_of config led_t.0 led_i.0 ≡ Ok (record { labels = view; segments = ss })
         files true left = subst (λ (x : Held). files_of config led_t.0 x ≡ Ok (record { labels = view; segments = ss })) (sym (led_i.1.left left)) (middle_files ∙ ap (λ xs. Ok (record { labels = view; segments = xs })) (same left))
@@ -168,7 +157,7 @@ module _ (config : Config) (old : Committed) (view : Labels) (ss : List Records)
         documents false new_index = led_i.1.documents new_index
 
     pub all_led : AreLed config p new t i view segs ss
-    all_led = record { taxonomy_after = led_t.0; index_after = led_i.0; leads = leads_all; middle = middle_files; last = last_files; known = known_after }
+    all_led = record { taxonomy_after = led_t.0; index_after = led_i.0; leads = leads_all; middle = middle_files; known = known_after }
 
   -- ---- it is a plan
 

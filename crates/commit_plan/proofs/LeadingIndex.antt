@@ -1,9 +1,9 @@
 -- The index's part of a commit leads from its files to those of the given segments.
-use Rattle.std.proofs.Common.{rules, ◌≡◌, ◌⊎◌, ◌≤◌, ◌<◌, inl, inr, ⊎_elim, ℕ, Bool, true, false, not, if◌then◌else◌, IsTrue, ◌&&◌, nat_le, List, [], ◌∷◌, length, get_or, fold, Option, Some, None, Ok, Contains, refl, sym, ap, ◌∙◌, subst, arith}
+use Rattle.std.proofs.Common.{rules, ◌≡◌, ◌⊎◌, ◌≤◌, ◌<◌, inl, inr, ⊎_elim, ℕ, Bool, true, false, not, if◌then◌else◌, IsTrue, ◌&&◌, nat_eq, nat_le, List, [], ◌∷◌, length, get_or, fold, Option, Some, None, Ok, Contains, refl, sym, ap, ◌∙◌, subst, arith}
 use Rattle.std.specs.Option.{option_map, option_or}
 use Rattle.std.specs.List.{AllByRecursion, AllZip}
 use Rattle.std.specs.Str.{bytes_eq}
-use Rattle.std.specs.Cmp.Lexicographic.{bytes_decides}
+use Rattle.std.specs.Cmp.Lexicographic.{bytes_decides, pointwise}
 use Rattle.std.proofs.lemmas.List.{take_all}
 use Rattle.std.proofs.lemmas.List.Elements.{Contains-append_left, Contains-push, Contains-get_or, All-from_recursion, recursion_from_All}
 use Rattle.facet_config.specs.Differences.{first_different}
@@ -21,10 +21,11 @@ use Rattle.commit_file.specs.declared.index.DocumentPart.{DocumentPart}
 use Rattle.commit_file.specs.Commits.{documents_listed, kept_of}
 use Rattle.commit_file.specs.Spelling.{index_commit_bytes}
 use Rattle.seg_decoding.specs.Laws.{OpensLater}
+use Rattle.seg_documents.specs.Storing.{IsStored, AreStored}
 use Rattle.seg_grammar.specs.Spelling.{seg_bytes}
 use Rattle.store_opening.specs.Files.{agrees, index_in, held_segments}
-use Rattle.commit_plan.specs.Committed.{Committed, Kept, IsKept, IsOwn, segments_in, parts_in}
-use Rattle.commit_plan.specs.Drafts.{Drafted, Placed, taken, place, placed_by, placed, with_index, are_same, is_index_left_out, index_drafted, IsIndexAgain}
+use Rattle.commit_plan.specs.Committed.{Committed, Kept, IsKept, segments_in, parts_in}
+use Rattle.commit_plan.specs.Drafts.{Drafted, Placed, taken, place, placed_by, placed, with_index, is_same, are_same, is_index_left_out, index_drafted, IsIndexAgain}
 use Rattle.commit_plan.proofs.Keeping.{AreReadOnce, ArePlaced, place_more, pair, pairs, one_segment, all_under, segments_written}
 use Rattle.commit_plan.proofs.Held.{held}
 use Rattle.facet_names.proofs.LabelLists.{Labels}
@@ -51,17 +52,27 @@ index_files config needs old ss d x has = go (is_index_left_out old ss)
 
 -- ---- the same segments
 
-pub same_segments : AreReadOnce → (ks : List Kept) (ss : List Records) → AllByRecursion IsKept ks → AllByRecursion IsOwn ss → are_same ks ss ≡ true → segments_in ks ≡ ss
+same_segment : AreReadOnce → (k : Kept) (s : Records) → IsKept k → IsStored s → is_same k s ≡ true → k.segment ≡ s
+same_segment again k s kept stored same = go (bytes_eq (seg_bytes k.segment) (seg_bytes s)) refl same
+  where
+    go : (b : Bool) → bytes_eq (seg_bytes k.segment) (seg_bytes s) ≡ b → (b && pointwise nat_eq k.segment.dead s.dead) ≡ true → k.segment ≡ s
+    go false is rest = absurd (cc rest)
+    go true is rest =
+        let alike = one_segment again k.segment s kept.segment stored.own ((bytes_decides (seg_bytes k.segment) (seg_bytes s)).0 is) in
+        let dead = (bytes_decides k.segment.dead s.dead).0 rest in
+        λ i. record { records = (alike i).records; terms = (alike i).terms; dead = dead i }
+
+pub same_segments : AreReadOnce → (ks : List Kept) (ss : List Records) → AllByRecursion IsKept ks → AreStored ss → are_same ks ss ≡ true → segments_in ks ≡ ss
 unfolding are_same
 same_segments again [] [] kept own same = refl
 same_segments again [] (s ∷ ss) kept own same = absurd (cc same)
 same_segments again (k ∷ ks) [] kept own same = absurd (cc same)
-same_segments again (k ∷ ks) (s ∷ ss) kept own same = go (bytes_eq (seg_bytes k.segment) (seg_bytes s)) refl same (same_segments again ks ss kept.1 own.1)
+same_segments again (k ∷ ks) (s ∷ ss) kept own same = go (is_same k s) refl same (same_segments again ks ss kept.1 own.1)
   where
-    go : (b : Bool) → bytes_eq (seg_bytes k.segment) (seg_bytes s) ≡ b → (b && are_same ks ss) ≡ true → (are_same ks ss ≡ true → segments_in ks ≡ ss) → segments_in (k ∷ ks) ≡ s ∷ ss
+    go : (b : Bool) → is_same k s ≡ b → (b && are_same ks ss) ≡ true → (are_same ks ss ≡ true → segments_in ks ≡ ss) → segments_in (k ∷ ks) ≡ s ∷ ss
     go false is rest others = absurd (cc rest)
     go true is rest others =
-        let first = one_segment again k.segment s kept.0.segment own.0 ((bytes_decides (seg_bytes k.segment) (seg_bytes s)).0 is) in
+        let first = same_segment again k s kept.0 own.0 is in
         λ i. first i ∷ others rest i
 
 -- ---- what the index's part of a plan leads to
@@ -76,7 +87,7 @@ pub record IndexLed (ws : List Write) (config : Config) (old : Committed) (view 
 
 module _ (ws : List Write) (config : Config) (old : Committed) (view : Labels) (ss : List Records) (d : Drafted) (i : Held) (again : AreReadOnce)
     (later : (s : Records) → OpensLater config view view s) (alike : first_different config (kept_of config) ≡ None) (list : IsLabelList view)
-    (olds : AllByRecursion IsKept old.kept) (own : AllByRecursion IsOwn ss) (pieces : List (List Doc)) (are : AllZip (IsSegmentOf view config) ss pieces)
+    (olds : AllByRecursion IsKept old.kept) (own : AreStored ss) (pieces : List (List Doc)) (are : AllZip (IsSegmentOf view config) ss pieces)
     (from : old.next ≤ d.next) (below : NamedBelow old.next i) (one : AllByRecursion (λ s. held_segments i s.0 ≡ Some s.1) i.segments)
     (number : option_map (λ c. c.0) i.commit ≡ old.index) (there : i.segments ≡ pairs old.kept) where
   -- what the directory has

@@ -5,7 +5,7 @@ use Rattle.std.proofs.lemmas.List.{drop_more, drop_all, drop-drop, drop-map, tak
 use Rattle.facet_model.specs.Stored.{Records}
 use Rattle.seg_grammar.specs.Spelling.{seg_bytes}
 use Rattle.commit_plan.specs.Committed.{Kept}
-use Rattle.commit_plan.specs.Drafts.{taken, are_same}
+use Rattle.commit_plan.specs.Drafts.{taken, is_same, are_same}
 
 -- what a mapped list has at a place that was read
 pub mapped_at : {S T : Type 0} (f : S → T) (ks : List S) (at : ℕ) (k : S) → at < length ks → k ≡ get_or ks at k → get_or (map f ks) at (f k) ≡ f k
@@ -21,11 +21,11 @@ module _ {S : Type 0} (f : S → Kept) (ks : List S) (at : ℕ) (k : S) (low : a
   taken_here bytes same = rw (drop_more (map f ks) at (f k) (omega (arith, low, length-map ks f)), mapped_at f ks at k low is, same) refl
 
   module _ {T : Type 0} (g : T → Records) (ss : List T) (s : T) (high : at < length ss) (there : s ≡ get_or ss at s) where
-    pub same_more : bytes_eq (seg_bytes (f k).segment) (seg_bytes (g s)) ≡ true → are_same (drop (at + 1) (map f ks)) (drop (at + 1) (map g ss)) ≡ are_same (drop at (map f ks)) (drop at (map g ss))
+    pub same_more : is_same (f k) (g s) ≡ true → are_same (drop (at + 1) (map f ks)) (drop (at + 1) (map g ss)) ≡ are_same (drop at (map f ks)) (drop at (map g ss))
     unfolding are_same
     same_more same = rw (drop_more (map f ks) at (f k) (omega (arith, low, length-map ks f)), drop_more (map g ss) at (g s) (omega (arith, high, length-map ss g)), mapped_at f ks at k low is, mapped_at g ss at s high there, same) refl
 
-    pub same_apart : bytes_eq (seg_bytes (f k).segment) (seg_bytes (g s)) ≡ false → are_same (drop at (map f ks)) (drop at (map g ss)) ≡ false
+    pub same_apart : is_same (f k) (g s) ≡ false → are_same (drop at (map f ks)) (drop at (map g ss)) ≡ false
     unfolding are_same
     same_apart other = rw (drop_more (map f ks) at (f k) (omega (arith, low, length-map ks f)), drop_more (map g ss) at (g s) (omega (arith, high, length-map ss g)), mapped_at f ks at k low is, mapped_at g ss at s high there, other) refl
 
@@ -50,7 +50,7 @@ unfolding are_same
 same_length [] [] same = refl
 same_length [] (s ∷ ss) same = absurd cc
 same_length (k ∷ ks) [] same = absurd cc
-same_length (k ∷ ks) (s ∷ ss) same = go (bytes_eq (seg_bytes k.segment) (seg_bytes s)) same (same_length ks ss)
+same_length (k ∷ ks) (s ∷ ss) same = go (is_same k s) same (same_length ks ss)
   where
     go : (b : Bool) → (b && are_same ks ss) ≡ true → (are_same ks ss ≡ true → length ks ≡ length ss) → length (k ∷ ks) ≡ length (s ∷ ss)
     go true rest others = omega (arith, others rest)

@@ -7,8 +7,9 @@ use Rattle.facet_disk.specs.declared.name.FileName.{FileName}
 use Rattle.facet_model.specs.Stored.{Records}
 use Rattle.commit_file.specs.declared.taxonomy.LabelPart.{LabelPart}
 use Rattle.commit_file.specs.declared.index.DocumentPart.{DocumentPart}
+use Rattle.commit_file.specs.LiveParts.{LivePart}
 use Rattle.commit_file.specs.Commits.{AreInOrder}
-use Rattle.seg_grammar.specs.Spelling.{IsSegment, seg_bytes}
+use Rattle.seg_grammar.specs.Spelling.{IsSegment, all_live, seg_bytes}
 use Rattle.commit_plan.specs.declared.state.StoredSegment.{StoredSegment}
 
 -- a segment of documents, and how a commit names it
@@ -46,13 +47,17 @@ committed_of next listed taxonomy label_parts labels index stored = record {
 abbrev pub segments_in : List Kept → List Records
 segments_in kept = map (λ k. k.segment) kept
 
--- how a commit names them
-abbrev pub parts_in : List Kept → List DocumentPart
-parts_in kept = map (λ k. k.part) kept
+-- how a commit names a segment, and which of its records are no longer live
+abbrev pub live_part : Kept → LivePart
+live_part k = record { part = k.part; dead = k.segment.dead }
 
--- the segment has bytes, and its name has their digest and its number of documents
+-- how a commit names them
+abbrev pub parts_in : List Kept → List LivePart
+parts_in kept = map live_part kept
+
+-- The segment has bytes, in which all its records are live. Its name has their digest and the number of its records.
 pub record IsKept (k : Kept) : Type 0 where
-  pub segment : IsSegment (seg_bytes k.segment) k.segment
+  pub segment : IsSegment (seg_bytes k.segment) (all_live k.segment)
   pub documents : k.part.documents ≡ length k.segment.records
   pub digest : k.part.digest ≡ sha256 (seg_bytes k.segment)
 
@@ -64,7 +69,3 @@ pub record IsCommitted (s : Committed) : Type 0 where
   pub order : AreInOrder s.labels 1 s.label_parts
   pub few : length s.label_parts < s.labels
   pub kept : AllByRecursion IsKept s.kept
-
--- a segment is what its own bytes are read as
-abbrev pub IsOwn : Records → Type 0
-IsOwn s = IsSegment (seg_bytes s) s

@@ -1,7 +1,8 @@
 -- The files that a commit writes, and what is committed by them.
-use Rattle.std.specs.Prelude.{◌≡◌, Ok, take, ℕ, ◌+◌, ◌-◌, Bool, true, false, ◌&&◌, ◌||◌, nat_lt, nat_le, if◌then◌else◌}
+use Rattle.std.specs.Prelude.{◌≡◌, Ok, take, ℕ, ◌+◌, ◌-◌, Bool, true, false, ◌&&◌, nat_lt, nat_eq, if◌then◌else◌}
 use Rattle.std.specs.Prelude.{List, [], ◌∷◌, ◌++◌, length, map, fold, Option, Some, None}
 use Rattle.std.specs.Option.{option_or}
+use Rattle.std.specs.Cmp.Lexicographic.{pointwise}
 use Rattle.std.specs.Str.{bytes_eq}
 use Rattle.sha2.specs.Sha256.{sha256}
 use Rattle.facet_disk.specs.declared.name.Dir.{Dir}
@@ -63,7 +64,8 @@ labels_drafted old view d = if nat_lt old.labels (length view) then with_labels 
 
 -- ---- the index
 
--- how the first of these segments with these bytes is named, and the segments after it
+-- How the first of these segments with these bytes is named, and the segments after it. Which of its records are live
+-- does not matter.
 unfoldable pub taken : List Kept → List ℕ → Option (DocumentPart × List Kept)
 taken [] bytes = None
 taken (k ∷ ks) bytes = if bytes_eq (seg_bytes k.segment) bytes then Some (k.part, ks) else taken ks bytes
@@ -79,7 +81,7 @@ pub record Placed : Type 0 where
 abbrev pub new_part : ℕ → Records → DocumentPart
 new_part number s = record { number = number; documents = length s.records; digest = sha256 (seg_bytes s) }
 
--- a segment under the name that was found for it; without a name it is new
+-- a segment, with its own live records, under the name that was found for its bytes; without a name it is new
 abbrev pub placed_by : Placed → Records → Option (DocumentPart × List Kept) → Placed
 placed_by p s (Some found) = record {
   draft = p.draft;
@@ -105,16 +107,20 @@ abbrev pub with_index : Config → ℕ → Placed → Drafted
 with_index config needs p = with_file p.draft Index Pending (index_commit_bytes p.draft.next
     (documents_listed needs (kept_of config) (parts_in p.kept)))
 
--- the segments are the committed ones, byte for byte
+-- the segment is the committed one, byte for byte, and the same records are no longer live
+abbrev pub is_same : Kept → Records → Bool
+is_same k s = bytes_eq (seg_bytes k.segment) (seg_bytes s) && pointwise nat_eq k.segment.dead s.dead
+
+-- the segments are the committed ones
 unfoldable pub are_same : List Kept → List Records → Bool
 are_same [] [] = true
-are_same (k ∷ ks) (s ∷ ss) = bytes_eq (seg_bytes k.segment) (seg_bytes s) && are_same ks ss
+are_same (k ∷ ks) (s ∷ ss) = is_same k s && are_same ks ss
 are_same [] (s ∷ ss) = false
 are_same (k ∷ ks) [] = false
 
--- the index has no news: its segments are the committed ones, or there are none
+-- The index has no news: its segments are the committed ones. Without an earlier commit there are none of these.
 abbrev pub is_index_left_out : Committed → List Records → Bool
-is_index_left_out old segments = nat_le (length segments) 0 || are_same old.kept segments
+is_index_left_out old segments = are_same old.kept segments
 
 -- the new segments and the commit, unless the index has no news
 abbrev pub index_drafted : Config → ℕ → Committed → List Records → Drafted → Drafted

@@ -65,16 +65,14 @@ pub record IsReadAgain (config : Config) (old : Committed) (view : List (List (L
       → IsIndexAgain config (length view) (segments_next old view segments)
 
 -- A plan leads from the files of these directories to those of the new labels and segments. In between are the old
--- segments under the new labels. Without new segments the old ones stay.
+-- segments under the new labels.
 pub record AreLed (config : Config) (p : Plan) (new : Committed) (t i : Held) (view : List (List (List ℕ)))
     (old_segments segments : List Records) : Type 0 where
   pub taxonomy_after : Held
   pub index_after : Held
   pub leads : Leads p t i taxonomy_after index_after
   pub middle : files_of config taxonomy_after i ≡ Ok (record { labels = view; segments = old_segments })
-  pub last : (files_of config taxonomy_after index_after ≡ Ok (record { labels = view; segments = old_segments }))
-      ⊎ (files_of config taxonomy_after index_after ≡ Ok (record { labels = view; segments = segments }))
-  pub known : (segments ≡ [] → old_segments ≡ []) → IsKnown config new taxonomy_after index_after view segments
+  pub known : IsKnown config new taxonomy_after index_after view segments
 
 -- each segment that a directory holds is the first one of its number
 abbrev pub AreFirst : Held → Type 0

@@ -2,7 +2,8 @@ ghost use Rattle.std.specs.Prelude.{◌≡◌, ◌≤◌, ◌<◌, ◌+◌, ◌^
 ghost use Rattle.std.specs.Arc.{arc_value};
 ghost use Rattle.std.specs.List.{AllByRecursion};
 ghost use Rattle.seg_documents.specs.Decoding.{records_in};
-ghost use Rattle.commit_plan.specs.Committed.{IsKept, IsOwn, kept_view, parts_in};
+ghost use Rattle.seg_documents.specs.Storing.{AreStored};
+ghost use Rattle.commit_plan.specs.Committed.{IsKept, kept_view, live_part, parts_in};
 ghost use Rattle.commit_plan.specs.Drafts.{placed, with_index, is_index_left_out, index_drafted, index_number_from};
 ghost use Rattle.commit_plan.specs.Drafts.{kept_from, IsIndexAgain};
 
@@ -10,7 +11,7 @@ use crate::draft::Draft;
 use crate::matching::are_same;
 use crate::placing::Placing;
 use crate::state::{CommitState, StoredSegment};
-use commit_file::{DocumentPart, write_index_commit};
+use commit_file::{LivePart, write_index_commit};
 use facet_config::FacetsConfig;
 use facet_disk::{Dir, Kind};
 use facet_names::NoMemory;
@@ -27,13 +28,25 @@ pub(crate) struct IndexDraft {
     pub kept: Vec<StoredSegment>,
 }
 
+// Returns how a commit names a stored segment, and which of its records are no longer live.
+fn live_part(alloc: Global, stored: &StoredSegment) -> Result<LivePart, NoMemory>
+    ensures { IfOk result (λ part. part ≡ live_part (kept_view stored.now)) }
+{
+    let dead = Vec::from_slice(alloc, stored.segment.dead())?;
+    Ok(LivePart {
+        part: stored.part,
+        dead,
+    })
+}
+
 // Returns how a commit names the stored segments.
-fn parts_of(alloc: Global, stored: &[StoredSegment]) -> Result<Vec<DocumentPart>, NoMemory>
+fn parts_of(alloc: Global, stored: &[StoredSegment]) -> Result<Vec<LivePart>, NoMemory>
     ensures { IfOk result (λ parts. parts.items ≡ parts_in (map kept_view stored.now)) }
 {
     let mut parts = Vec::new(alloc);
     for segment in stored {
-        parts.push(segment.part)?;
+        let part = live_part(alloc, segment)?;
+        parts.push(part)?;
     }
     Ok(parts)
 }
@@ -62,9 +75,8 @@ fn draft_new_index(
     segments: &[Arc<Segment>],
     draft: Draft,
 ) -> Result<IndexDraft, NoMemory>
-    requires segments { 0 < length segments.now }
     requires few { length (records_in (map arc_value segments.now)) ≤ 1000000 }
-    requires own { AllByRecursion IsOwn (map arc_value segments.now) }
+    requires own { AreStored (map arc_value segments.now) }
     requires some { 0 < draft.next }
     requires room { draft.next ≤ 2 ^ 63 + 2 }
     ensures draft { IfOk result (λ r. r.draft
@@ -91,8 +103,7 @@ fn draft_new_index(
     })
 }
 
-/// Adds the new segments and a commit that names all segments. It adds nothing if the segments are the stored ones, or
-/// if there are none.
+/// Adds the new segments and a commit that names all segments. It adds nothing if the segments are the stored ones.
 pub(crate) fn draft_index(
     alloc: Global,
     config: &FacetsConfig,
@@ -102,7 +113,7 @@ pub(crate) fn draft_index(
     draft: Draft,
 ) -> Result<IndexDraft, NoMemory>
     requires few { length (records_in (map arc_value segments.now)) ≤ 1000000 }
-    requires own { AllByRecursion IsOwn (map arc_value segments.now) }
+    requires own { AreStored (map arc_value segments.now) }
     requires some { 0 < draft.next }
     requires room { draft.next ≤ 2 ^ 63 + 2 }
     ensures draft { IfOk result (λ r. r.draft
@@ -114,7 +125,7 @@ pub(crate) fn draft_index(
         → IsIndexAgain config.now needs (placed state.now (map arc_value segments.now) draft)) }
     ensures are { IfOk result (λ r. AllByRecursion IsKept (map kept_view r.kept.items)) }
 {
-    if segments.is_empty() || are_same(&state.stored, segments) {
+    if are_same(&state.stored, segments) {
         let kept = kept_again(alloc, &state.stored)?;
         return Ok(IndexDraft {
             draft,

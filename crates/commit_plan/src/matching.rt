@@ -4,7 +4,7 @@ ghost use Rattle.std.specs.Arc.{arc_value};
 ghost use Rattle.std.specs.Str.{bytes_eq};
 ghost use Rattle.seg_grammar.specs.Spelling.{seg_bytes};
 ghost use Rattle.commit_plan.specs.Committed.{kept_view};
-ghost use Rattle.commit_plan.specs.Drafts.{taken, are_same};
+ghost use Rattle.commit_plan.specs.Drafts.{taken, is_same, are_same};
 
 use crate::state::StoredSegment;
 use commit_file::DocumentPart;
@@ -39,7 +39,15 @@ pub(crate) fn take_same(
     None
 }
 
-/// Returns whether these are the stored segments, byte for byte. It compares bytes up to the first difference.
+// Returns whether a segment is the stored one: it has the same bytes, and the same records are no longer live.
+fn is_same(stored: &StoredSegment, segment: &Segment) -> bool
+    ensures { result ≡ is_same (kept_view stored.now) segment.now }
+{
+    has_bytes(&stored.segment, segment.bytes()) && stored.segment.dead() == segment.dead()
+}
+
+/// Returns whether these are the stored segments, each with the same live records. It compares bytes and live records
+/// up to the first difference.
 pub(crate) fn are_same(stored: &[StoredSegment], segments: &[Arc<Segment>]) -> bool
     ensures { result ≡ are_same (map kept_view stored.now) (map arc_value segments.now) }
 {
@@ -47,7 +55,7 @@ pub(crate) fn are_same(stored: &[StoredSegment], segments: &[Arc<Segment>]) -> b
         return false;
     }
     for (at, kept) in stored.iter().enumerate() {
-        if !has_bytes(&kept.segment, segments[at].bytes()) {
+        if !is_same(kept, &segments[at]) {
             return false;
         }
     }

@@ -7,8 +7,9 @@ ghost use Rattle.commit_calls.specs.Plans.{IsPlan, Rises};
 ghost use Rattle.facet_model.specs.Stored.{Decodes};
 ghost use Rattle.commit_file.specs.Commits.{AreInOrder};
 ghost use Rattle.seg_documents.specs.Decoding.{records_in, docs_in};
+ghost use Rattle.seg_documents.specs.Storing.{AreStored};
 ghost use Rattle.commit_plan.specs.declared.fault.CommitFault.TheVariants.{NumbersSpent};
-ghost use Rattle.commit_plan.specs.Committed.{IsKept, IsOwn, kept_view};
+ghost use Rattle.commit_plan.specs.Committed.{IsKept, kept_view};
 ghost use Rattle.commit_plan.specs.Drafts.{last_number, committed_by};
 ghost use Rattle.commit_plan.specs.Strays.{strays};
 ghost use Rattle.commit_plan.specs.Plannings.{IsPlanOf, IsReadAgain, IsOutOf, LeadsOn};
@@ -83,8 +84,8 @@ fn join_parts(
 /// Plans a commit of these labels and segments. It makes no disk call, and allocates all memory of the commit: the
 /// bytes of its files, and the names of all files.
 ///
-/// Costs: the bytes of the segments are compared with those of the stored ones, and the SHA-256 digest of each new file
-/// is computed.
+/// Costs: the bytes and the live records of the segments are compared with those of the stored ones, and the SHA-256
+/// digest of each new file is computed.
 ///
 /// Errors: `NumbersSpent` if a file would need a number of 2^63 or more; out of memory.
 pub fn plan_commit(
@@ -95,7 +96,7 @@ pub fn plan_commit(
     segments: &[Arc<Segment>],
 ) -> Result<Planned, CommitFault>
     requires few { length (records_in (map arc_value segments.now)) ≤ 1000000 }
-    requires own { AllByRecursion IsOwn (map arc_value segments.now) }
+    requires own { AreStored (map arc_value segments.now) }
     requires decodes { Decodes view.now config.now (map arc_value segments.now)
         (docs_in view.now (map arc_value segments.now)) }
     ensures is_plan { IfOk result (λ p. IsPlan p.plan) }

@@ -7,7 +7,7 @@ ghost use Rattle.commit_plan.specs.Committed.{kept_view};
 ghost use Rattle.commit_plan.specs.Openings.{committed_read, kept_by};
 
 use crate::state::{CommitState, StoredSegment};
-use commit_file::DocumentPart;
+use commit_file::LivePart;
 use facet_config::FacetsConfig;
 use facet_names::NoMemory;
 use seg_file::Segment;
@@ -16,24 +16,27 @@ use std::sync::Arc;
 use store_opening::Newest;
 use taxo_list::{Labelled, Taxonomy};
 
-// Adds a segment with its name.
+// Adds a segment with the name that a commit gives it.
 fn push_stored(
     stored: &mut Vec<StoredSegment>,
-    part: DocumentPart,
+    part: &LivePart,
     segment: &Arc<Segment>,
 ) -> Result<(), NoMemory>
     ensures { OnOk result (map kept_view stored.new.items ≡ map kept_view stored.old.items
-        ++ (record { part = part; segment = arc_value segment.now }) ∷ []) }
+        ++ (record { part = part.now.part; segment = arc_value segment.now }) ∷ []) }
 {
     let segment = Arc::try_clone(segment)?;
-    stored.push(StoredSegment { part, segment })?;
+    stored.push(StoredSegment {
+        part: part.part,
+        segment,
+    })?;
     Ok(())
 }
 
 // Returns the segments with their names.
 fn stored_segments(
     alloc: Global,
-    parts: &[DocumentPart],
+    parts: &[LivePart],
     segments: &[Arc<Segment>],
 ) -> Result<Vec<StoredSegment>, NoMemory>
     requires { length parts.now ≡ length segments.now }
@@ -41,7 +44,7 @@ fn stored_segments(
 {
     let mut stored = Vec::new(alloc);
     for (at, part) in parts.iter().enumerate() {
-        push_stored(&mut stored, *part, &segments[at])?;
+        push_stored(&mut stored, part, &segments[at])?;
     }
     Ok(stored)
 }

@@ -1,5 +1,5 @@
 -- What the device calls of a planned commit leave is what the commit promises.
-use Rattle.std.proofs.Common.{◌≡◌, ◌∙◌, List, [], take, Some, None, Contains, sym, ap, subst, ⊎_elim}
+use Rattle.std.proofs.Common.{◌≡◌, ◌∙◌, List, take, Some, None, Contains, sym, ap, subst, ⊎_elim}
 use Rattle.facet_disk.specs.declared.disk.Disk.{Ghosts}
 use Rattle.facet_disk.specs.Images.{Image, Told}
 use Rattle.facet_model.specs.Flags.{Config}
@@ -53,17 +53,17 @@ module _ {D : Type 0} (disk : Ghosts D) (own : (d : D) (s : Told) → disk.told 
     ends run c left = one_of_three disk config old now labels view segs ss at p after own s told leads on c
         (run s at.taxonomy at.index all.taxonomy_after all.index_after told all.leads from c left)
 
-    pub acknowledged : Leading (λ t i t' i'. IsAt disk.may_leave p.to t' i' end) → (ss ≡ [] → segs ≡ []) → IsCommittedAt disk config after end view ss
-    acknowledged done empty = record {
+    pub acknowledged : Leading (λ t i t' i'. IsAt disk.may_leave p.to t' i' end) → IsCommittedAt disk config after end view ss
+    acknowledged done = record {
       taxonomy = all.taxonomy_after;
       index = all.index_after;
       stands = subst (λ n. IsAt disk.may_leave n all.taxonomy_after all.index_after end) plan.to (done s at.taxonomy at.index all.taxonomy_after all.index_after told all.leads from);
-      known = all.known empty;
+      known = all.known;
     }
 
-    pub settles : Leading (λ t i t' i'. IsAt disk.may_leave p.to t' i' end) → (ss ≡ [] → segs ≡ []) → (u : Told) → disk.told end ≡ Some u → IsSettled disk config u end
-    settles done empty u tells =
-        let there = acknowledged done empty in
+    pub settles : Leading (λ t i t' i'. IsAt disk.may_leave p.to t' i' end) → (u : Told) → disk.told end ≡ Some u → IsSettled disk config u end
+    settles done u tells =
+        let there = acknowledged done in
         stands_settled config after.next there.taxonomy there.index (record { labels = view; segments = ss }) there.known.files disk end u (own end u tells) there.stands
 
   -- ---- what it tells

@@ -53,6 +53,4 @@ module _ {D : Type 0} (disk : Ghosts D) (config : Config) (old : Committed) (now
     pub one_of_three : (c : Image) → IsOneOfThree p.to at.taxonomy at.index led.taxonomy_after led.index_after c → HasOneOfThree config labels segs view ss c
     one_of_three c (inl stands) = inl (files_stand config p.to at.taxonomy at.index c (record { labels = labels; segments = segs }) stands at.known.files)
     one_of_three c (inr (inl stands)) = inr (inl (files_stand config p.to led.taxonomy_after at.index c (record { labels = view; segments = segs }) stands led.middle))
-    one_of_three c (inr (inr stands)) = ⊎_elim
-        (λ was. inr (inl (files_stand config p.to led.taxonomy_after led.index_after c (record { labels = view; segments = segs }) stands was)))
-        (λ here. inr (inr (files_stand config p.to led.taxonomy_after led.index_after c (record { labels = view; segments = ss }) stands here))) led.last
+    one_of_three c (inr (inr stands)) = inr (inr (files_stand config p.to led.taxonomy_after led.index_after c (record { labels = view; segments = ss }) stands led.known.files))

@@ -1,5 +1,5 @@
 -- What a commit guarantees, given the committer before it and after it.
-use Rattle.std.specs.Prelude.{◌≡◌, ◌≢◌, ◌≤◌, ◌<◌, ◌+◌, ◌^◌, [], ℕ, List, Some, None, Result, IfErr, OnOk, Contains}
+use Rattle.std.specs.Prelude.{◌≡◌, ◌≢◌, ◌≤◌, ◌<◌, ◌+◌, ◌^◌, ℕ, List, Some, None, Result, IfErr, OnOk, Contains}
 use Rattle.facet_disk.specs.declared.disk.Disk.{Ghosts}
 use Rattle.facet_disk.specs.declared.name.FileName.{FileName}
 use Rattle.facet_disk.specs.Images.{Image, Told}
@@ -52,19 +52,18 @@ abbrev pub LeavesThree : {D : Type 0} → Ghosts D → CommitterView D → Commi
 LeavesThree disk old new view segments = FromPair disk old view (λ labels old_segments.
     (c : Image) → disk.may_leave new.disk c → HasOneOfThree old.config labels old_segments view segments c)
 
--- each image has the files of the pair after; without segments there were none before
+-- each image has the files of the pair after
 abbrev pub Acknowledges : {D : Type 0} → Ghosts D → CommitterView D → CommitterView D → List (List (List ℕ))
     → List Records → Type 0
-Acknowledges disk old new view segments = FromPair disk old view (λ labels old_segments. (segments ≡ []
-    → old_segments ≡ []) → IsHere disk new.config new view segments)
+Acknowledges disk old new view segments = FromPair disk old view (λ labels old_segments.
+    IsHere disk new.config new view segments)
 
 -- the disk is settled, which the next opening may require
 abbrev pub Settles : {D : Type 0} → Ghosts D → CommitterView D → CommitterView D → List (List (List ℕ)) → List Records
     → Type 0
 Settles disk old new view segments = (s u : Told) (labels : List (List (List ℕ))) (old_segments : List Records)
     → disk.told old.disk ≡ Some s → disk.told new.disk ≡ Some u
-    → IsHere disk old.config old labels old_segments → GoesOn labels view → (segments ≡ [] → old_segments ≡ [])
-    → IsSettled disk new.config u new.disk
+    → IsHere disk old.config old labels old_segments → GoesOn labels view → IsSettled disk new.config u new.disk
 
 -- ---- what the disk reads
 

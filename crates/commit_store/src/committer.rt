@@ -1,13 +1,13 @@
 ghost use Rattle.std.specs.Prelude.{◌≡◌, ◌≢◌, ◌≤◌, ◌+◌, ◌^◌, ◌↔◌, [], ℕ, Some, None, Err, length, map, OnOk, IfOk};
 ghost use Rattle.std.specs.Prelude.{IfErr};
 ghost use Rattle.std.specs.Arc.{arc_value};
-ghost use Rattle.std.specs.List.{AllByRecursion};
 ghost use Rattle.facet_disk.specs.Images.{Told};
 ghost use Rattle.facet_disk.specs.Calls.{Rose};
 ghost use Rattle.facet_model.specs.Stored.{Decodes};
 ghost use Rattle.facet_names.specs.Labels.{IsLabelList};
 ghost use Rattle.commit_calls.specs.Held.{Below};
 ghost use Rattle.seg_documents.specs.Decoding.{docs_in, records_in};
+ghost use Rattle.seg_documents.specs.Storing.{AreStored};
 ghost use Rattle.commit_plan.specs.declared.fault.CommitFault.TheVariants.{Disk as OfDisk, Closed, NumbersSpent};
 ghost use Rattle.store_opening.specs.declared.fault.OpenFault.TheVariants.{Disk as FaultOfDisk, NoMemory as NoRoom};
 ghost use Rattle.store_opening.specs.Faults.{IsSound};
@@ -15,7 +15,7 @@ ghost use Rattle.store_opening.specs.Files.{files, greatest_number};
 ghost use Rattle.store_opening.specs.Newest.{AreListed, next_after};
 ghost use Rattle.store_opening.specs.Quiet.{IsQuiet};
 ghost use Rattle.store_opening.specs.Settled.{IsSettled};
-ghost use Rattle.commit_plan.specs.Committed.{IsOwn, segments_in};
+ghost use Rattle.commit_plan.specs.Committed.{segments_in};
 ghost use Rattle.commit_store.specs.Committing.{HasFiles};
 ghost use Rattle.commit_plan.specs.Drafts.{committed_after};
 ghost use Rattle.commit_store.specs.Promised.{IsHere, OfBoth, PassesThree, LeavesThree, Acknowledges, Settles};
@@ -98,7 +98,7 @@ impl<D: Disk> Committer<D> {
         ensures decodes { IfOk result (λ o. Decodes o.labels config (map arc_value o.segments.items)
             (docs_in o.labels (map arc_value o.segments.items))) }
         ensures few { IfOk result (λ o. length (docs_in o.labels (map arc_value o.segments.items)) ≤ 1000000) }
-        ensures own { IfOk result (λ o. AllByRecursion IsOwn (map arc_value o.segments.items)) }
+        ensures own { IfOk result (λ o. AreStored (map arc_value o.segments.items)) }
         ensures some { IfOk result (λ o. docs_in o.labels (map arc_value o.segments.items) ≡ []
             → map arc_value o.segments.items ≡ []) }
 
@@ -153,8 +153,9 @@ impl<D: Disk> Committer<D> {
     /// - Last it removes each file that is neither a newest commit nor named by one: the taxonomy's files first; in a
     ///   directory segments before pending files before commit files; by rising numbers.
     ///
-    /// A directory without news gets no commit file, and neither does the index if no segments are given. Strays are
-    /// removed in each case.
+    /// A directory without news gets no commit file. The index has no news if the segments are the committed ones, each
+    /// with the same live records. A segment that has fewer live records now keeps its file, and the commit file says
+    /// which of its records are live. Strays are removed in each case.
     ///
     /// It allocates all memory before its first disk call: the bytes of the new files, and the names of all files.
     ///
@@ -163,7 +164,7 @@ impl<D: Disk> Committer<D> {
     /// the first disk call. After `Disk`, a crash leaves one of the states that a crash during the commit may leave.
     pub fn commit(&mut self, view: &TaxoView, segments: &[Arc<Segment>]) -> Result<(), CommitFault>
         requires few { length (records_in (map arc_value segments.now)) ≤ 1000000 }
-        requires own { AllByRecursion IsOwn (map arc_value segments.now) }
+        requires own { AreStored (map arc_value segments.now) }
         requires decodes { Decodes view.now self.old.config (map arc_value segments.now)
             (docs_in view.now (map arc_value segments.now)) }
 

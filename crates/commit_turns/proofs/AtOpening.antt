@@ -90,7 +90,6 @@ module _ {D : Type 0} (disk : Ghosts D) (only_now : OnlyNow disk) (told settled 
       goes_on = stays labels;
       many = refl;
       decodes = o.opened.decodes;
-      some = o.opened.some;
       within = omega arith;
       just = just;
     };

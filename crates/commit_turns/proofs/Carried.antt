@@ -95,7 +95,6 @@ module _ {D : Type 0} (disk : Ghosts D) where
         goes_on = goes_further l.known labels more l.goes_on on;
         many = l.many;
         decodes = l.decodes;
-        some = l.some;
         within = omega (arith, l.within, prefix_length history longer grows);
         just = l.just ∙ docs_on history longer last.operations grows l.within;
       };
@@ -134,10 +133,6 @@ module _ {D : Type 0} (disk : Ghosts D) where
         -- under the labels of now too
         as_before : docs_in view was.segments ≡ docs (take last.operations history)
         as_before = decoded view old.config was.segments (docs_in was.known was.segments) (decodes_stay old.config was.known view was.list list was.goes_on was.segments (docs_in was.known was.segments) was.decodes) ∙ was.just
-
-        -- where no segments are given none were committed, if where nothing is left nothing was
-        none_before : (docs history ≡ [] → docs (take last.operations history) ≡ []) → segments ≡ [] → was.segments ≡ []
-        none_before gone empty = was.some (was.just ∙ gone (sym all ∙ ap (docs_in view) empty))
 
         -- each of the three
         one_of_three : (c : Image) → HasOneOfThree old.config was.known was.segments view segments c → Holding last c
@@ -242,10 +237,10 @@ module _ {D : Type 0} (disk : Ghosts D) where
             failed = λ k is. absurd (cc (unshut, is));
           }
 
-      pub stands_made : OnlyNow disk → new.closed ≡ None → Decodes view old.config segments (docs_in view segments) → (docs_in view segments ≡ [] → segments ≡ []) → (docs history ≡ [] → docs (take last.operations history) ≡ []) → disk.faults new.disk ≡ disk.faults old.disk → new.state.next ≤ old.state.next + 1000003
+      pub stands_made : OnlyNow disk → new.closed ≡ None → Decodes view old.config segments (docs_in view segments) → disk.faults new.disk ≡ disk.faults old.disk → new.state.next ≤ old.state.next + 1000003
           → ((s : Told) → disk.told old.disk ≡ Some s → (u : Told) × (disk.told new.disk ≡ Some u)) → (told → IsFollowed disk start new) → PassesThree disk old new view segments → Acknowledges disk old new view segments
           → On new (made (length history) (length view)) view history (es ++ made (length history) (length view) ∷ []) (marks ++ marked new.disk (made (length history) (length view)))
-      stands_made only_now unclosed decodes some gone still takes tells followed leaves acknowledges = record {
+      stands_made only_now unclosed decodes still takes tells followed leaves acknowledges = record {
         points = points_made (disk.faults old.disk) (length view) (length history) last es st.points unfailed (disk.faults new.disk);
         closed = sym unclosed;
         counted = omega (arith, st.counted, still);
@@ -256,7 +251,7 @@ module _ {D : Type 0} (disk : Ghosts D) where
         followed = followed;
         keeps = λ is.
             let w = was is in
-            let here = acknowledges w.tells.0 w.known w.segments w.tells.1 w.here w.goes_on (none_before is gone) in
+            let here = acknowledges w.tells.0 w.known w.segments w.tells.1 w.here w.goes_on in
             let stand = subst (λ (k : Config). (c : Image) → disk.may_leave new.disk c → files k c ≡ Ok (record { labels = view; segments = segments })) same (last_files new.config new view segments here) in
             keeps_with is only_now (made (length history) (length view)) (leaves w.tells.0 w.known w.segments w.tells.1 w.here w.goes_on) (has_made is stand)
             (λ unfailed c left. just_found old.config view view history segments (length history) (made (length history) (length view)) c (stand c left) (stays view) (omega arith) all_of_it refl refl);
@@ -265,12 +260,11 @@ module _ {D : Type 0} (disk : Ghosts D) where
               known = view;
               segments = segments;
               tells = tells w.tells.0 w.tells.1;
-              here = acknowledges w.tells.0 w.known w.segments w.tells.1 w.here w.goes_on (none_before is gone);
+              here = acknowledges w.tells.0 w.known w.segments w.tells.1 w.here w.goes_on;
               list = list;
               goes_on = stays view;
               many = refl;
               decodes = subst (λ (k : Config). Decodes view k segments (docs_in view segments)) (sym same) decodes;
-              some = some;
               within = omega arith;
               just = all_of_it;
             };

@@ -3,7 +3,6 @@ pub mod Imaged
 pub mod Pointed
 pub mod Surviving
 pub mod Carried
-pub mod Firsts
 pub mod Turning
 pub mod Entering
 pub mod Ended

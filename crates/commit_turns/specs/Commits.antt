@@ -58,7 +58,6 @@ module _ {D : Type 0} (disk : Ghosts D) where
     pub goes_on : GoesOn known labels
     pub many : length known ≡ p.labels
     pub decodes : Decodes known committer.config segments (docs_in known segments)
-    pub some : docs_in known segments ≡ [] → segments ≡ []
     pub within : p.operations ≤ length history
     pub just : docs_in known segments ≡ docs (take p.operations history)
 

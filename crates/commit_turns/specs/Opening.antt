@@ -1,6 +1,5 @@
 -- What opening leaves, from which commits go on.
-use Rattle.std.specs.Prelude.{◌≡◌, ℕ, List, [], Some, None}
-use Rattle.std.specs.List.{AllByRecursion}
+use Rattle.std.specs.Prelude.{◌≡◌, ℕ, List, Some, None}
 use Rattle.facet_disk.specs.Images.{Told}
 use Rattle.facet_disk.specs.declared.disk.Disk.{Ghosts}
 use Rattle.facet_model.specs.Documents.{Doc}
@@ -8,7 +7,7 @@ use Rattle.facet_model.specs.Flags.{Config}
 use Rattle.facet_model.specs.Stored.{Records, Decodes}
 use Rattle.facet_names.specs.Labels.{IsLabelList}
 use Rattle.seg_documents.specs.Decoding.{docs_in}
-use Rattle.commit_plan.specs.Committed.{IsOwn}
+use Rattle.seg_documents.specs.Storing.{AreStored}
 use Rattle.commit_store.specs.Committers.{CommitterView}
 use Rattle.commit_store.specs.Committing.{HasFiles}
 use Rattle.commit_store.specs.Promised.{IsHere}
@@ -30,8 +29,7 @@ module _ {D : Type 0} (disk : Ghosts D) where
         → IsHere disk committer.config committer labels segments
     pub list : IsLabelList labels
     pub decodes : Decodes labels committer.config segments (docs_in labels segments)
-    pub some : docs_in labels segments ≡ [] → segments ≡ []
-    pub own : AllByRecursion IsOwn segments
+    pub own : AreStored segments
 
   -- It was opened as these labels and these documents.
   pub record IsOpenedAs (start : D) (committer : CommitterView D) (labels : List (List (List ℕ)))

@@ -1,19 +1,16 @@
 ghost use Rattle.std.specs.Prelude.{◌≡◌, ◌≤◌, ◌<◌, ◌^◌, ◌*◌, ◌+◌, ◌∷◌, [], ◌↔◌, ℕ, Some, Err, IfErr, IfOk};
-ghost use Rattle.std.specs.Prelude.{IsTrue, length, map};
+ghost use Rattle.std.specs.Prelude.{length, map};
 ghost use Rattle.std.specs.Arc.{arc_value};
-ghost use Rattle.std.specs.List.{list_all};
 ghost use mathlib.Core.List.{IsPrefix};
-ghost use Rattle.chronicle.specs.History.{entries};
 ghost use Rattle.chronicle.specs.Shown.{MayTake, SameToken};
 ghost use Rattle.facet_disk.specs.Calls.{Rose};
 ghost use Rattle.facet_model.specs.ConfigTexts.{config_texts};
 ghost use Rattle.facet_model.specs.Flags.{Config};
-ghost use Rattle.facet_model.specs.Histories.{is_add};
 ghost use Rattle.facet_model.specs.Stored.{Decodes};
 ghost use Rattle.facet_names.specs.Labels.{IsLabelList};
 ghost use Rattle.seg_documents.specs.Decoding.{records_in};
+ghost use Rattle.seg_documents.specs.Storing.{AreStored};
 ghost use Rattle.commit_plan.specs.declared.fault.CommitFault.TheVariants.{Disk as OfDisk, Closed, NumbersSpent};
-ghost use Rattle.index_state.specs.Index.{AreOwn};
 ghost use Rattle.taxo_cache.specs.Seen.{labels_of, SeesLabels};
 ghost use Rattle.commit_turns.specs.Answers.{Enters};
 ghost use Rattle.commit_turns.specs.Frames.{HasNumbers};
@@ -67,9 +64,8 @@ fn take_snapshots<N: Name, R: Wait>(
     ensures goes_on { IsPrefix noted_labels.old.seen seen_labels.new.seen
         × IsPrefix noted_operations.old.seen seen_operations.new.seen }
     ensures view { IfOk result (λ t. t.view ≡ labels_of seen_labels.new.seen) }
-    ensures own { IfOk result (λ t. AreOwn (map arc_value t.segments.items)) }
+    ensures own { IfOk result (λ t. AreStored (map arc_value t.segments.items)) }
     ensures count { IfOk result (λ t. t.operations ≡ length seen_operations.new.seen) }
-    ensures adds { IfOk result (λ t. IsTrue (list_all (λ o. is_add o.change) (entries seen_operations.new.seen))) }
     ensures decodes { IfOk result (λ t. (config : Config) → config_texts config ≡ seen_operations.old.frame.texts
         → Decodes t.view config (map arc_value t.segments.items) (docs_of seen_operations.new.seen)) }
 {

@@ -1,15 +1,12 @@
-ghost use Rattle.std.specs.Prelude.{◌≡◌, ◌≤◌, ◌<◌, ◌^◌, ◌+◌, ◌↔◌, ℕ, Some, Err, IfErr, IfOk, IsTrue, length, map};
+ghost use Rattle.std.specs.Prelude.{◌≡◌, ◌≤◌, ◌<◌, ◌^◌, ◌+◌, ◌↔◌, ℕ, Some, Err, IfErr, IfOk, length, map};
 ghost use Rattle.std.specs.Arc.{arc_value};
-ghost use Rattle.std.specs.List.{list_all};
-ghost use Rattle.chronicle.specs.History.{entries};
-ghost use Rattle.facet_model.specs.Histories.{is_add};
 ghost use Rattle.facet_model.specs.Stored.{Decodes};
 ghost use Rattle.facet_names.specs.Labels.{IsLabelList};
 ghost use Rattle.facet_disk.specs.Calls.{Rose};
 ghost use Rattle.seg_documents.specs.Decoding.{records_in};
+ghost use Rattle.seg_documents.specs.Storing.{AreStored};
 ghost use Rattle.commit_plan.specs.declared.fault.CommitFault.TheVariants.{Disk as OfDisk, Closed, NumbersSpent};
 ghost use Rattle.taxo_cache.specs.Seen.{labels_of};
-ghost use Rattle.index_state.specs.Index.{AreOwn};
 ghost use Rattle.commit_turns.specs.Points.{entered, made, failed_after};
 ghost use Rattle.commit_turns.specs.Seen.{docs_of};
 ghost use Rattle.commit_turns.specs.Turns.{StandsOn, KeepsFrame};
@@ -33,13 +30,12 @@ impl<D: Disk, N: Start> CommitTurn<D, N> {
         operations: u64,
     ) -> Result<u64, CommitFault>
         requires list { IsLabelList view.now }
-        requires own { AreOwn (map arc_value segments.now) }
+        requires own { AreStored (map arc_value segments.now) }
         requires few { length (records_in (map arc_value segments.now)) ≤ 1000000 }
         requires decodes { Decodes view.now self.old.committer.config (map arc_value segments.now)
             (docs_of self.old.operations.seen) }
         requires labels { view.now ≡ labels_of self.old.labels.seen }
         requires operations { operations ≡ length self.old.operations.seen }
-        requires adds { IsTrue (list_all (λ o. is_add o.change) (entries self.old.operations.seen)) }
 
         // That point is marked with the disk as it then is, and the points before it stay marked as they were.
         ensures stands { StandsOn self.old self.new (entered self.old.last (length view.now) result) }

@@ -17,7 +17,7 @@ ghost use Rattle.store_opening.specs.Settled.{IsSettled};
 ghost use Rattle.commit_turns.specs.DiskStates.{state_of};
 ghost use Rattle.commit_turns.specs.Frames.{HasNumbers, begun_frame};
 ghost use Rattle.index_state.specs.Frames.{index_frame};
-ghost use Rattle.index_state.specs.Index.{docs_under, DecodeUnder, AreOwn};
+ghost use Rattle.index_state.specs.Index.{docs_under, DecodeUnder};
 ghost use Rattle.pair_manager.specs.Passes.{IsFirst};
 ghost use Rattle.pair_manager.specs.Published.{ArePublications, pair_frame, seen_of as all_seen};
 ghost use Rattle.taxo_cache.specs.Seen.{labels_of, SeesLabels};
@@ -25,6 +25,7 @@ ghost use Rattle.commit_turns.specs.Opening.{WasSettled, IsOpenedAs};
 ghost use Rattle.commit_turns.specs.Points.{made};
 ghost use Rattle.commit_turns.specs.Seen.{docs_of};
 ghost use Rattle.seg_documents.specs.Decoding.{records_in};
+ghost use Rattle.seg_documents.specs.Storing.{AreStored};
 ghost use Rattle.facet_engine.specs.Opening.{IsReady, opened_of};
 ghost use Rattle.facet_engine.specs.Sessions.{HaveOneNumber, NamesSession};
 ghost use Rattle.facet_engine.specs.Steps.{seen_of};
@@ -168,7 +169,7 @@ fn open_manager<N: Name>(
     requires list { SeesLabels first.old }
     requires view { view ≡ labels_of first.old.seen }
     requires decodes { DecodeUnder first.old settings.config (map arc_value segments.items) }
-    requires read { AreOwn (map arc_value segments.items) }
+    requires read { AreStored (map arc_value segments.items) }
     requires few { length (docs_under first.old (map arc_value segments.items)) ≤ 1000000 }
     ensures first { first.new ≡ first.old }
     ensures writer { IfOk result (λ r. r.0.writer ≡ record { labels = labels; limit = settings.max_labels }) }

@@ -6,13 +6,13 @@ use Rattle.facet_names.proofs.LabelLists.{Labels}
 use Rattle.facet_model.specs.Flags.{Config}
 use Rattle.facet_model.specs.Stored.{Records}
 use Rattle.facet_model.proofs.Each.{each_append}
-use Rattle.seg_grammar.specs.Spelling.{IsSegment, seg_bytes}
 use Rattle.seg_terms.specs.declared.entry.Entry.{Entry}
 use Rattle.seg_documents.specs.Decoding.{docs_in}
+use Rattle.seg_documents.specs.Storing.{IsStored, AreStored}
 use Rattle.seg_documents.proofs.Joined.{docs_replaced, decodes_replaced}
 use Rattle.chronicle.specs.Shown.{Shown}
 use Rattle.taxo_cache.specs.Seen.{labels_of}
-use Rattle.index_state.specs.Index.{AreOwn, DecodeUnder, docs_under}
+use Rattle.index_state.specs.Index.{DecodeUnder, docs_under}
 use Rattle.index_state.specs.Kept.{IsKept}
 
 -- ---- lists
@@ -36,28 +36,28 @@ mapped f xs m first k = map-append f (take first xs) (m ∷ drop k xs) ∙ (λ i
 
 -- ---- segments
 
-own_front : (ss ts : List Records) → AreOwn (ss ++ ts) → AreOwn ss
-own_front [] ts all = tt
-own_front (s ∷ ss) ts all = (all.0, own_front ss ts all.1)
+stored_front : (ss ts : List Records) → AreStored (ss ++ ts) → AreStored ss
+stored_front [] ts all = tt
+stored_front (s ∷ ss) ts all = (all.0, stored_front ss ts all.1)
 
-pub own_back : (ss ts : List Records) → AreOwn (ss ++ ts) → AreOwn ts
-own_back [] ts all = all
-own_back (s ∷ ss) ts all = own_back ss ts all.1
+pub stored_back : (ss ts : List Records) → AreStored (ss ++ ts) → AreStored ts
+stored_back [] ts all = all
+stored_back (s ∷ ss) ts all = stored_back ss ts all.1
 
 -- what an index keeps true stays
 module _ (config : Config) (labels : Shown (List (List ℕ))) (before range after : List Records) (m : Records) (same : docs_under labels (m ∷ []) ≡ docs_under labels range) where
   pub installed_docs : docs_under labels (before ++ m ∷ after) ≡ docs_under labels (before ++ (range ++ after))
   installed_docs = docs_replaced (labels_of labels.seen) before range after m same
 
-  pub kept_installed : (waiting : List Entry) (sessions : List ℕ) (max_docs : ℕ) → IsKept config labels (before ++ (range ++ after)) waiting sessions max_docs → DecodeUnder labels config (m ∷ []) → IsSegment (seg_bytes m) m → IsKept config labels (before ++ m ∷ after) waiting sessions max_docs
+  pub kept_installed : (waiting : List Entry) (sessions : List ℕ) (max_docs : ℕ) → IsKept config labels (before ++ (range ++ after)) waiting sessions max_docs → DecodeUnder labels config (m ∷ []) → IsStored m → IsKept config labels (before ++ m ∷ after) waiting sessions max_docs
   kept_installed waiting sessions max_docs kept here own =
       let known : Labels = labels_of labels.seen in
-      let behind : AreOwn (range ++ after) = own_back before (range ++ after) kept.own in
+      let behind : AreStored (range ++ after) = stored_back before (range ++ after) kept.own in
       record {
         note = kept.note;
         list = kept.list;
         decoded = decodes_replaced known before range after m same config (docs_in known (before ++ (range ++ after))) kept.decoded here;
-        own = each_append (λ (s : Records). IsSegment (seg_bytes s) s) before (m ∷ after) (own_front before (range ++ after) kept.own) (own, own_back range after behind);
+        own = each_append IsStored before (m ∷ after) (stored_front before (range ++ after) kept.own) (own, stored_back range after behind);
         entries = kept.entries;
         each = omega (arith, kept.each, ap length installed_docs);
         few = kept.few;

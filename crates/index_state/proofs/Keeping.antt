@@ -13,25 +13,26 @@ use Rattle.seg_terms.specs.Entries.{segment_of}
 use Rattle.seg_terms.specs.declared.entry.Entry.{Entry}
 use Rattle.seg_documents.specs.Decoding.{docs_in, flushed}
 use Rattle.seg_documents.specs.Entries.{IsEntry, AreEntries, docs_of}
+use Rattle.seg_documents.specs.Storing.{IsStored, AreStored}
+use Rattle.seg_documents.proofs.Storing.{live_stored}
 use Rattle.seg_documents.proofs.Decoded.{decoded, decodes_stay, entries_stay, flushed_decodes}
 use Rattle.chronicle.specs.Shown.{Shown}
 use Rattle.taxo_cache.specs.Seen.{labels_of, SeesLabels}
 use Rattle.taxo_adding.proofs.Growing.{seen_goes_on}
-use Rattle.index_state.specs.Index.{AreOwn}
 use Rattle.index_state.specs.Kept.{IsKept}
 
 are_push : (config : Config) (known : Labels) (entries : List Entry) (e : Entry) → AreEntries config known entries → IsEntry config known e → AreEntries config known (entries ++ e ∷ [])
 are_push config known [] e are one = (one, tt)
 are_push config known (x ∷ entries) e are one = (are.0, are_push config known entries e are.1 one)
 
-own_push : (ss : List Records) (s : Records) → AreOwn ss → IsSegment (seg_bytes s) s → AreOwn (ss ++ s ∷ [])
-own_push [] s all one = (one, tt)
-own_push (r ∷ ss) s all one = (all.0, own_push ss s all.1 one)
+stored_push : (ss : List Records) (s : Records) → AreStored ss → IsStored s → AreStored (ss ++ s ∷ [])
+stored_push [] s all one = (one, tt)
+stored_push (r ∷ ss) s all one = (all.0, stored_push ss s all.1 one)
 
--- each segment is read from its own bytes, and so is one that the entries become
-own_flushed : (segments : List Records) (waiting : List Entry) → AreOwn segments → (waiting ≢ [] → IsSegment (seg_bytes (segment_of waiting)) (segment_of waiting)) → AreOwn (flushed segments waiting)
-own_flushed segments [] own new = own
-own_flushed segments (e ∷ es) own new = own_push segments (segment_of (e ∷ es)) own (new (λ none. cc none))
+-- each segment may be stored, and so may one that the entries become
+stored_flushed : (segments : List Records) (waiting : List Entry) → AreStored segments → (waiting ≢ [] → IsSegment (seg_bytes (segment_of waiting)) (segment_of waiting)) → AreStored (flushed segments waiting)
+stored_flushed segments [] own new = own
+stored_flushed segments (e ∷ es) own new = stored_push segments (segment_of (e ∷ es)) own (live_stored (segment_of (e ∷ es)) (new (λ none. cc none)))
 
 module _ (config : Config) (labels : Shown (List (List ℕ))) (segments : List Records) (waiting : List Entry) (sessions : List ℕ) (max_docs : ℕ) (kept : IsKept config labels segments waiting sessions max_docs) where
   -- ---- more labels are noted
@@ -89,7 +90,7 @@ module _ (config : Config) (labels : Shown (List (List ℕ))) (segments : List R
     note = kept.note;
     list = kept.list;
     decoded = subst (Decodes (labels_of labels.seen) config (flushed segments waiting)) (sym flushed_docs) decodes_all;
-    own = own_flushed segments waiting kept.own new;
+    own = stored_flushed segments waiting kept.own new;
     entries = tt;
     each = omega (arith, kept.each, ap length flushed_docs, length-append (docs_in (labels_of labels.seen) segments) (docs_of waiting), length-map waiting (λ (e : Entry). e.doc));
     few = kept.few;

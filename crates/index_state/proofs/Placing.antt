@@ -13,17 +13,19 @@ use Rattle.live_records.proofs.Alive.{length_alive}
 use Rattle.seg_terms.specs.declared.entry.Entry.{Entry}
 use Rattle.seg_documents.specs.Decoding.{doc_in, docs_in, records_in}
 use Rattle.seg_documents.specs.Entries.{docs_of}
+use Rattle.seg_documents.specs.Storing.{AreStored}
 use Rattle.seg_documents.proofs.Decoded.{decoded, decodes_stay}
 use Rattle.seg_documents.proofs.Joined.{records_append, docs_append, decodes_split}
-use Rattle.seg_documents.proofs.Live.{records_first, records_first_live}
+use Rattle.seg_documents.proofs.Live.{records_first}
+use Rattle.seg_documents.proofs.Storing.{few_segments}
 use Rattle.seg_merge.proofs.Moved.{taken_more}
 use Rattle.chronicle.specs.Shown.{Shown, IsNoteOf}
 use Rattle.taxo_cache.specs.Seen.{labels_of, SeesLabels}
 use Rattle.taxo_adding.proofs.Growing.{seen_goes_on}
-use Rattle.index_state.specs.Index.{AreOwn, DecodeUnder, docs_under, index_of}
+use Rattle.index_state.specs.Index.{DecodeUnder, docs_under, index_of}
 use Rattle.index_state.specs.Kept.{IsKept}
 use Rattle.index_state.specs.Merging.{live_sizes, ComeAfter, IsRangeOf, AreAt, HasNoPlace}
-use Rattle.index_state.proofs.Installing.{in_parts, own_back}
+use Rattle.index_state.proofs.Installing.{in_parts, stored_back}
 
 -- ---- lists
 
@@ -50,10 +52,9 @@ size_on ss i n le =
 pub one_live : (m : Records) → live_before m.dead (length m.records) ≡ length (records_in (m ∷ []))
 one_live m = sym (length_alive m.dead m.records) ∙ ap length (sym (append-nil (alive m.dead m.records)) ∙ sym (records_first m []))
 
--- one that is read from its own bytes has some
-pub some_records : (ss : List Records) → AreOwn ss → 0 < length ss → 0 < length (records_in ss)
-some_records [] own some = absurd (omega (arith, some))
-some_records (s ∷ ss) own some = omega (arith, ap length (records_first_live s ss own.0.live), length-append s.records (records_in ss), own.0.some)
+-- segments that may be stored have some
+pub some_records : (ss : List Records) → AreStored ss → 0 < length ss → 0 < length (records_in ss)
+some_records ss are some = omega (arith, some, few_segments ss are)
 
 -- and all have as many as each of them together
 pub all_sizes : (ss : List Records) → sum (live_sizes ss) ≡ length (records_in ss)
@@ -159,8 +160,8 @@ module _ (config : Config) (labels : Shown (List (List ℕ))) (ss : List Records
     pub few_from : length (records_in (drop first ss)) ≤ 1000000
     few_from = omega (arith, few_records, behind_few ss first)
 
-    own_from : AreOwn (drop first ss)
-    own_from = own_back (take first ss) (drop first ss) (subst AreOwn (sym cut) kept.own)
+    own_from : AreStored (drop first ss)
+    own_from = stored_back (take first ss) (drop first ss) (subst AreStored (sym cut) kept.own)
 
     decodes_from : DecodeUnder labels config (drop first ss)
     decodes_from = (decodes_split known config (take first ss) (drop first ss) (docs_in known ss) (subst (λ (l : List Records). Decodes known config l (docs_in known ss)) (sym cut) kept.decoded)).1
@@ -184,6 +185,6 @@ module _ (config : Config) (labels : Shown (List (List ℕ))) (ss : List Records
           decoded = subst (DecodeUnder note config) (sym is) (subst (λ (s : List (ℕ × List (List ℕ))). DecodeUnder (record labels { seen = s }) config (drop first ss)) (sym sees) decodes_from);
           after = subst (λ (n : ℕ). ComeAfter n (docs_under note range) all) (sym size) (subst (λ (rs : List Records). ComeAfter (length (records_in (take first ss))) (docs_under note rs) all) (sym is)
               (subst (λ (s : List (ℕ × List (List ℕ))). ComeAfter (length (records_in (take first ss))) (docs_in (labels_of s) (drop first ss)) all) (sym sees) after_from));
-          own = subst AreOwn (sym is) own_from;
+          own = subst AreStored (sym is) own_from;
           some = subst (λ (rs : List Records). 0 < length rs → 0 < length (records_in rs)) (sym is) (some_records (drop first ss) own_from);
         }

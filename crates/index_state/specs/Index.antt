@@ -1,12 +1,11 @@
 -- The index as contracts see it, and the history that it represents.
 use Rattle.std.specs.Prelude.{◌≡◌, ◌++◌, ◌+◌, ℕ, nat_lt, if◌then◌else◌, List, [], ◌∷◌, length, map, IsTrue}
-use Rattle.std.specs.List.{AllByRecursion, list_all}
+use Rattle.std.specs.List.{list_all}
 use mathlib.Core.List.{IsPrefix}
 use Rattle.facet_model.specs.Documents.{Doc}
 use Rattle.facet_model.specs.Flags.{Config}
 use Rattle.facet_model.specs.Histories.{Operation, add, docs, brought, knows, is_add}
 use Rattle.facet_model.specs.Stored.{Records, Decodes}
-use Rattle.seg_grammar.specs.Spelling.{seg_bytes, IsSegment}
 use Rattle.seg_terms.specs.declared.entry.Entry.{Entry}
 use Rattle.seg_documents.specs.Decoding.{docs_in}
 use Rattle.seg_documents.specs.Entries.{docs_of}
@@ -34,10 +33,6 @@ docs_under labels segments = docs_in (labels_of labels.seen) segments
 -- segments decode to these documents under the labels that were seen
 abbrev pub DecodeUnder : Shown (List (List ℕ)) → Config → List Records → Type 0
 DecodeUnder labels config segments = Decodes (labels_of labels.seen) config segments (docs_under labels segments)
-
--- each segment is read from its own bytes
-abbrev pub AreOwn : List Records → Type 0
-AreOwn segments = AllByRecursion (λ s. IsSegment (seg_bytes s) s) segments
 
 -- the index of these segments and of these documents that wait
 abbrev pub index_of : List Records → List Entry → List ℕ → Config → ℕ → Shown (List (List ℕ)) → Index

@@ -4,9 +4,10 @@ use mathlib.Core.List.{IsPrefix}
 use Rattle.facet_model.specs.Documents.{Doc}
 use Rattle.facet_model.specs.Stored.{Records, live_before}
 use Rattle.seg_documents.specs.Decoding.{records_in}
+use Rattle.seg_documents.specs.Storing.{AreStored}
 use Rattle.chronicle.specs.Shown.{Shown, IsNoteOf}
 use Rattle.taxo_cache.specs.Seen.{SeesLabels}
-use Rattle.index_state.specs.Index.{Index, DecodeUnder, AreOwn, docs_under}
+use Rattle.index_state.specs.Index.{Index, DecodeUnder, docs_under}
 
 -- how many documents each segment has, those that are not live left out
 abbrev pub live_sizes : List Records → List ℕ
@@ -24,7 +25,7 @@ pub record IsRangeOf (index : Index) (first : ℕ) (labels : Shown (List (List �
   pub list : SeesLabels labels
   pub decoded : DecodeUnder labels index.config range
   pub after : ComeAfter before (docs_under labels range) index.docs
-  pub own : AreOwn range
+  pub own : AreStored range
   pub some : 0 < length range → 0 < length (records_in range)
 
 -- Neighbours among segments have so many documents, and so many come before theirs.

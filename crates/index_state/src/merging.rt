@@ -4,8 +4,8 @@ ghost use Rattle.std.specs.Arc.{arc_value};
 ghost use Rattle.facet_model.specs.Documents.{Doc};
 ghost use Rattle.facet_model.specs.Flags.{Config};
 ghost use Rattle.facet_model.specs.Stored.{Decodes};
-ghost use Rattle.seg_grammar.specs.Spelling.{IsSegment, seg_bytes};
 ghost use Rattle.seg_documents.specs.Decoding.{records_in};
+ghost use Rattle.seg_documents.specs.Storing.{IsStored};
 ghost use Rattle.seg_merge.specs.Merged.{IsMergeOf};
 ghost use Rattle.index_state.specs.Merging.{live_sizes};
 
@@ -45,7 +45,7 @@ pub fn merge_segments(
     ensures merge { IfOk result (λ m. IsMergeOf (map arc_value segments.now) (arc_value m)) }
     ensures documents { IfOk result (λ m. (known : List (List (List ℕ))) (config : Config) (docs : List Doc)
         → Decodes known config (map arc_value segments.now) docs → Decodes known config (arc_value m ∷ []) docs) }
-    ensures own { IfOk result (λ m. IsSegment (seg_bytes (arc_value m)) (arc_value m)) }
+    ensures own { IfOk result (λ m. IsStored (arc_value m)) }
 {
     let merged = seg_merge::merge(alloc, keys, segments)?;
     Ok(Arc::new(alloc, merged)?)

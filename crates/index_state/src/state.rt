@@ -5,12 +5,12 @@ ghost use mathlib.Core.List.{IsPrefix};
 ghost use Rattle.facet_model.specs.Histories.{Operation as Entered, opened};
 ghost use Rattle.facet_model.specs.Stored.{Decodes};
 ghost use Rattle.chronicle.specs.Shown.{IsNoteOf, SameToken, SeesOn};
-ghost use Rattle.seg_grammar.specs.Spelling.{IsSegment, seg_bytes};
 ghost use Rattle.seg_documents.specs.Decoding.{records_in};
 ghost use Rattle.seg_documents.specs.Entries.{IsEntry};
+ghost use Rattle.seg_documents.specs.Storing.{IsStored, AreStored};
 ghost use Rattle.merge_policy.specs.Tiers.{first_small};
 ghost use Rattle.taxo_cache.specs.Seen.{labels_of, SeesLabels};
-ghost use Rattle.index_state.specs.Index.{StandsFor, StandsForMore, docs_under, DecodeUnder, AreOwn};
+ghost use Rattle.index_state.specs.Index.{StandsFor, StandsForMore, docs_under, DecodeUnder};
 ghost use Rattle.index_state.specs.Index.{IsAppended, IsFlushed};
 ghost use Rattle.index_state.specs.Kept.{IsFirst};
 ghost use Rattle.index_state.specs.Merging.{live_sizes, ComeAfter, IsRangeOf, HasNoPlace, IsInstalled};
@@ -120,7 +120,7 @@ impl IndexState {
         requires note { (labels.is_note ≡ true) × (labels.holds_turn ≡ false) }
         requires labels { SeesLabels labels }
         requires decodes { DecodeUnder labels (arc_value config) (map arc_value segments.items) }
-        requires own { AreOwn (map arc_value segments.items) }
+        requires own { AreStored (map arc_value segments.items) }
         requires few { length (docs_under labels (map arc_value segments.items)) ≤ 1000000 }
         requires most { max_docs ≤ 1000000 }
         ensures docs { IfOk result (λ s. s.docs ≡ docs_under labels (map arc_value segments.items)) }
@@ -211,7 +211,7 @@ impl IndexState {
         ensures labels { IfOk result (λ v. SeesLabels v.labels) }
         ensures decodes { IfOk result
             (λ v. Decodes (labels_of v.labels.seen) self.old.config v.segments self.old.docs) }
-        ensures own { IfOk result (λ v. AreOwn v.segments) }
+        ensures own { IfOk result (λ v. AreStored v.segments) }
     {
         self.flush()?;
         let segments = share_all(&mut self.shared, &self.segments)?;
@@ -231,7 +231,7 @@ impl IndexState {
         requires decodes { DecodeUnder self.old.labels self.old.config (arc_value merged ∷ []) }
         requires same { docs_under self.old.labels (arc_value merged ∷ [])
             ≡ docs_under self.old.labels (take count (drop first self.old.segments)) }
-        requires own { IsSegment (seg_bytes (arc_value merged)) (arc_value merged) }
+        requires own { IsStored (arc_value merged) }
         ensures list { self.new.segments ≡ take first self.old.segments
             ++ arc_value merged ∷ drop (first + count) self.old.segments }
         ensures rest { self.new ≡ record self.old { segments = self.new.segments } }
@@ -294,7 +294,7 @@ impl IndexState {
     fn install_at(&mut self, before: u64, merged: Arc<Segment>) -> bool
         requires decodes { DecodeUnder self.old.labels self.old.config (arc_value merged ∷ []) }
         requires docs { ComeAfter before (docs_under self.old.labels (arc_value merged ∷ [])) self.old.docs }
-        requires own { IsSegment (seg_bytes (arc_value merged)) (arc_value merged) }
+        requires own { IsStored (arc_value merged) }
         ensures rest { self.new ≡ record self.old { segments = self.new.segments } }
         ensures installed { result ≡ true → IsInstalled before (arc_value merged) self.old.segments self.new.segments }
         ensures none { result ≡ false → (self.new.segments ≡ self.old.segments)
@@ -334,7 +334,7 @@ impl IndexState {
         requires list { SeesLabels labels }
         requires decodes { DecodeUnder labels self.old.config (arc_value merged ∷ []) }
         requires docs { ComeAfter before (docs_under labels (arc_value merged ∷ [])) self.old.docs }
-        requires read { IsSegment (seg_bytes (arc_value merged)) (arc_value merged) }
+        requires read { IsStored (arc_value merged) }
         ensures rest { self.new ≡ record self.old { segments = self.new.segments; labels = self.new.labels } }
         ensures same { SameToken self.old.labels self.new.labels }
         ensures more { SeesOn self.old.labels self.new.labels }
@@ -354,7 +354,7 @@ impl IndexState {
         ensures decodes { IfOk result (λ m. DecodeUnder self.now.labels self.now.config (arc_value m ∷ [])) }
         ensures same { IfOk result (λ m. docs_under self.now.labels (arc_value m ∷ [])
             ≡ docs_under self.now.labels self.now.segments) }
-        ensures own { IfOk result (λ m. IsSegment (seg_bytes (arc_value m)) (arc_value m)) }
+        ensures own { IfOk result (λ m. IsStored (arc_value m)) }
     {
         merge_segments(self.alloc, self.keys, &self.segments)
     }
@@ -389,7 +389,7 @@ impl IndexState {
         ensures first { IsPrefix (docs_under self.now.labels self.now.segments) self.now.docs }
         ensures decodes { DecodeUnder self.now.labels self.now.config self.now.segments }
         ensures few { length (docs_under self.now.labels self.now.segments) ≤ 1000000 }
-        ensures own { AreOwn self.now.segments }
+        ensures own { AreStored self.now.segments }
         ensures labels { SeesLabels self.now.labels }
     {
         &self.segments

@@ -29,10 +29,6 @@ pub on_ok : {T E P : Type 0} (r : Result T E) → P → OnOk r P
 on_ok (Ok _) p = p
 on_ok (Err _) p = tt
 
-pub if_any : {T E : Type 0} {P : Type 0} (r : Result T E) → P → IfOk r (λ _. P)
-if_any (Ok _) p = p
-if_any (Err _) p = tt
-
 pub if_both : {T E : Type 0} (r : Result T E) (P Q R : T → Type 0) → ((x : T) → P x → Q x → R x) → IfOk r P → IfOk r Q → IfOk r R
 if_both (Ok x) P Q R more p q = more x p q
 if_both (Err _) P Q R more p q = tt

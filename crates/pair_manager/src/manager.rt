@@ -1,23 +1,22 @@
 ghost use Rattle.std.specs.Prelude.{◌≡◌, ◌≢◌, ◌<◌, ◌≤◌, ◌++◌, ◌∷◌, [], false, true, ℕ, List, IfOk, IfErr, OnOk, OnErr};
-ghost use Rattle.std.specs.Prelude.{flat_map, length, map, take, IsTrue};
-ghost use Rattle.std.specs.List.{list_all};
+ghost use Rattle.std.specs.Prelude.{flat_map, length, map, take};
 ghost use Rattle.std.specs.Arc.{arc_value};
 ghost use mathlib.Core.List.{IsPrefix};
 ghost use Rattle.facet_names.specs.Labels.{prefixes};
 ghost use Rattle.facet_model.specs.ConfigTexts.{config_texts};
 ghost use Rattle.facet_model.specs.CountedPaths.{AreResolved};
 ghost use Rattle.facet_model.specs.Flags.{Config};
-ghost use Rattle.facet_model.specs.Histories.{add, is_add, docs, opened};
+ghost use Rattle.facet_model.specs.Histories.{add, docs, opened};
 ghost use Rattle.facet_model.specs.Stored.{Decodes};
 ghost use Rattle.chronicle.specs.History.{entries};
 ghost use Rattle.chronicle.specs.Shown.{mine, MayEnter, MayTake, SameToken, SeesOn, EntersBehind};
-ghost use Rattle.seg_grammar.specs.Spelling.{IsSegment, seg_bytes};
 ghost use Rattle.seg_documents.specs.Decoding.{records_in};
 ghost use Rattle.seg_documents.specs.Entries.{IsEntry};
+ghost use Rattle.seg_documents.specs.Storing.{IsStored, AreStored};
 ghost use Rattle.taxo_cache.specs.Seen.{labels_of, SeesLabels};
 ghost use Rattle.taxo_list.specs.declared.fault.TaxoFault.TheVariants.{NoMemory as ListNoMemory};
 ghost use Rattle.taxo_adding.specs.Several.{AddsInTurn, IsFullForOne};
-ghost use Rattle.index_state.specs.Index.{docs_under, DecodeUnder, AreOwn};
+ghost use Rattle.index_state.specs.Index.{docs_under, DecodeUnder};
 ghost use Rattle.index_state.specs.Frames.{index_frame};
 ghost use Rattle.index_state.specs.declared.fault.AppendFault.TheVariants.{DocsFull};
 ghost use Rattle.pair_manager.specs.Published.{ArePublications, publication_of, frame_of, pair_frame, StandsFor};
@@ -102,7 +101,7 @@ impl<N: Name> Manager<N> {
         requires list { SeesLabels labels.old }
         requires view { view ≡ labels_of labels.old.seen }
         requires decodes { DecodeUnder labels.old (arc_value config) (map arc_value segments.items) }
-        requires read { AreOwn (map arc_value segments.items) }
+        requires read { AreStored (map arc_value segments.items) }
         requires few { length (docs_under labels.old (map arc_value segments.items)) ≤ 1000000 }
         requires most { max_docs ≤ 1000000 }
         ensures labels { labels.new ≡ labels.old }
@@ -168,10 +167,9 @@ impl<N: Name> Manager<N> {
         ensures operations { IfOk result (λ v. v.operations ≡ length token.new.seen) }
         ensures documents { IfOk result (λ v. v.documents ≡ length (docs (entries token.new.seen))) }
         ensures covers { IfOk result (λ v. CoversAll v.labels token.new) }
-        ensures adds { IfOk result (λ v. IsTrue (list_all (λ o. is_add o.change) (entries token.new.seen))) }
         ensures decodes { IfOk result (λ v. (config : Config) → config_texts config ≡ token.old.frame.texts
             → Decodes (labels_of v.labels.seen) config v.segments (docs (entries token.new.seen))) }
-        ensures read { IfOk result (λ v. AreOwn v.segments) }
+        ensures read { IfOk result (λ v. AreStored v.segments) }
     {
         let mut index = self.operations.take(rt, token);
         let view = index.snapshot(self.writer.labels());
@@ -219,7 +217,7 @@ impl<N: Name> Manager<N> {
         requires tied { token.old.frame.identities ≡ self.now.writer.labels ∷ [] }
         requires note { labels.holds_turn ≡ false }
         requires shared { AreShared self.now.writer.labels token.old labels before (arc_value merged ∷ []) }
-        requires read { IsSegment (seg_bytes (arc_value merged)) (arc_value merged) }
+        requires read { IsStored (arc_value merged) }
         ensures token { SameToken token.old token.new × (token.new.holds_turn ≡ false) }
         ensures more { SeesOn token.old token.new }
         ensures replaced { OnOk result (IsReplacedIn scope before (arc_value merged) (entries token.new.seen)) }

@@ -3,7 +3,7 @@
 ghost use Rattle.std.specs.Prelude.{◌≡◌, ◌≤◌, ◌⊎◌, false, [], ◌∷◌, List, IfOk, OnOk, length, map};
 ghost use Rattle.std.specs.Arc.{arc_value};
 ghost use Rattle.facet_model.specs.Histories.{Operation as Entered};
-ghost use Rattle.seg_grammar.specs.Spelling.{IsSegment, seg_bytes};
+ghost use Rattle.seg_documents.specs.Storing.{IsStored};
 ghost use Rattle.taxo_cache.specs.Seen.{SeesLabels};
 ghost use Rattle.index_state.specs.Index.{StandsFor, DecodeUnder, docs_under, IsFlushed};
 ghost use Rattle.index_state.specs.Frames.{frame_of};
@@ -72,7 +72,7 @@ pub(crate) fn replace(
     requires list { SeesLabels labels }
     requires decodes { DecodeUnder labels index.old.config (arc_value merged ∷ []) }
     requires docs { ComeAfter before (docs_under labels (arc_value merged ∷ [])) index.old.docs }
-    requires read { IsSegment (seg_bytes (arc_value merged)) (arc_value merged) }
+    requires read { IsStored (arc_value merged) }
     ensures stands { (history : List Entered) → StandsFor index.old history → StandsFor index.new history }
     ensures frame { frame_of index.new ≡ frame_of index.old }
     ensures replaced { OnOk result (IsReplaced scope before (arc_value merged) index.old index.new) }

@@ -3,10 +3,11 @@ ghost use Rattle.std.specs.Prelude.{◌≡◌, ◌≤◌, [], ◌∷◌, IfOk, l
 ghost use Rattle.std.specs.Arc.{arc_value};
 ghost use Rattle.facet_model.specs.Histories.{docs, opened};
 ghost use Rattle.facet_model.specs.Stored.{Decodes};
+ghost use Rattle.seg_documents.specs.Storing.{AreStored};
 ghost use Rattle.chronicle.specs.History.{entries, numbered};
 ghost use Rattle.chronicle.specs.Shown.{MayTake};
 ghost use Rattle.taxo_cache.specs.Seen.{labels_of, SeesLabels};
-ghost use Rattle.index_state.specs.Index.{StandsFor, docs_under, DecodeUnder, AreOwn};
+ghost use Rattle.index_state.specs.Index.{StandsFor, docs_under, DecodeUnder};
 ghost use Rattle.index_state.specs.Frames.{index_frame, frame_of};
 ghost use Rattle.pair_manager.specs.Kept.{CoversAll};
 ghost use Rattle.pair_manager.specs.Passes.{IsFirst};
@@ -42,7 +43,7 @@ pub fn open_index(
     requires own { labels.old.identity ≡ chronicle.now }
     requires list { SeesLabels labels.old }
     requires decodes { DecodeUnder labels.old (arc_value config.now) (map arc_value segments.items) }
-    requires read { AreOwn (map arc_value segments.items) }
+    requires read { AreStored (map arc_value segments.items) }
     requires few { length (docs_under labels.old (map arc_value segments.items)) ≤ 1000000 }
     requires most { max_docs ≤ 1000000 }
     ensures labels { labels.new ≡ labels.old }
@@ -155,7 +156,7 @@ pub fn open_both<N: Name>(
     requires list { SeesLabels labels.old }
     requires view { view ≡ labels_of labels.old.seen }
     requires decodes { DecodeUnder labels.old (arc_value config) (map arc_value segments.items) }
-    requires read { AreOwn (map arc_value segments.items) }
+    requires read { AreStored (map arc_value segments.items) }
     requires few { length (docs_under labels.old (map arc_value segments.items)) ≤ 1000000 }
     requires most { max_docs ≤ 1000000 }
     ensures labels { labels.new ≡ labels.old }

@@ -16,8 +16,9 @@ use Rattle.facet_model.specs.Flags.{Config}
 use Rattle.facet_model.specs.Stored.{Stored, Records, AreLabelsAt, IsRecordOf, IsSegmentOf}
 use Rattle.facet_model.specs.Terms.{terms_of}
 use Rattle.seg_grammar.specs.Reading.{head_at}
-use Rattle.seg_grammar.specs.Spelling.{record_bytes, term_bytes, seg_bytes, IsSegment}
+use Rattle.seg_grammar.specs.Spelling.{record_bytes, term_bytes, seg_bytes, all_live, IsSegment}
 use Rattle.seg_grammar.proofs.Again.{number_again, segment_again}
+use Rattle.seg_file.proofs.Live.{same_bytes}
 use Rattle.seg_decoding.specs.Answers.{IsLeaf}
 use Rattle.seg_documents.specs.Decoding.{doc_in}
 use Rattle.seg_decoding.specs.Opening.{head_fits, opened, counted_anew, rebuilt, first_difference, stored_segment}
@@ -75,10 +76,13 @@ module _ (config : Config) (known : Labels) (needs : ℕ) where
   all_anew (r ∷ rs) [] all = absurd all
   all_anew (r ∷ rs) (d ∷ ds) all = λ i. anew r d all.0 i ∷ all_anew rs ds all.1 i
 
-  pub rebuilt_is : (s : Records) (docs : List Doc) → s.dead ≡ [] → IsSegmentOf known config s docs → rebuilt config known s.records ≡ s
-  rebuilt_is s docs live of =
+  rebuilt_is : (s : Records) (docs : List Doc) → IsSegmentOf known config s docs → rebuilt config known s.records ≡ all_live s
+  rebuilt_is s docs of =
       let same : map (doc_in known) s.records ≡ docs = all_zip_is (IsRecordOf known config) (doc_in known) (record_is known config) s.records docs of.records in
-      λ i. record { records = all_anew s.records docs of.records i; terms = (ap terms_of same ∙ sym of.terms) i; dead = sym live i }
+      λ i. record { records = all_anew s.records docs of.records i; terms = (ap terms_of same ∙ sym of.terms) i; dead = [] }
+
+  same_rebuilt : (s : Records) (docs : List Doc) → IsSegmentOf known config s docs → first_difference (seg_bytes s) (seg_bytes (rebuilt config known s.records)) ≡ None
+  same_rebuilt s docs of = ap (first_difference (seg_bytes s)) (ap seg_bytes (rebuilt_is s docs of) ∙ same_bytes s []) ∙ none_from_same (seg_bytes s) 0
 
   fit : IsLabelList known → (rs : List Stored) (docs : List Doc) → AllZip (IsRecordOf known config) rs docs → AllByRecursion (λ r. AllByRecursion (λ leaf. leaf < needs) r.leaves) rs → AllByRecursion (Fits config known needs) rs
   fit list [] [] all low = tt
@@ -96,10 +100,9 @@ module _ (config : Config) (known : Labels) (needs : ℕ) where
       both [] a b = tt
       both (leaf ∷ leaves) a b = ((a.0.0, b.0), both leaves a.1 b.1)
 
-  pub opened_again : IsLabelList known → (s : Records) (docs : List Doc) → IsSegmentOf known config s docs → IsSegment (seg_bytes s) s → AllByRecursion (λ r. AllByRecursion (λ leaf. leaf < needs) r.leaves) s.records → stored_segment config known needs (length s.records) (seg_bytes s) ≡ Ok s
+  pub opened_again : IsLabelList known → (s : Records) (docs : List Doc) → IsSegmentOf known config s docs → IsSegment (seg_bytes s) (all_live s) → AllByRecursion (λ r. AllByRecursion (λ leaf. leaf < needs) r.leaves) s.records → stored_segment config known needs (length s.records) (seg_bytes s) ≡ Ok (all_live s)
   unfolding stored_segment opened
   opened_again list s docs of is low =
       let few : length s.records < 2 ^ 32 = omega (arith, is.few) in
       let fits = documents_fit_where config known needs 12 s.records (fit list s.records docs of.records low) in
-      let same : first_difference (seg_bytes s) (seg_bytes (rebuilt config known s.records)) ≡ None = ap (λ (x : Records). first_difference (seg_bytes s) (seg_bytes x)) (rebuilt_is s docs is.live of) ∙ none_from_same (seg_bytes s) 0 in
-      rw (head_of (length s.records) s few, eq-eqb (length s.records) (length s.records) refl, segment_again (seg_bytes s) s is, fits, same) refl
+      rw (head_of (length s.records) s few, eq-eqb (length s.records) (length s.records) refl, segment_again (seg_bytes s) (all_live s) is, fits, same_rebuilt s docs of) refl

@@ -5,7 +5,7 @@ use Rattle.facet_names.specs.Labels.{GoesOn, IsLabelList}
 use Rattle.facet_model.specs.Documents.{Doc}
 use Rattle.facet_model.specs.Flags.{Config}
 use Rattle.facet_model.specs.Stored.{Records, IsSegmentOf, Decodes}
-use Rattle.seg_grammar.specs.Spelling.{seg_bytes, IsSegment}
+use Rattle.seg_grammar.specs.Spelling.{seg_bytes, all_live, IsSegment}
 use Rattle.seg_decoding.specs.Answers.{IsLeaf}
 use Rattle.seg_documents.specs.Decoding.{docs_in}
 use Rattle.seg_decoding.specs.Opening.{stored_segment}
@@ -16,19 +16,21 @@ OpensOnly config known needs documents bytes s = IsBytes bytes
     → stored_segment config known needs documents bytes ≡ Ok s → IsSegment bytes s
     × (length s.records ≡ documents) × All (λ r. All (IsLeaf needs) r.leaves) s.records
 
--- A segment of documents, whose leaves are all below `needs`, is opened again.
+-- A segment of documents, whose leaves are all below `needs`, is opened again. The bytes do not tell which records are
+-- live, so all of them are.
 abbrev pub OpensAgain : Config → List (List (List ℕ)) → ℕ → Records → Type 0
 OpensAgain config known needs s = (docs : List Doc) → IsLabelList known → IsSegmentOf known config s docs
-    → IsSegment (seg_bytes s) s
+    → IsSegment (seg_bytes s) (all_live s)
     → All (λ r. All (λ leaf. leaf < needs) r.leaves) s.records
-    → stored_segment config known needs (length s.records) (seg_bytes s) ≡ Ok s
+    → stored_segment config known needs (length s.records) (seg_bytes s) ≡ Ok (all_live s)
 
 -- A segment of documents under one list of labels, all of which it needs, is opened under each list that goes on from
--- it.
+-- it. All records are live.
 abbrev pub OpensLater : Config → List (List (List ℕ)) → List (List (List ℕ)) → Records → Type 0
 OpensLater config view known s = (docs : List Doc) → IsLabelList view → IsLabelList known → GoesOn view known
     → IsSegmentOf view config s docs
-    → IsSegment (seg_bytes s) s → stored_segment config known (length view) (length s.records) (seg_bytes s) ≡ Ok s
+    → IsSegment (seg_bytes s) (all_live s)
+    → stored_segment config known (length view) (length s.records) (seg_bytes s) ≡ Ok (all_live s)
 
 -- Bytes are opened as they were where the list of labels goes on.
 abbrev pub OpensAlike : Config → List (List (List ℕ)) → List (List (List ℕ)) → Type 0

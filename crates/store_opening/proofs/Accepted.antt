@@ -1,19 +1,14 @@
--- What is true of the segments that an accepted commit names.
+-- What is true of the segments that an accepted commit of the taxonomy names.
 use Rattle.std.proofs.Common.{◌≡◌, ℕ, zero, suc, ◌+◌, ◌≤◌, Bool, true, false, List, [], ◌∷◌, Ok, refl, sym, ap, subst, ◌∙◌, arith, nat_lt, not}
 use Rattle.std.specs.Prelude.{◌==◌, ◌&&◌}
-use Rattle.std.specs.List.{sum_by}
 use Rattle.std.proofs.lemmas.Bool.{ltb-false, eqb-true}
-use Rattle.std.proofs.lemmas.List.Sums.{sum_by-cons}
 use Rattle.facet_codec.specs.Places.{Place}
-use Rattle.facet_codec.specs.Reading.{◌>>=◌, u32_at, u64_at, vint_at}
+use Rattle.facet_codec.specs.Reading.{◌>>=◌, u32_at, u64_at}
 use Rattle.facet_codec.proofs.Taking.{done, done_is, bind_ok, guard_ok, guard_yes}
 use Rattle.commit_file.specs.declared.fault.FileFault.{FileFault}
 use Rattle.commit_file.specs.declared.taxonomy.LabelPart.{LabelPart}
-use Rattle.commit_file.specs.declared.index.DocumentPart.{DocumentPart}
-use Rattle.commit_file.specs.Commits.{TaxonomyListing, IndexListing, AreInOrder, end_of, documents_of, with_documents}
-use Rattle.commit_file.specs.Reading.{told, unsealed, head_at, some_at, digest_at, each_at, ended, labels_at, first_at, count_at, label_part_at, label_parts_at, taxonomy_at, taxonomy_commit, documents_at, document_part_at, document_parts_at, declarations_at, index_at, index_commit}
-
--- ---- the taxonomy
+use Rattle.commit_file.specs.Commits.{TaxonomyListing, AreInOrder, end_of}
+use Rattle.commit_file.specs.Reading.{told, unsealed, head_at, some_at, digest_at, each_at, ended, labels_at, first_at, count_at, label_part_at, label_parts_at, taxonomy_at, taxonomy_commit}
 
 labels_few : (p : Place) (n : ℕ × Place) → labels_at p ≡ Ok n → n.0 ≤ 1000000
 unfolding labels_at
@@ -93,68 +88,15 @@ pub taxonomy_accepted : (number : ℕ) (bytes : List ℕ) (c : TaxonomyListing) 
 unfolding taxonomy_commit taxonomy_at
 taxonomy_accepted number bytes c e =
     let body = bind_ok (unsealed bytes) _ c e in
-    let start = bind_ok (head_at 0x4654434d number (record { at = 0; rest = body.0 })) _ c body.2 in
-    let labels = bind_ok (labels_at start.0)
+    let start = bind_ok (head_at 0x4654434d 1 number (record { at = 0; rest = body.0 })) _ c body.2 in
+    let labels = bind_ok (labels_at start.0.1)
     (λ labels. some_at labels.1 >>= λ n. label_parts_at labels.0 n.0 n.1 >>= λ parts. ended (record { labels = labels.0; parts = parts.0 }) parts.1) c start.2 in
     let n = bind_ok (some_at labels.0.1) (λ n. label_parts_at labels.0.0 n.0 n.1 >>= λ parts. ended (record { labels = labels.0.0; parts = parts.0 }) parts.1) c labels.2 in
     let parts = bind_ok (label_parts_at labels.0.0 n.0.0 n.0.1) (λ parts. ended (record { labels = labels.0.0; parts = parts.0 }) parts.1) c n.2 in
     let made = ended_is (record { labels = labels.0.0; parts = parts.0.0 }) c parts.0.1 parts.2 in
     let ordered = by labels.0.0 n.0.0 (some_one labels.0.1 n.0 n.1) n.0.1 parts.0 parts.1 in
-    subst (λ (x : TaxonomyListing). (x.labels ≤ 1000000) × AreInOrder x.labels 1 x.parts) {x = record { labels = labels.0.0; parts = parts.0.0 }} {y = c} made (labels_few start.0 labels.0 labels.1, ordered)
+    subst (λ (x : TaxonomyListing). (x.labels ≤ 1000000) × AreInOrder x.labels 1 x.parts) {x = record { labels = labels.0.0; parts = parts.0.0 }} {y = c} made (labels_few start.0.1 labels.0 labels.1, ordered)
   where
     by : (total n : ℕ) → (n ≡ 0 → ⊥) → (p : Place) (x : List LabelPart × Place) → label_parts_at total n p ≡ Ok x → AreInOrder total 1 x.0
     by total zero some p x e = absurd (some refl)
     by total (suc m) some p x e = in_order total m 1 p x e
-
--- ---- the index
-
-documents_few : (before : ℕ) (p : Place) (n : ℕ × Place) → documents_at before p ≡ Ok n → before + n.0 ≤ 1000000
-unfolding documents_at
-documents_few before p n e =
-    let a = bind_ok (told (u32_at p)) _ n e in
-    let b = guard_ok (nat_lt 1000000 (before + a.0.0)) _ _ n a.2 in
-    let same : a.0 ≡ n = done_is FileFault a.0 n b.1 in
-    let low = ltb-false 1000000 (before + a.0.0) b.0 in
-    omega (arith, low, ap (λ (x : ℕ × Place). x.0) same)
-
-part_few : (before : ℕ) (p : Place) (x : DocumentPart × Place) → document_part_at before p ≡ Ok x → before + x.0.documents ≤ 1000000
-unfolding document_part_at
-part_few before p x e =
-    let a = bind_ok (told (u64_at p)) _ x e in
-    let b = bind_ok (documents_at before a.0.1) (λ documents. digest_at documents.1 >>= λ digest. done (record { number = a.0.0; documents = documents.0; digest = digest.0 }, digest.1)) x a.2 in
-    let d = bind_ok (digest_at b.0.1) (λ digest. done (record { number = a.0.0; documents = b.0.0; digest = digest.0 }, digest.1)) x b.2 in
-    let made = done_is FileFault (record { number = a.0.0; documents = b.0.0; digest = d.0.0 }, d.0.1) x d.2 in
-    subst (λ (y : DocumentPart × Place). before + y.0.documents ≤ 1000000) {x = (record { number = a.0.0; documents = b.0.0; digest = d.0.0 }, d.0.1)} {y = x} made (documents_few before a.0.1 b.0 b.1)
-
-one_part : (before documents behind : ℕ) → before + documents + behind ≤ 1000000 → before + (documents + behind) ≤ 1000000
-one_part before documents behind low = omega (arith, low)
-
-parts_few : (n before : ℕ) (p : Place) (x : List DocumentPart × Place) → before ≤ 1000000 → each_at (λ _. document_part_at) with_documents n before p ≡ Ok x → before + sum_by documents_of x.0 ≤ 1000000
-unfolding each_at
-parts_few zero before p x low e =
-    let made = done_is FileFault ([], p) x e in
-    subst (λ (y : List DocumentPart × Place). before + sum_by documents_of y.0 ≤ 1000000) made (omega (arith, low))
-parts_few (suc n) before p x low e =
-    let a = bind_ok (document_part_at before p) _ x e in
-    let b = bind_ok (each_at (λ _. document_part_at) with_documents n (with_documents before a.0.0) a.0.1) (λ others. done (a.0.0 ∷ others.0, others.1)) x a.2 in
-    let made = done_is FileFault (a.0.0 ∷ b.0.0, b.0.1) x b.2 in
-    let rest = parts_few n (before + a.0.0.documents) a.0.1 b.0 (part_few before p a.0 a.1) b.1 in
-    subst (λ (y : List DocumentPart × Place). before + sum_by documents_of y.0 ≤ 1000000) {x = (a.0.0 ∷ b.0.0, b.0.1)} {y = x} made
-    (subst (λ (m : ℕ). before + m ≤ 1000000) {x = documents_of a.0.0 + sum_by documents_of b.0.0} {y = sum_by documents_of (a.0.0 ∷ b.0.0)} (sym (sum_by-cons documents_of a.0.0 b.0.0)) (one_part before a.0.0.documents (sum_by documents_of b.0.0) rest))
-
-pub index_accepted : (number : ℕ) (bytes : List ℕ) (c : IndexListing) → index_commit number bytes ≡ Ok c → sum_by documents_of c.parts ≤ 1000000
-unfolding index_commit index_at
-index_accepted number bytes c e =
-    let body = bind_ok (unsealed bytes) _ c e in
-    let start = bind_ok (head_at 0x4649434d number (record { at = 0; rest = body.0 })) _ c body.2 in
-    let needs = bind_ok (told (u32_at start.0)) (λ needs. told (vint_at needs.1) >>= λ declared. declarations_at declared.0 declared.1 >>= λ kept. some_at kept.1
-    >>= λ n. document_parts_at n.0 n.1 >>= λ parts. ended (record { needs = needs.0; kept = kept.0; parts = parts.0 }) parts.1) c start.2 in
-    let declared = bind_ok (told (vint_at needs.0.1)) (λ declared. declarations_at declared.0 declared.1 >>= λ kept. some_at kept.1
-    >>= λ n. document_parts_at n.0 n.1 >>= λ parts. ended (record { needs = needs.0.0; kept = kept.0; parts = parts.0 }) parts.1) c needs.2 in
-    let kept = bind_ok (declarations_at declared.0.0 declared.0.1) (λ kept. some_at kept.1
-    >>= λ n. document_parts_at n.0 n.1 >>= λ parts. ended (record { needs = needs.0.0; kept = kept.0; parts = parts.0 }) parts.1) c declared.2 in
-    let n = bind_ok (some_at kept.0.1) (λ n. document_parts_at n.0 n.1 >>= λ parts. ended (record { needs = needs.0.0; kept = kept.0.0; parts = parts.0 }) parts.1) c kept.2 in
-    let parts = bind_ok (document_parts_at n.0.0 n.0.1) (λ parts. ended (record { needs = needs.0.0; kept = kept.0.0; parts = parts.0 }) parts.1) c n.2 in
-    let made = ended_is (record { needs = needs.0.0; kept = kept.0.0; parts = parts.0.0 }) c parts.0.1 parts.2 in
-    let few = parts_few n.0.0 0 n.0.1 parts.0 (omega arith) parts.1 in
-    subst (λ (x : IndexListing). sum_by documents_of x.parts ≤ 1000000) {x = record { needs = needs.0.0; kept = kept.0.0; parts = parts.0.0 }} {y = c} made (omega (arith, few))

@@ -8,13 +8,15 @@ use Rattle.std.specs.Str.{bytes_eq}
 use Rattle.sha2.specs.Sha256.{sha256}
 use Rattle.facet_codec.specs.declared.fault.CodecFault.{CodecFault}
 use Rattle.facet_codec.specs.Places.{Place}
-use Rattle.facet_codec.specs.Reading.{◌>>=◌, u8_at, u32_at, u64_at, vint_at, text_at}
+use Rattle.facet_codec.specs.Reading.{◌>>=◌, u8_at, u32_at, u64_at, vint_at, bytes_at, text_at}
 use Rattle.facet_disk.specs.declared.name.FileName.{FileName}
 use Rattle.facet_model.specs.Words.{word_cmp}
 use Rattle.commit_file.specs.declared.fault.FileFault.{FileFault}
 use Rattle.commit_file.specs.declared.fault.FileFault.TheVariants.{Damaged, Malformed, NoMemory}
-use Rattle.commit_file.specs.Commits.{end_of, with_documents}
-use Rattle.commit_file.specs.Reading.{told, word_at, number_at, head_at, some_at, digest_at, each_at, ended, body_of, digest_in, unsealed, labels_at, first_at, count_at, label_part_at, label_parts_at, taxonomy_at, taxonomy_commit, flags_of, flags_at, dim_at, declaration_at, declarations_at, documents_at, document_part_at, document_parts_at, index_at, index_commit}
+use Rattle.commit_file.specs.Commits.{end_of}
+use Rattle.commit_file.specs.LiveBits.{bits_len, dead_in, are_bits}
+use Rattle.commit_file.specs.LiveParts.{with_live}
+use Rattle.commit_file.specs.Reading.{told, word_at, number_at, version_at, head_at, some_at, digest_at, each_at, ended, body_of, digest_in, unsealed, labels_at, first_at, count_at, label_part_at, label_parts_at, taxonomy_at, taxonomy_commit, flags_of, flags_at, dim_at, declaration_at, declarations_at, part_count_at, documents_at, bits_at, live_at, live_records_at, dead_at, part_at, parts_at, index_at, index_commit}
 use Rattle.store_opening.specs.Faults.{IsSound}
 use Rattle.store_opening.specs.Files.{of_file}
 
@@ -49,9 +51,16 @@ number_sound : (number : ℕ) (p : Place) → Sound (number_at number p)
 unfolding number_at
 number_sound number p = bind_sound (told (u64_at p)) _ (told_sound (u64_at p)) (λ n. if_sound (n.0 == 0 || not (n.0 == number)) (Err (Malformed p.at)) (Ok n.1) tt tt)
 
-head_sound : (kind number : ℕ) (p : Place) → Sound (head_at kind number p)
+version_sound : (newest : ℕ) (p : Place) → Sound (version_at newest p)
+unfolding version_at
+version_sound newest p = bind_sound (told (u32_at p)) _ (told_sound (u32_at p)) (λ n. if_sound (n.0 == 0 || nat_lt newest n.0) (Err (Malformed p.at)) (Ok n) tt tt)
+
+head_sound : (kind newest number : ℕ) (p : Place) → Sound (head_at kind newest number p)
 unfolding head_at
-head_sound kind number p = bind_sound (word_at kind p) _ (word_sound kind p) (λ m. bind_sound (word_at 1 m) _ (word_sound 1 m) (λ v. number_sound number v))
+head_sound kind newest number p =
+    bind_sound (word_at kind p) _ (word_sound kind p) (λ m.
+    bind_sound (version_at newest m) _ (version_sound newest m) (λ v.
+    bind_sound (number_at number v.1) _ (number_sound number v.1) (λ start. tt)))
 
 some_sound : (p : Place) → Sound (some_at p)
 unfolding some_at
@@ -90,8 +99,8 @@ label_part_sound labels behind start p =
 body_sound : (number : ℕ) (bytes : List ℕ) → Sound (taxonomy_at number bytes)
 unfolding taxonomy_at
 body_sound number bytes =
-    bind_sound (head_at 0x4654434d number (record { at = 0; rest = bytes })) _ (head_sound 0x4654434d number _) (λ start.
-    bind_sound (labels_at start) _ (labels_sound start) (λ labels.
+    bind_sound (head_at 0x4654434d 1 number (record { at = 0; rest = bytes })) _ (head_sound 0x4654434d 1 number _) (λ start.
+    bind_sound (labels_at start.1) _ (labels_sound start.1) (λ labels.
     bind_sound (some_at labels.1) _ (some_sound labels.1) (λ n.
     bind_sound (label_parts_at labels.0 n.0 n.1) _ (each_sound (label_part_at labels.0) (λ _ part. end_of part) (label_part_sound labels.0) n.0 1 n.1) (λ parts. ended_sound _ parts.1))))
 
@@ -109,26 +118,47 @@ declaration_sound : (before : List ℕ) (p : Place) → Sound (declaration_at be
 unfolding declaration_at
 declaration_sound before p = bind_sound (dim_at before p) _ (dim_sound before p) (λ dim. bind_sound (flags_at dim.1) _ (flags_sound dim.1) (λ flags. tt))
 
-documents_sound : (before : ℕ) (p : Place) → Sound (documents_at before p)
-unfolding documents_at
-documents_sound before p = bind_sound (told (u32_at p)) _ (told_sound (u32_at p)) (λ n. if_sound (nat_lt 1000000 (before + n.0)) (Err (Malformed p.at)) (Ok n) tt tt)
+part_count_sound : (version : ℕ) (p : Place) → Sound (part_count_at version p)
+unfolding part_count_at
+part_count_sound version p = if_sound (version == 1) (some_at p) (told (u32_at p)) (some_sound p) (told_sound (u32_at p))
 
-document_part_sound : (before : ℕ) (p : Place) → Sound (document_part_at before p)
-unfolding document_part_at
-document_part_sound before p =
+documents_sound : (version before : ℕ) (p : Place) → Sound (documents_at version before p)
+unfolding documents_at
+documents_sound version before p = bind_sound (told (u32_at p)) _ (told_sound (u32_at p)) (λ n. if_sound (version == 1 && nat_lt 1000000 (before + n.0)) (Err (Malformed p.at)) (Ok n) tt tt)
+
+bits_sound : (documents live : ℕ) (p : Place) → Sound (bits_at documents live p)
+unfolding bits_at
+bits_sound documents live p = bind_sound (told (bytes_at (bits_len documents) p)) _ (told_sound _) (λ bits. if_sound (are_bits documents live bits.0) (Ok (dead_in documents bits.0, bits.1)) (Err (Malformed p.at)) tt tt)
+
+live_sound : (documents before : ℕ) (p : Place) → Sound (live_at documents before p)
+unfolding live_at
+live_sound documents before p = bind_sound (told (u32_at p)) _ (told_sound (u32_at p)) (λ n. if_sound (n.0 == 0 || (nat_lt documents n.0 || nat_lt 1000000 (before + n.0))) (Err (Malformed p.at)) (Ok n) tt tt)
+
+live_records_sound : (documents before : ℕ) (p : Place) → Sound (live_records_at documents before p)
+unfolding live_records_at
+live_records_sound documents before p = bind_sound (live_at documents before p) _ (live_sound documents before p) (λ live. if_sound (live.0 == documents) (Ok ([], live.1)) (bits_at documents live.0 live.1) tt (bits_sound documents live.0 live.1))
+
+dead_sound : (version documents before : ℕ) (p : Place) → Sound (dead_at version documents before p)
+unfolding dead_at
+dead_sound version documents before p = if_sound (version == 1) (Ok ([], p)) (live_records_at documents before p) tt (live_records_sound documents before p)
+
+part_sound : (version before : ℕ) (p : Place) → Sound (part_at version before p)
+unfolding part_at
+part_sound version before p =
     bind_sound (told (u64_at p)) _ (told_sound (u64_at p)) (λ number.
-    bind_sound (documents_at before number.1) _ (documents_sound before number.1) (λ documents.
-    bind_sound (digest_at documents.1) _ (told_sound _) (λ digest. tt)))
+    bind_sound (documents_at version before number.1) _ (documents_sound version before number.1) (λ documents.
+    bind_sound (digest_at documents.1) _ (told_sound _) (λ digest.
+    bind_sound (dead_at version documents.0 before digest.1) _ (dead_sound version documents.0 before digest.1) (λ dead. tt))))
 
 entries_sound : (number : ℕ) (bytes : List ℕ) → Sound (index_at number bytes)
 unfolding index_at
 entries_sound number bytes =
-    bind_sound (head_at 0x4649434d number (record { at = 0; rest = bytes })) _ (head_sound 0x4649434d number _) (λ start.
-    bind_sound (told (u32_at start)) _ (told_sound (u32_at start)) (λ needs.
+    bind_sound (head_at 0x4649434d 2 number (record { at = 0; rest = bytes })) _ (head_sound 0x4649434d 2 number _) (λ start.
+    bind_sound (told (u32_at start.1)) _ (told_sound (u32_at start.1)) (λ needs.
     bind_sound (told (vint_at needs.1)) _ (told_sound (vint_at needs.1)) (λ declarations.
     bind_sound (declarations_at declarations.0 declarations.1) _ (each_sound (λ _. declaration_at) (λ _ d. d.0) (λ n. declaration_sound) declarations.0 [] declarations.1) (λ kept.
-    bind_sound (some_at kept.1) _ (some_sound kept.1) (λ n.
-    bind_sound (document_parts_at n.0 n.1) _ (each_sound (λ _. document_part_at) with_documents (λ n. document_part_sound) n.0 0 n.1) (λ parts. ended_sound _ parts.1))))))
+    bind_sound (part_count_at start.0 kept.1) _ (part_count_sound start.0 kept.1) (λ n.
+    bind_sound (parts_at start.0 n.0 n.1) _ (each_sound (λ _. part_at start.0) with_live (λ n. part_sound start.0) n.0 0 n.1) (λ parts. ended_sound _ parts.1))))))
 
 -- ---- whole files
 

@@ -20,11 +20,12 @@ use Rattle.commit_calls.specs.Held.{Held, Holds, Stands, Below, NamedBelow, file
 use Rattle.commit_calls.proofs.Newest.{IsNewest, newest_there}
 use Rattle.commit_file.specs.declared.fault.FileFault.{FileFault}
 use Rattle.commit_file.specs.declared.taxonomy.LabelPart.{LabelPart}
-use Rattle.commit_file.specs.declared.index.DocumentPart.{DocumentPart}
+use Rattle.commit_file.specs.LiveParts.{LivePart}
 use Rattle.commit_file.specs.Commits.{TaxonomyListing, IndexListing}
 use Rattle.commit_file.specs.Reading.{taxonomy_commit, index_commit}
 use Rattle.label_file.specs.LabelReading.{stored_labels}
 use Rattle.seg_decoding.specs.Opening.{stored_segment}
+use Rattle.seg_file.specs.Live.{with_dead}
 use Rattle.store_opening.specs.declared.fault.OpenFault.{OpenFault}
 use Rattle.store_opening.specs.declared.fault.OpenFault.TheVariants.{Malformed}
 use Rattle.store_opening.specs.Files.{Found, Segments, segments_in, greatest_number, unspent, of_file, segment_bytes, labels_behind, labels_of, taxonomy_in, agrees, segment_of, segments_of, index_in, files, held_segments, files_of}
@@ -54,17 +55,17 @@ module _ (f g : Segments) where
       go rest (Ok longer) = rest longer
       go rest (Err e) = refl
 
-  segment_same : (config : Config) (labels : List (List (List ℕ))) (needs : ℕ) (part : DocumentPart) → f part.number ≡ g part.number → segment_of config labels needs f part ≡ segment_of config labels needs g part
+  segment_same : (config : Config) (labels : List (List (List ℕ))) (needs : ℕ) (p : LivePart) → f p.part.number ≡ g p.part.number → segment_of config labels needs f p ≡ segment_of config labels needs g p
   unfolding segment_of
-  segment_same config labels needs part same = ap (λ (o : Option (List ℕ)). segment_bytes (file Index Segment part.number) part.digest o >>= λ bytes.
-      told_as (Malformed (file Index Segment part.number)) (stored_segment config labels needs part.documents bytes)) same
+  segment_same config labels needs p same = ap (λ (o : Option (List ℕ)). segment_bytes (file Index Segment p.part.number) p.part.digest o >>= λ bytes.
+      told_as (Malformed (file Index Segment p.part.number)) (stored_segment config labels needs p.part.documents bytes) >>= λ stored. done (with_dead stored p.dead)) same
 
-  segments_same : (config : Config) (labels : List (List (List ℕ))) (needs : ℕ) (parts : List DocumentPart) → AreSame f g (map (λ part. part.number) parts) → segments_of config labels needs f parts ≡ segments_of config labels needs g parts
+  segments_same : (config : Config) (labels : List (List (List ℕ))) (needs : ℕ) (parts : List LivePart) → AreSame f g (map (λ p. p.part.number) parts) → segments_of config labels needs f parts ≡ segments_of config labels needs g parts
   unfolding segments_of
   segments_same config labels needs [] all = refl
-  segments_same config labels needs (part ∷ parts) all =
-      ap (λ (r : Result Records OpenFault). r >>= λ first. segments_of config labels needs f parts >>= λ others. Ok (first ∷ others)) (segment_same config labels needs part all.0)
-      ∙ ap (λ (r : Result (List Records) OpenFault). segment_of config labels needs g part >>= λ first. r >>= λ others. Ok (first ∷ others)) (segments_same config labels needs parts all.1)
+  segments_same config labels needs (p ∷ parts) all =
+      ap (λ (r : Result Records OpenFault). r >>= λ first. segments_of config labels needs f parts >>= λ others. Ok (first ∷ others)) (segment_same config labels needs p all.0)
+      ∙ ap (λ (r : Result (List Records) OpenFault). segment_of config labels needs g p >>= λ first. r >>= λ others. Ok (first ∷ others)) (segments_same config labels needs parts all.1)
 
   taxonomy_same : (o : Option (ℕ × List ℕ)) → AreSame f g (named Taxonomy o) → taxonomy_in o f ≡ taxonomy_in o g
   unfolding taxonomy_in
@@ -106,14 +107,14 @@ module _ (g : Segments) where
       let b = bind_ok (segment_bytes (file Taxonomy Segment part.number) part.digest (g part.number)) (λ bytes. told_as (Malformed (file Taxonomy Segment part.number)) (stored_labels known part.first part.count bytes)) a.0 a.1 in
       (bytes_some (file Taxonomy Segment part.number) part.digest (g part.number) b.0 b.1, labels_there a.0 l parts a.2)
 
-  segments_there : (config : Config) (labels : List (List (List ℕ))) (needs : ℕ) (l : List Records) (parts : List DocumentPart) → segments_of config labels needs g parts ≡ Ok l → AreThere g (map (λ part. part.number) parts)
+  segments_there : (config : Config) (labels : List (List (List ℕ))) (needs : ℕ) (l : List Records) (parts : List LivePart) → segments_of config labels needs g parts ≡ Ok l → AreThere g (map (λ p. p.part.number) parts)
   unfolding segments_of segment_of
   segments_there config labels needs l [] e = tt
-  segments_there config labels needs l (part ∷ parts) e =
-      let a = bind_ok (segment_of config labels needs g part) (λ first. segments_of config labels needs g parts >>= λ others. Ok (first ∷ others)) l e in
-      let b = bind_ok (segment_bytes (file Index Segment part.number) part.digest (g part.number)) (λ bytes. told_as (Malformed (file Index Segment part.number)) (stored_segment config labels needs part.documents bytes)) a.0 a.1 in
+  segments_there config labels needs l (p ∷ parts) e =
+      let a = bind_ok (segment_of config labels needs g p) (λ first. segments_of config labels needs g parts >>= λ others. Ok (first ∷ others)) l e in
+      let b = bind_ok (segment_bytes (file Index Segment p.part.number) p.part.digest (g p.part.number)) (λ bytes. told_as (Malformed (file Index Segment p.part.number)) (stored_segment config labels needs p.part.documents bytes) >>= λ stored. done (with_dead stored p.dead)) a.0 a.1 in
       let d = bind_ok (segments_of config labels needs g parts) (λ others. Ok (a.0 ∷ others)) l a.2 in
-      (bytes_some (file Index Segment part.number) part.digest (g part.number) b.0 b.1, segments_there config labels needs d.0 parts d.1)
+      (bytes_some (file Index Segment p.part.number) p.part.digest (g p.part.number) b.0 b.1, segments_there config labels needs d.0 parts d.1)
 
   pub taxonomy_there : (o : Option (ℕ × List ℕ)) (l : List (List (List ℕ))) → taxonomy_in o g ≡ Ok l → AreThere g (named Taxonomy o)
   unfolding taxonomy_in

@@ -1,6 +1,7 @@
 pub mod Accepted
 pub mod Damages
 pub mod Documents
+pub mod Thinned
 pub mod Greatest
 pub mod Held
 pub mod Loops

@@ -5,7 +5,7 @@ use Rattle.facet_codec.specs.Reading.{◌>>=◌}
 use Rattle.facet_model.specs.Flags.{Config}
 use Rattle.facet_model.specs.Stored.{Records}
 use Rattle.commit_file.specs.declared.taxonomy.LabelPart.{LabelPart}
-use Rattle.commit_file.specs.declared.index.DocumentPart.{DocumentPart}
+use Rattle.commit_file.specs.LiveParts.{LivePart}
 use Rattle.commit_file.specs.Commits.{AreInOrder, end_of}
 use Rattle.store_opening.specs.declared.fault.OpenFault.{OpenFault}
 use Rattle.store_opening.specs.Files.{Segments, labels_behind, labels_of, segment_of, segments_of}
@@ -17,6 +17,10 @@ drop_at (x ∷ xs) zero d lt = refl
 drop_at (x ∷ xs) (suc i) d lt =
     let n : suc i + 1 ≡ suc (i + 1) = omega arith in
     rw n (drop_at xs i d (omega (arith, lt)))
+
+-- the same, given that element
+item_at : {A : Type 0} (xs : List A) (i : ℕ) (x : A) → i < length xs → x ≡ get_or xs i x → drop i xs ≡ x ∷ drop (i + 1) xs
+item_at xs i x lt is = drop_at xs i x lt ∙ ap (λ y. y ∷ drop (i + 1) xs) (sym is)
 
 -- ---- labels
 
@@ -46,23 +50,24 @@ order_low total start (part ∷ parts) order = let low = order_low total (end_of
 abbrev pub behind : List Records → Result (List Records) OpenFault → Result (List Records) OpenFault
 behind front r = r >>= λ xs. Ok (front ++ xs)
 
-module _ (config : Config) (labels : List (List (List ℕ))) (needs : ℕ) (segments : Segments) (parts : List DocumentPart) (i : ℕ) (d : DocumentPart) (front : List Records) where
+module _ (config : Config) (labels : List (List (List ℕ))) (needs : ℕ) (segments : Segments) (parts : List LivePart) (front : List Records) where
   regroup : (x : Records) (r : Result (List Records) OpenFault) → behind (front ++ x ∷ []) r ≡ behind front (r >>= λ others. Ok (x ∷ others))
   regroup x (Ok ys) = ap (λ (xs : List Records). Ok xs) (append_assoc front (x ∷ []) ys)
   regroup x (Err e) = refl
 
-  pub segments_more : (x : Records) (whole : Result (List Records) OpenFault) → i < length parts → segment_of config labels needs segments (get_or parts i d) ≡ Ok x
-      → behind front (segments_of config labels needs segments (drop i parts)) ≡ whole → behind (front ++ x ∷ []) (segments_of config labels needs segments (drop (i + 1) parts)) ≡ whole
+  pub segments_end : (whole : Result (List Records) OpenFault) (i : ℕ) → length parts ≤ i → behind front (segments_of config labels needs segments (drop i parts)) ≡ whole → whole ≡ Ok front
   unfolding segments_of
-  segments_more x whole lt e read = regroup x (segments_of config labels needs segments (drop (i + 1) parts))
-      ∙ ap (behind front) (sym (ap (segments_of config labels needs segments) (drop_at parts i d lt) ∙ ap (λ (r : Result Records OpenFault). r >>= λ y. segments_of config labels needs segments (drop (i + 1) parts) >>= λ others. Ok (y ∷ others)) e))
-      ∙ read
+  segments_end whole i le read = sym read ∙ ap (λ (xs : List LivePart). behind front (segments_of config labels needs segments xs)) (drop_all i parts le) ∙ ap (λ (xs : List Records). Ok xs) (append-nil front)
 
-  pub segments_fail : (fault : OpenFault) (whole : Result (List Records) OpenFault) → i < length parts → segment_of config labels needs segments (get_or parts i d) ≡ Err fault
-      → behind front (segments_of config labels needs segments (drop i parts)) ≡ whole → whole ≡ Err fault
-  unfolding segments_of
-  segments_fail fault whole lt e read = sym read ∙ ap (behind front) (ap (segments_of config labels needs segments) (drop_at parts i d lt) ∙ ap (λ (r : Result Records OpenFault). r >>= λ y. segments_of config labels needs segments (drop (i + 1) parts) >>= λ others. Ok (y ∷ others)) e)
+  module _ (i : ℕ) (p : LivePart) (lt : i < length parts) (is : p ≡ get_or parts i p) where
+    pub segments_more : (x : Records) (whole : Result (List Records) OpenFault) → segment_of config labels needs segments p ≡ Ok x
+        → behind front (segments_of config labels needs segments (drop i parts)) ≡ whole → behind (front ++ x ∷ []) (segments_of config labels needs segments (drop (i + 1) parts)) ≡ whole
+    unfolding segments_of
+    segments_more x whole e read = regroup x (segments_of config labels needs segments (drop (i + 1) parts))
+        ∙ ap (behind front) (sym (ap (segments_of config labels needs segments) (item_at parts i p lt is) ∙ ap (λ (r : Result Records OpenFault). r >>= λ y. segments_of config labels needs segments (drop (i + 1) parts) >>= λ others. Ok (y ∷ others)) e))
+        ∙ read
 
-  pub segments_end : (whole : Result (List Records) OpenFault) → length parts ≤ i → behind front (segments_of config labels needs segments (drop i parts)) ≡ whole → whole ≡ Ok front
-  unfolding segments_of
-  segments_end whole le read = sym read ∙ ap (λ (xs : List DocumentPart). behind front (segments_of config labels needs segments xs)) (drop_all i parts le) ∙ ap (λ (xs : List Records). Ok xs) (append-nil front)
+    pub segments_fail : (fault : OpenFault) (whole : Result (List Records) OpenFault) → segment_of config labels needs segments p ≡ Err fault
+        → behind front (segments_of config labels needs segments (drop i parts)) ≡ whole → whole ≡ Err fault
+    unfolding segments_of
+    segments_fail fault whole e read = sym read ∙ ap (behind front) (ap (segments_of config labels needs segments) (item_at parts i p lt is) ∙ ap (λ (r : Result Records OpenFault). r >>= λ y. segments_of config labels needs segments (drop (i + 1) parts) >>= λ others. Ok (y ∷ others)) e)

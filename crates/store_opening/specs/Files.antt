@@ -22,14 +22,15 @@ use Rattle.commit_file.specs.Reading.{taxonomy_commit, index_commit}
 use Rattle.commit_file.specs.declared.fault.FileFault.{FileFault}
 use Rattle.commit_file.specs.declared.fault.FileFault.TheVariants as file_faults
 use Rattle.commit_file.specs.declared.taxonomy.LabelPart.{LabelPart}
-use Rattle.commit_file.specs.declared.index.DocumentPart.{DocumentPart}
+use Rattle.commit_file.specs.LiveParts.{LivePart}
 use Rattle.label_file.specs.LabelReading.{stored_labels}
 use Rattle.seg_decoding.specs.Opening.{stored_segment}
+use Rattle.seg_file.specs.Live.{with_dead}
 use Rattle.store_opening.specs.declared.fault.OpenFault.{OpenFault}
 use Rattle.store_opening.specs.declared.fault.OpenFault.TheVariants.{Missing, Damaged, Malformed, Uncovered}
 use Rattle.store_opening.specs.declared.fault.OpenFault.TheVariants.{NumbersSpent, OtherConfig, NoMemory}
 
--- the labels with the root, and the records and terms of each segment of documents
+-- the labels with the root, and each segment of documents
 pub record Found : Type 0 where
   pub labels : List (List (List ℕ))
   pub segments : List Records
@@ -112,14 +113,17 @@ agrees config labels commit = do
   same ← same_flags (first_different config commit.kept)
   covered commit.needs labels
 
--- the records of a segment whose documents need the first so many of the labels
-unfoldable pub segment_of : Config → List (List (List ℕ)) → ℕ → Segments → DocumentPart → Result Records OpenFault
-segment_of config labels needs segments part = do
-  bytes ← segment_bytes (file Index Segment part.number) part.digest (segments part.number)
-  told_as (Malformed (file Index Segment part.number)) (stored_segment config labels needs part.documents bytes)
+-- a segment whose documents need the first so many of the labels: its file has the records, and the commit tells which
+-- of them are no longer live
+unfoldable pub segment_of : Config → List (List (List ℕ)) → ℕ → Segments → LivePart → Result Records OpenFault
+segment_of config labels needs segments p = do
+  bytes ← segment_bytes (file Index Segment p.part.number) p.part.digest (segments p.part.number)
+  stored ← told_as (Malformed (file Index Segment p.part.number))
+      (stored_segment config labels needs p.part.documents bytes)
+  Ok (with_dead stored p.dead)
 
--- the records of each of these segments
-unfoldable pub segments_of : Config → List (List (List ℕ)) → ℕ → Segments → List DocumentPart
+-- each of these segments
+unfoldable pub segments_of : Config → List (List (List ℕ)) → ℕ → Segments → List LivePart
     → Result (List Records) OpenFault
 segments_of config labels needs segments [] = Ok []
 segments_of config labels needs segments (part ∷ parts) = do

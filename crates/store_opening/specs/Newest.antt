@@ -9,9 +9,10 @@ use Rattle.facet_model.specs.Stored.{Records, IsSegmentOf}
 use Rattle.commit_file.specs.Commits.{labels_listed, documents_listed}
 use Rattle.commit_file.specs.Reading.{taxonomy_commit, index_commit}
 use Rattle.commit_file.specs.declared.taxonomy.LabelPart.{LabelPart}
-use Rattle.commit_file.specs.declared.index.DocumentPart.{DocumentPart}
+use Rattle.commit_file.specs.LiveParts.{LivePart}
 use Rattle.seg_documents.specs.Decoding.{doc_in}
-use Rattle.seg_grammar.specs.Spelling.{IsSegment, seg_bytes}
+use Rattle.seg_documents.specs.Storing.{IsStored}
+use Rattle.seg_grammar.specs.Spelling.{seg_bytes}
 
 -- these are the names of all files, each once
 pub record AreListed (files : Image) (names : List FileName) : Type 0 where
@@ -31,16 +32,17 @@ IsNewestTaxonomy (Some (n, bytes)) number parts labels = (number ≡ Some n)
     × (taxonomy_commit n bytes ≡ Ok (labels_listed (length labels) parts))
 
 -- the number of the index's newest commit, and its segments
-abbrev pub IsNewestIndex : Option (ℕ × List ℕ) → Option ℕ → List DocumentPart → Type 0
+abbrev pub IsNewestIndex : Option (ℕ × List ℕ) → Option ℕ → List LivePart → Type 0
 IsNewestIndex None number parts = (number ≡ None) × (parts ≡ [])
 IsNewestIndex (Some (n, bytes)) number parts = (number ≡ Some n)
     × ((needs : ℕ) × (kept : Config) × (index_commit n bytes ≡ Ok (documents_listed needs kept parts)))
 
--- a segment that a commit names: it has the named digest and number of documents, and is the segment of its bytes and
--- of its documents
-pub record IsNamedAs (config : Config) (labels : List (List (List ℕ))) (part : DocumentPart)
+-- a segment that a commit names: it has the named digest, number of documents and live records, is the segment of its
+-- bytes and of its documents, and may be stored again
+pub record IsNamedAs (config : Config) (labels : List (List (List ℕ))) (p : LivePart)
     (segment : Records) : Type 0 where
-  pub documents : length segment.records ≡ part.documents
-  pub digest : sha256 (seg_bytes segment) ≡ part.digest
-  pub own : IsSegment (seg_bytes segment) segment
+  pub documents : length segment.records ≡ p.part.documents
+  pub digest : sha256 (seg_bytes segment) ≡ p.part.digest
+  pub dead : segment.dead ≡ p.dead
+  pub own : IsStored segment
   pub decodes : IsSegmentOf labels config segment (map (doc_in labels) segment.records)

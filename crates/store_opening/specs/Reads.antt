@@ -9,7 +9,7 @@ use Rattle.store_opening.specs.declared.opening.Read.{Read}
 use Rattle.store_opening.specs.Files.{Found}
 use Rattle.store_opening.specs.Newest.{IsNewestTaxonomy, IsNewestIndex}
 
--- its labels, and the records and terms of its segments
+-- its labels and its segments
 abbrev pub found : Read → Found
 found r = record { labels = r.labels; segments = map arc_value r.segments.items }
 

@@ -19,7 +19,7 @@ label_numbers (Err e) = []
 
 -- the numbers of the segments of a readable commit of the index
 abbrev pub document_numbers : Result IndexListing FileFault → List ℕ
-document_numbers (Ok commit) = map (λ part. part.number) commit.parts
+document_numbers (Ok commit) = map (λ p. p.part.number) commit.parts
 document_numbers (Err e) = []
 
 -- the numbers of the segments that a commit file of a directory names

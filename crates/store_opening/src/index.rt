@@ -2,14 +2,19 @@
 ghost use Rattle.std.specs.Prelude.{◌≡◌, ◌≢◌, ◌≤◌, ◌++◌, [], ◌∷◌, ℕ, List, Option, Some, Ok, Err, length, map, IfOk};
 ghost use Rattle.std.specs.Prelude.{IfErr, OnOk, IsErrOf};
 ghost use Rattle.std.specs.Arc.{arc_value};
-ghost use Rattle.std.specs.List.{AllZip, sum_by};
+ghost use Rattle.std.specs.List.{AllByRecursion, AllZip, sum_by};
 ghost use Rattle.facet_codec.specs.Faults.{told_as};
+ghost use Rattle.facet_codec.specs.Laws.{IsBelow};
 ghost use Rattle.facet_config.specs.Differences.{first_different};
 ghost use Rattle.facet_disk.specs.Images.{Told};
 ghost use Rattle.facet_disk.specs.Calls.{Rose};
 ghost use Rattle.commit_calls.specs.Held.{file, newest_file};
-ghost use Rattle.commit_file.specs.Commits.{index_listing, documents_of};
+ghost use Rattle.commit_file.specs.Commits.{index_listing};
+ghost use Rattle.commit_file.specs.Limits.{IsLivePart};
+ghost use Rattle.commit_file.specs.LiveParts.{live_of};
 ghost use Rattle.commit_file.specs.Reading.{index_commit};
+ghost use Rattle.seg_file.specs.Live.{with_dead};
+ghost use Rattle.seg_postings.specs.Rising.{IsRising};
 ghost use Rattle.store_opening.specs.declared.fault.OpenFault.TheVariants.{Disk, NoMemory as Memory};
 ghost use Rattle.store_opening.specs.Faults.{IsSound};
 ghost use Rattle.store_opening.specs.Files.{segments_in, of_file, same_flags, agrees, segment_of, segments_of};
@@ -20,7 +25,7 @@ ghost use Rattle.store_opening.specs.Quiet.{IsRead, FailsOnly, OfListed, OfFiles
 use crate::fault::{OpenFault, of_file, of_segment};
 use crate::names::Names;
 use crate::reading::{CommitBytes, read_newest, read_segment};
-use commit_file::{DocumentPart, IndexCommit, read_index_commit};
+use commit_file::{IndexCommit, LivePart, read_index_commit};
 use facet_config::FacetsConfig;
 use facet_disk::{Dir, Disk, FileName, Kind};
 use facet_model::Word;
@@ -36,8 +41,19 @@ use taxo_list::{Labelled, Taxonomy};
 #[derive(Drop)]
 pub(crate) struct IndexRead {
     pub(crate) number: Option<u64>,
-    pub(crate) parts: Vec<DocumentPart>,
+    pub(crate) parts: Vec<LivePart>,
     pub(crate) segments: Vec<Arc<Segment>>,
+}
+
+// Returns a segment, all of whose records are live, without those that are no longer live.
+fn thinned(alloc: Global, stored: &Segment, dead: &[u32]) -> Result<Segment, NoMemory>
+    requires live { stored.now.dead ≡ [] }
+    requires rise { IsRising dead.now }
+    requires below { AllByRecursion (IsBelow (length stored.now.records)) dead.now }
+    ensures { IfOk result (λ s. s ≡ with_dead stored.now dead.now) }
+{
+    let left = stored.without(alloc, dead)?;
+    Ok(left)
 }
 
 // Reads a segment. Its documents need the first `needs` labels.
@@ -50,25 +66,27 @@ fn read_document_part<D: Disk>(
     labels: &Taxonomy,
     needs: u32,
     listed: &Names,
-    part: DocumentPart,
+    part: &LivePart,
 ) -> Result<Segment, OpenFault>
-    requires { needs ≤ length labels.now }
+    requires needs { needs ≤ length labels.now }
+    requires part { IsLivePart part.now }
     ensures ok { IfOk result (λ v. OfListed D.Disk listed.now disk.old
-        (λ c. segment_of config.now labels.now needs (segments_in Dir.Index c) part ≡ Ok v)) }
-    ensures named { IfOk result (λ v. IsNamedAs config.now labels.now part v) }
+        (λ c. segment_of config.now labels.now needs (segments_in Dir.Index c) part.now ≡ Ok v)) }
+    ensures named { IfOk result (λ v. IsNamedAs config.now labels.now part.now v) }
     ensures err { OfFiles result (λ e. OfListed D.Disk listed.now disk.old (λ c.
-        segment_of config.now labels.now needs (segments_in Dir.Index c) part ≡ Err e)) }
+        segment_of config.now labels.now needs (segments_in Dir.Index c) part.now ≡ Err e)) }
     ensures read { IsRead D.Disk disk.old disk.new result }
     ensures failed { FailsOnly D.Disk (λ c. AreListed c listed.now) disk.old disk.new result }
 {
     let name = FileName {
         dir: Dir::Index,
         kind: Kind::Segment,
-        number: part.number,
+        number: part.part.number,
     };
-    let bytes = read_segment(alloc, disk, listed, name, part.digest)?;
-    match open_stored(alloc, keys, config, labels, needs, part.documents, bytes) {
-        Ok(segment) => Ok(segment),
+    let bytes = read_segment(alloc, disk, listed, name, part.part.digest)?;
+    let documents = part.part.documents;
+    match open_stored(alloc, keys, config, labels, needs, documents, bytes) {
+        Ok(stored) => Ok(thinned(alloc, &stored, &part.dead)?),
         Err(fault) => Err(of_segment(name, fault)),
     }
 }
@@ -91,9 +109,10 @@ fn read_document_parts<D: Disk>(
     labels: &Taxonomy,
     needs: u32,
     listed: &Names,
-    parts: &[DocumentPart],
+    parts: &[LivePart],
 ) -> Result<Vec<Arc<Segment>>, OpenFault>
-    requires { needs ≤ length labels.now }
+    requires needs { needs ≤ length labels.now }
+    requires parts { AllByRecursion IsLivePart parts.now }
     ensures ok { IfOk result (λ v. OfListed D.Disk listed.now disk.old (λ c.
         segments_of config.now labels.now needs (segments_in Dir.Index c) parts.now ≡ Ok (map arc_value v.items))) }
     ensures named { IfOk result (λ v. AllZip (IsNamedAs config.now labels.now) parts.now (map arc_value v.items)) }
@@ -104,7 +123,7 @@ fn read_document_parts<D: Disk>(
 {
     let mut segments = Vec::new(alloc);
     for part in parts {
-        let segment = read_document_part(alloc, keys, disk, config, labels, needs, listed, *part)?;
+        let segment = read_document_part(alloc, keys, disk, config, labels, needs, listed, part)?;
         keep(alloc, &mut segments, segment)?;
     }
     Ok(segments)
@@ -117,7 +136,8 @@ fn commit_of(
     found: &CommitBytes,
 ) -> Result<IndexCommit, OpenFault>
     ensures ok { IfOk result (λ c. index_commit found.now.number found.now.bytes.items ≡ Ok (index_listing c)) }
-    ensures few { IfOk result (λ c. sum_by documents_of c.parts.items ≤ 1000000) }
+    ensures parts { IfOk result (λ c. AllByRecursion IsLivePart c.parts.items) }
+    ensures few { IfOk result (λ c. sum_by live_of c.parts.items ≤ 1000000) }
     ensures err { IfErr result (λ e. e ≢ Memory
         → told_as (of_file (file Dir.Index Kind.Commit found.now.number))
         (index_commit found.now.number found.now.bytes.items) ≡ Err e) }
@@ -190,7 +210,7 @@ pub(crate) fn read_index<D: Disk>(
         (λ c. IsNewestIndex (newest_file Dir.Index c) r.number r.parts.items)) }
     ensures named { IfOk result (λ r. AllZip (IsNamedAs config.now labels.now) r.parts.items
         (map arc_value r.segments.items)) }
-    ensures few { IfOk result (λ r. sum_by documents_of r.parts.items ≤ 1000000) }
+    ensures few { IfOk result (λ r. sum_by live_of r.parts.items ≤ 1000000) }
     ensures err { OfFiles result (λ e. OfListed D.Disk listed.now disk.old (λ c.
         index_in config.now labels.now (newest_file Dir.Index c) (segments_in Dir.Index c) ≡ Err e)) }
     ensures read { IsRead D.Disk disk.old disk.new result }

@@ -1,8 +1,8 @@
-use commit_file::{DocumentPart, LabelPart};
+use commit_file::{LabelPart, LivePart};
 use facet_disk::FileName;
 
 /// The newest commits of a disk, and the names of all files.
-#[derive(Debug, Drop)]
+#[derive(Drop)]
 pub struct Newest {
     /// The number of the next file: one more than the greatest, or 1 if there is no file; at most 2^63.
     pub next: u64,
@@ -14,6 +14,6 @@ pub struct Newest {
     pub label_parts: Vec<LabelPart>,
     /// The number of the index's newest commit.
     pub index: Option<u64>,
-    /// The segments of documents that it names, in order.
-    pub document_parts: Vec<DocumentPart>,
+    /// The segments of documents that it names, in order, and which of their records are not live.
+    pub document_parts: Vec<LivePart>,
 }

@@ -45,8 +45,8 @@ pub struct Read {
 /// newest commit of the index and the segments that it names. It reads each of these files once and whole, and no other
 /// file. `keys` are hash keys of labels and terms; no result depends on them.
 ///
-/// Costs: time and memory of adding all labels, and for each segment those of `seg_decoding::open_stored`. The labels,
-/// the segments and the names of all files stay in memory.
+/// Costs: time and memory of adding all labels, and for each segment those of `seg_decoding::open_stored` and of
+/// `seg_file::Segment::without`. The labels, the segments and the names of all files stay in memory.
 ///
 /// Errors: the first fault in the order of reading; `Disk` if a call of the disk failed; out of memory.
 pub fn read_store<D: Disk>(
@@ -64,7 +64,7 @@ pub fn read_store<D: Disk>(
     ensures failed { (s : Told) → D.told disk.old ≡ Some s → IsErrOf result Disk
         → Rose (D.failures disk.old) (D.failures disk.new) }
 
-    // Whatever the disk returns, the segments have their documents, at most 1,000,000.
+    // Whatever the disk returns, the segments have their documents, and at most 1,000,000 of these are live.
     ensures decodes { IfOk result (λ r. Decodes r.labels config.now (found r).segments
         (docs_in r.labels (found r).segments)) }
     ensures few { IfOk result (λ r. length (docs_in r.labels (found r).segments) ≤ 1000000) }
@@ -84,7 +84,8 @@ pub fn read_store<D: Disk>(
     ensures many { IfOk result (λ r. length r.newest.label_parts.items < length r.labels) }
     ensures order { IfOk result (λ r. AreInOrder (length r.labels) 1 r.newest.label_parts.items) }
 
-    // The numbers and the parts are those of the newest commits, and each part of the index describes its segment.
+    // The numbers and the parts are those of the newest commits, and each part of the index describes its segment. Each
+    // segment has a live record.
     ensures taxonomy { IfOk result (λ r. (s : Told) → D.told disk.old ≡ Some s
         → IsTaxonomyOf s.files r.newest r.labels) }
     ensures index { IfOk result (λ r. (s : Told) → D.told disk.old ≡ Some s → IsIndexOf s.files r.newest) }

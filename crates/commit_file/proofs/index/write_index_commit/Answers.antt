@@ -16,4 +16,4 @@ returns-in-Ok-clause-again c =
     let bytes : c.in-Ok.bytes.items ≡ index_commit_bytes c.args.number (documents_listed c.args.needs (kept_of config) c.args.parts.now) = c.in-Ok.ensures.bytes ∙ ap (λ (ds : Config). index_commit_bytes c.args.number (documents_listed c.args.needs ds c.args.parts.now)) kept in
     let size : length (kept_of config) < 2 ^ 32 = omega (arith, ap length (sym c.in_ok-kept.ensures.is), length-map c.in_ok-kept.kept.items declaration, c.if-len.false, c.len.ensures) in
     ap (index_commit c.args.number) bytes
-    ∙ index_again c.args.number c.args.needs config c.args.parts.now c.requires.number (search rules) (search rules) size (subst (AllByRecursion IsDeclaration) kept c.in-Ok.ensures.declarations) c.requires.some c.requires.few c.requires.documents c.in-Ok.ensures.documents
+    ∙ index_again c.args.number c.args.needs config c.args.parts.now c.requires.number (search rules) (search rules) size (subst (AllByRecursion IsDeclaration) kept c.in-Ok.ensures.declarations) c.requires.few c.requires.parts c.requires.some c.requires.live c.in-Ok.ensures.documents

@@ -1,11 +1,10 @@
 use Rattle.std.proofs.Common.{rules, arith, ◌≡◌, List, map, sym, subst}
 use Rattle.std.specs.Arc.{arc_value}
 use Rattle.std.specs.List.{AllByRecursion}
-use Rattle.std.proofs.lemmas.List.{length-map}
 use Rattle.seg_grammar.proofs.Again.{segment_again}
 use Rattle.commit_plan.specs.Committed.{IsKept, Kept, kept_view, parts_in}
 use Rattle.commit_plan.specs.Drafts.{placed}
-use Rattle.commit_plan.proofs.Counting.{placed_named, placed_size, placed_few, placed_documents, placed_numbers}
+use Rattle.commit_plan.proofs.Counting.{placed_named, placed_live, placed_some, placed_size, placed_few, placed_documents, placed_numbers}
 use Rattle.commit_plan.proofs.documents.draft_new_index.Goals as goal
 
 pub write_index_commit-requires-clause-number : goal.write_index_commit-requires-clause-number
@@ -15,12 +14,19 @@ write_index_commit-requires-clause-number c =
     let number : c.next-number.result ≡ (placed old ss d).draft.next = search rules in
     omega (arith, number, c.requires.some, (placed_numbers segment_again old ss d olds c.requires.own).0)
 
+pub write_index_commit-requires-clause-parts : goal.write_index_commit-requires-clause-parts
+write_index_commit-requires-clause-parts c =
+    let old = c.args.state.now in let ss = map arc_value c.args.segments.now in let d = c.args.draft in
+    let olds : AllByRecursion IsKept old.kept = rw (← c.state.view_is) c.state.invariant.kept in
+    let parts : c.deref-3.result.now ≡ parts_in (placed old ss d).kept = search rules in
+    rw parts (placed_live segment_again old ss d olds c.requires.own)
+
 pub write_index_commit-requires-clause-some : goal.write_index_commit-requires-clause-some
 write_index_commit-requires-clause-some c =
     let old = c.args.state.now in let ss = map arc_value c.args.segments.now in let d = c.args.draft in
     let olds : AllByRecursion IsKept old.kept = rw (← c.state.view_is) c.state.invariant.kept in
     let parts : c.deref-3.result.now ≡ parts_in (placed old ss d).kept = search rules in
-    rw parts (omega (arith, c.requires.segments, placed_size segment_again old ss d olds c.requires.own, length-map c.args.segments.now arc_value))
+    rw parts (placed_some segment_again old ss d olds c.requires.own)
 
 pub write_index_commit-requires-clause-few : goal.write_index_commit-requires-clause-few
 write_index_commit-requires-clause-few c =
@@ -29,8 +35,8 @@ write_index_commit-requires-clause-few c =
     let parts : c.deref-3.result.now ≡ parts_in (placed old ss d).kept = search rules in
     rw parts (omega (arith, placed_size segment_again old ss d olds c.requires.own, placed_few segment_again old ss d olds c.requires.own c.requires.few))
 
-pub write_index_commit-requires-clause-documents : goal.write_index_commit-requires-clause-documents
-write_index_commit-requires-clause-documents c =
+pub write_index_commit-requires-clause-live : goal.write_index_commit-requires-clause-live
+write_index_commit-requires-clause-live c =
     let old = c.args.state.now in let ss = map arc_value c.args.segments.now in let d = c.args.draft in
     let olds : AllByRecursion IsKept old.kept = rw (← c.state.view_is) c.state.invariant.kept in
     let parts : c.deref-3.result.now ≡ parts_in (placed old ss d).kept = search rules in

@@ -5,12 +5,12 @@ use Rattle.commit_file.specs.Commits.{kept_of}
 use Rattle.commit_file.proofs.Ordering.{kept_flags}
 use Rattle.seg_decoding.proofs.Again.{opens_later}
 use Rattle.seg_decoding.proofs.Longer.{opened_longer}
+use Rattle.seg_documents.proofs.Storing.{few_segments}
 use Rattle.seg_grammar.proofs.Again.{segment_again}
 use Rattle.commit_plan.specs.Committed.{Committed, IsCommitted}
 use Rattle.commit_plan.specs.Drafts.{Drafted, nothing_drafted, labels_drafted, labels_first, index_drafted, drafted, labels_number_from, label_parts_from, index_number_from, kept_from, committed_by}
 use Rattle.commit_plan.specs.Plannings.{IsReadAgain}
 use Rattle.commit_plan.specs.Strays.{strays}
-use Rattle.commit_plan.proofs.Counting.{few_segments}
 use Rattle.commit_plan.proofs.Leading.{all_led, plan_is, no_different}
 use Rattle.commit_plan.proofs.Numbers.{first_number, all_numbers}
 use Rattle.commit_plan.proofs.planning.plan_commit.Goals as goal

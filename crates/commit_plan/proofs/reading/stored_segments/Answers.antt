@@ -18,4 +18,4 @@ loop-at-preserved c =
     let high : c.loop-at.at < length c.args.segments.now = omega (arith, c.loop-at-test.true, c.requires) in
     let here : get_or ss c.loop-at.at (arc_value c.index-segments-at.result) ≡ arc_value c.index-segments-at.result = mapped_at arc_value c.args.segments.now c.loop-at.at c.index-segments-at.result high c.index-segments-at.is in
     ap (λ ks. ks ++ kept_by (drop (c.loop-at.at + 1) c.args.parts.now) (drop (c.loop-at.at + 1) ss)) c.in_ok-push_stored.ensures
-    ∙ kept_step c.args.parts.now ss c.loop-at.at _ (arc_value c.index-segments-at.result) (map kept_view c.loop-at.stored.items) _ c.loop-at-test.true (omega (arith, high, length-map c.args.segments.now arc_value)) here c.loop-at.invariant
+    ∙ kept_step c.args.parts.now ss c.loop-at.at c.index-parts-at.result (arc_value c.index-segments-at.result) (map kept_view c.loop-at.stored.items) _ c.loop-at-test.true (omega (arith, high, length-map c.args.segments.now arc_value)) (sym c.index-parts-at.is) here c.loop-at.invariant

@@ -26,6 +26,5 @@ returns-clause-opened g c =
       committed = λ s tells settled. subst (λ (config : Config). IsHere d config k labels segments) same (e.committed s tells (subst (λ (config : Config). IsSettled d config s c.args.disk) (sym same) settled));
       list = e.list;
       decodes = subst (λ (config : Config). Decodes labels config segments (docs_in labels segments)) same e.decodes;
-      some = e.some;
       own = e.own;
     }

@@ -1,7 +1,8 @@
 use Rattle.std.proofs.Common.{◌∷◌, [], map, sym, subst}
 use Rattle.std.specs.Arc.{arc_value}
 use Rattle.facet_model.specs.Stored.{Records, Decodes}
-use Rattle.seg_grammar.specs.Spelling.{IsSegment, seg_bytes}
+use Rattle.seg_documents.specs.Storing.{IsStored}
+use Rattle.seg_documents.proofs.Storing.{live_stored}
 use Rattle.seg_merge.specs.Merged.{IsMergeOf}
 use Rattle.seg_merge.proofs.Standing.{decoded_have, merged_decodes}
 use Rattle.index_state.proofs.merging.merge_segments.Goals as goal
@@ -19,4 +20,4 @@ returns-clause-documents c known config docs decodes =
     subst (λ (m : Records). Decodes known config (m ∷ []) docs) (sym c.in_ok-new.ensures.ok) (merged_decodes known config (map arc_value c.args.segments.now) docs c.in_ok-merged.merged decodes c.in_ok-merged.ensures.merged)
 
 pub returns-clause-own : goal.returns-clause-own
-returns-clause-own c = subst (λ (m : Records). IsSegment (seg_bytes m) m) (sym c.in_ok-new.ensures.ok) c.in_ok-merged.ensures.own
+returns-clause-own c = subst IsStored (sym c.in_ok-new.ensures.ok) (live_stored c.in_ok-merged.merged c.in_ok-merged.ensures.own)

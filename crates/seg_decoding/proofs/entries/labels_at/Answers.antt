@@ -1,5 +1,4 @@
-use Rattle.std.proofs.Common.{ℕ, Some, get_or, length, ap, ◌∙◌, sym, arith}
-use Rattle.seg_decoding.specs.Answers.{IsLeaf}
+use Rattle.std.proofs.Common.{Some, ap, ◌∙◌, sym, arith}
 use Rattle.seg_documents.proofs.Decoded.{labels_more}
 use Rattle.seg_decoding.proofs.entries.labels_at.Goals as goal
 

@@ -58,7 +58,7 @@ returns-clause-settled g c =
     let laws = g.met.D.Disk g.world.𝓛 g.world.𝓜 g.world.𝓡 ((λ s x. x), (λ x. x), (λ x. x), λ x. x) in
     let fine : is_err c.execute_plan-executed.result ≡ false = search rules in
     subst (λ (old : CommitterView _). Settles g.D.Disk old (left c.self.inside.config c.in_ok-planned.planned.after c.execute_plan-executed.new.disk) c.args.view.now (map arc_value c.args.segments.now)) c.self.view_is
-    (λ s u labels segs told then at on empty. settles g.D.Disk laws.own c.self.inside.config c.self.inside.state c.self.inside.disk c.args.view.now (map arc_value c.args.segments.now) c.in_ok-planned.planned.plan c.in_ok-planned.planned.after c.execute_plan-executed.new.disk c.in_ok-planned.ensures.plan c.in_ok-planned.ensures.leads s labels segs told at on (on_ok c.execute_plan-executed.result _ c.execute_plan-executed.ensures.done fine) empty u then)
+    (λ s u labels segs told then at on. settles g.D.Disk laws.own c.self.inside.config c.self.inside.state c.self.inside.disk c.args.view.now (map arc_value c.args.segments.now) c.in_ok-planned.planned.plan c.in_ok-planned.planned.after c.execute_plan-executed.new.disk c.in_ok-planned.ensures.plan c.in_ok-planned.ensures.leads s labels segs told at on (on_ok c.execute_plan-executed.result _ c.execute_plan-executed.ensures.done fine) u then)
 
 pub returns-clause-told : goal.returns-clause-told
 returns-clause-told g c =

@@ -4,11 +4,12 @@ use Rattle.facet_disk.specs.declared.name.Dir.TheVariants.{Taxonomy, Index}
 use Rattle.commit_calls.specs.Held.{Below}
 use Rattle.store_opening.specs.Settled.{held_in}
 use Rattle.store_opening.proofs.Held.{settled_stands}
+use Rattle.seg_documents.proofs.Storing.{no_segments}
 use Rattle.commit_plan.specs.Committed.{Committed, segments_in}
 use Rattle.commit_plan.specs.Openings.{committed_read}
 use Rattle.commit_plan.specs.Plannings.{IsCommittedAt}
 use Rattle.commit_store.specs.Promised.{HasNamed}
-use Rattle.commit_plan.proofs.FromDisk.{all_segments, all_own, none_left, read_known, at_unchanged}
+use Rattle.commit_plan.proofs.FromDisk.{all_segments, all_stored, read_known, at_unchanged}
 use Rattle.commit_store.proofs.Listed.{read_named}
 use Rattle.commit_store.proofs.committer.Committer.open.Goals as goal
 
@@ -47,7 +48,7 @@ returns-clause-kept g c =
     )
 
 pub returns-clause-own : goal.returns-clause-own
-returns-clause-own g c = all_own c.args.config c.in-Ok.read.labels c.in-Ok.read.newest.document_parts.items (map arc_value c.in-Ok.read.segments.items) c.in-Ok.ensures.named
+returns-clause-own g c = all_stored c.args.config c.in-Ok.read.labels c.in-Ok.read.newest.document_parts.items (map arc_value c.in-Ok.read.segments.items) c.in-Ok.ensures.named
 
 pub returns-clause-some : goal.returns-clause-some
-returns-clause-some g c = none_left c.in-Ok.read.labels (map arc_value c.in-Ok.read.segments.items) (returns-clause-own g c)
+returns-clause-some g c = no_segments c.in-Ok.read.labels (map arc_value c.in-Ok.read.segments.items) (returns-clause-own g c)

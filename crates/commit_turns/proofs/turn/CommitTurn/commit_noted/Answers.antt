@@ -11,7 +11,6 @@ use Rattle.commit_plan.specs.declared.fault.CommitFault.TheVariants.{Closed}
 use Rattle.taxo_cache.specs.Seen.{labels_of}
 use Rattle.commit_turns.specs.Points.{made, failed_after}
 use Rattle.commit_turns.specs.Seen.{docs_of}
-use Rattle.commit_turns.proofs.Firsts.{own_some, none_left}
 use Rattle.commit_turns.proofs.Prefixed.{entries_count}
 use Rattle.commit_turns.proofs.Carried.{On, stands_made, stands_failed, stands_none, follows_made, none_unless}
 use Rattle.commit_turns.proofs.Surviving.{marked}
@@ -42,7 +41,7 @@ returns-in-Ok-clause-stands g c points marks st =
     let followed = follows_made d n.told n.settled n.quiet v.start.value v.begun.value.state v.committer new v.last view history segments points marks e.open.0 e.config c.requires.list all before e.open.1 e.listed e.named e.fresh e.unfailed in
     let only_now = (g.met.D.Disk g.world.𝓛 g.world.𝓜 g.world.𝓡 ((λ s x. x), (λ x. x), (λ x. x), λ x. x)).only_now in
     let after = stands_made d n.told n.settled n.quiet v.start.value v.begun.value.state v.committer new v.last view history segments points marks e.open.0 e.config c.requires.list all before
-    only_now e.open.1 decodes (own_some view segments c.requires.own) (none_left history v.last.operations c.requires.adds) e.still e.takes.1 e.tells followed (e.any_moment e.open.0) e.acknowledged in
+    only_now e.open.1 decodes e.still e.takes.1 e.tells followed (e.any_moment e.open.0) e.acknowledged in
     let count : length history ≡ c.args.operations = entries_count v.operations.seen ∙ sym c.requires.operations in
     let many : length view ≡ c.size.result = sym c.size.ensures.size in
     subst (λ (T : Type 0). T) (λ i. On d n.told n.settled n.quiet v.start.value v.begun.value.state new (made (count i) (many i)) (c.requires.labels i) history (points ++ made (count i) (length view) ∷ []) (marks ++ marked new.disk (made (count i) (length view)))) after

@@ -4,13 +4,12 @@ use Rattle.std.specs.List.{list_all}
 use Rattle.std.proofs.lemmas.List.{length-map}
 use Rattle.facet_model.specs.Documents.{Doc}
 use Rattle.facet_model.specs.Flags.{Config}
-use Rattle.facet_model.specs.Histories.{Operation, docs, brought, knows, is_add}
+use Rattle.facet_model.specs.Histories.{Operation, docs, brought, knows}
 use Rattle.facet_model.specs.Stored.{Decodes}
 use Rattle.chronicle.specs.Frame.{Frame}
 use Rattle.chronicle.specs.History.{entries}
 use Rattle.taxo_cache.specs.Seen.{labels_of}
 use Rattle.facet_model.proofs.ConfigTexts.{config_told}
-use Rattle.pair_manager.proofs.Sharing.{if_any}
 use Rattle.pair_manager.proofs.manager.Manager.take_index.Goals as goal
 
 pub returns-clause-decodes : goal.returns-clause-decodes
@@ -34,6 +33,3 @@ pub returns-clause-covers : goal.returns-clause-covers
 returns-clause-covers g c = IfOk-weaker c.snapshot-view.result _ _ (λ v note.
     subst (λ (l : List (ℕ × List (List ℕ))). list_all (knows (labels_of l)) (brought (entries c.give.new.token.seen)) ≡ true) (sym note.2)
     (subst (λ (l : List (ℕ × Operation)). list_all (knows (labels_of c.take-index.result.labels.seen)) (brought (entries l)) ≡ true) (sym c.give.ensures.seen.0) c.take-index.ensures.value.0.known)) c.snapshot-view.ensures.note
-
-pub returns-clause-adds : goal.returns-clause-adds
-returns-clause-adds g c = if_any c.snapshot-view.result (subst (λ (l : List (ℕ × Operation)). list_all (λ (o : Operation). is_add o.change) (entries l) ≡ true) (sym c.give.ensures.seen.0) c.take-index.ensures.value.0.adds)
