@@ -1,6 +1,13 @@
-pub mod Keeping
-pub mod Standing
-pub mod Crossing
-pub mod Counting
+pub mod Numbered
+pub mod Placing
 mod Installing
-mod Placing
+mod Ranging
+mod Merged
+mod Sizes
+pub mod Noting
+pub mod Counting
+pub mod Standing
+pub mod Keeping
+pub mod Others
+pub mod Viewing
+pub mod Crossing

@@ -1,6 +1,9 @@
-//! Tests of threads: the lock of a chronicle, the writer of labels with its cache and its views, and published pairs.
+//! Tests of threads: the lock of a chronicle, the writer of labels with its cache and its views, published pairs, and
+//! deletes.
 #![tactic(auto)]
 
+#[cfg(test)]
+mod deletes;
 #[cfg(test)]
 mod labels;
 #[cfg(test)]

@@ -1,0 +1,208 @@
+use Rattle.std.proofs.Common.{◌≡◌, ◌<◌, ◌+◌, ◌∙◌, ◌++◌, ◌∷◌, [], inl, Err, ℕ, List, length, refl, sym, ap, subst, arith, rules}
+use Rattle.std.specs.Arc.{arc_value}
+use mathlib.Core.List.{IsPrefix}
+use Rattle.facet_names.specs.Labels.{IsLabelList}
+use Rattle.facet_model.specs.Documents.{Doc}
+use Rattle.facet_model.specs.Flags.{Config}
+use Rattle.facet_model.specs.Histories.{replace, without, count_with}
+use Rattle.seg_terms.specs.declared.entry.Entry.{Entry}
+use Rattle.seg_documents.specs.Entries.{IsEntry}
+use Rattle.chronicle.specs.Shown.{SameToken, SeesOn}
+use Rattle.live_ids.specs.Lists.{docs_left}
+use Rattle.live_ids.specs.Tracking.{Tracks, gone_of}
+use Rattle.live_parts.specs.Parts.{segments_in}
+use Rattle.taxo_cache.specs.Seen.{labels_of}
+use Rattle.taxo_cache.proofs.Seen.{longer_list}
+use Rattle.index_state.specs.Index.{Index, index_of}
+use Rattle.index_state.specs.Kept.{IsKept, arrived_in}
+use Rattle.index_state.specs.declared.fault.AppendFault.TheVariants.{DocsFull}
+use Rattle.index_state.proofs.Keeping.{kept_listed, kept_known, kept_same, kept_more, arrived_more, few_more, few_with}
+use Rattle.index_state.proofs.Standing.{arrived_stands, knows_on}
+use Rattle.index_state.proofs.Viewing.{is_changed}
+use Rattle.index_state.proofs.state.IndexState.replace.Goals as goal
+
+pub invariant_of-self : goal.invariant_of-self
+invariant_of-self c =
+    let s = c.self.inside in
+    kept_listed (arc_value s.config) s.labels s.parts.items s.numbers.items s.waiting.items s.arrived s.sessions.items s.max_docs c.self.invariant c.know_ids.new.arrived c.deref.result.now c.deref-3.result.now c.deref-2.result.now c.deref.ensures.value c.deref-3.ensures.value c.deref-2.ensures.value c.know_ids.ensures.tracks c.know_ids.ensures.count
+
+pub count_others-others-requires-clause-tracked : goal.count_others-others-requires-clause-tracked
+count_others-others-requires-clause-tracked c =
+    let s = c.self.inside in
+    let kept : IsKept (arc_value s.config) s.labels s.parts.items s.numbers.items s.waiting.items c.know_ids.new.arrived s.sessions.items s.max_docs = kept_listed (arc_value s.config) s.labels s.parts.items s.numbers.items s.waiting.items s.arrived s.sessions.items s.max_docs c.self.invariant c.know_ids.new.arrived c.deref.result.now c.deref-3.result.now c.deref-2.result.now c.deref.ensures.value c.deref-3.ensures.value c.deref-2.ensures.value c.know_ids.ensures.tracks c.know_ids.ensures.count in
+    (length s.sessions.items, arrived_in s.labels s.parts.items s.numbers.items s.waiting.items, kept.tracks)
+
+pub invariant_of-self-then-others-self : goal.invariant_of-self-then-others-self
+invariant_of-self-then-others-self c =
+    let s = c.self.inside in
+    kept_listed (arc_value s.config) s.labels s.parts.items s.numbers.items s.waiting.items s.arrived s.sessions.items s.max_docs c.self.invariant c.know_ids.new.arrived c.deref.result.now c.deref-3.result.now c.deref-2.result.now c.deref.ensures.value c.deref-3.ensures.value c.deref-2.ensures.value c.know_ids.ensures.tracks c.know_ids.ensures.count
+
+pub returns-then-others-self-clause-full : goal.returns-then-others-self-clause-full
+returns-then-others-self-clause-full c le =
+    let s = c.self.inside in
+    let kept : IsKept (arc_value s.config) s.labels s.parts.items s.numbers.items s.waiting.items c.know_ids.new.arrived s.sessions.items s.max_docs = kept_listed (arc_value s.config) s.labels s.parts.items s.numbers.items s.waiting.items s.arrived s.sessions.items s.max_docs c.self.invariant c.know_ids.new.arrived c.deref.result.now c.deref-3.result.now c.deref-2.result.now c.deref.ensures.value c.deref-3.ensures.value c.deref-2.ensures.value c.know_ids.ensures.tracks c.know_ids.ensures.count in
+    let many : c.count_others-others.result ≡ length (without c.args.entry.doc.id c.args.self.now.docs) = c.count_others-others.ensures (length s.sessions.items) (arrived_in s.labels s.parts.items s.numbers.items s.waiting.items) kept.tracks
+    ∙ (λ i. length (without (c.id.ensures.id i) (docs_left (c.know_ids.ensures.gone i) (arrived_in s.labels s.parts.items s.numbers.items s.waiting.items)))) ∙ ap (λ (x : Index). length (without c.args.entry.doc.id x.docs)) c.self.view_is in
+    inl (ap (λ n. Err (DocsFull n)) many)
+
+pub returns-then-others-self-clause-refused : goal.returns-then-others-self-clause-refused
+returns-then-others-self-clause-refused c ne =
+    let s = c.self.inside in
+    let kept : IsKept (arc_value s.config) s.labels s.parts.items s.numbers.items s.waiting.items c.know_ids.new.arrived s.sessions.items s.max_docs = kept_listed (arc_value s.config) s.labels s.parts.items s.numbers.items s.waiting.items s.arrived s.sessions.items s.max_docs c.self.invariant c.know_ids.new.arrived c.deref.result.now c.deref-3.result.now c.deref-2.result.now c.deref.ensures.value c.deref-3.ensures.value c.deref-2.ensures.value c.know_ids.ensures.tracks c.know_ids.ensures.count in
+    let many : c.count_others-others.result ≡ length (without c.args.entry.doc.id c.args.self.now.docs) = c.count_others-others.ensures (length s.sessions.items) (arrived_in s.labels s.parts.items s.numbers.items s.waiting.items) kept.tracks
+    ∙ (λ i. length (without (c.id.ensures.id i) (docs_left (c.know_ids.ensures.gone i) (arrived_in s.labels s.parts.items s.numbers.items s.waiting.items)))) ∙ ap (λ (x : Index). length (without c.args.entry.doc.id x.docs)) c.self.view_is in
+    (ap DocsFull many, omega (arith, many, c.if-others-self.true, ap (λ (x : Index). x.max_docs) c.self.view_is))
+
+pub invariant_of-self-in_err-reserve : goal.invariant_of-self-in_err-reserve
+invariant_of-self-in_err-reserve c =
+    let s = c.self.inside in
+    let kept : IsKept (arc_value s.config) s.labels s.parts.items s.numbers.items s.waiting.items c.know_ids.new.arrived s.sessions.items s.max_docs = kept_listed (arc_value s.config) s.labels s.parts.items s.numbers.items s.waiting.items s.arrived s.sessions.items s.max_docs c.self.invariant c.know_ids.new.arrived c.deref.result.now c.deref-3.result.now c.deref-2.result.now c.deref.ensures.value c.deref-3.ensures.value c.deref-2.ensures.value c.know_ids.ensures.tracks c.know_ids.ensures.count in
+    kept_same (arc_value s.config) s.labels s.parts.items s.numbers.items s.waiting.items c.know_ids.new.arrived s.sessions.items s.max_docs kept s.numbers.items s.waiting.items c.reserve.new.self.items (refl) (refl) (c.in_err-reserve.ensures.items)
+
+pub invariant_of-self-in_err-reserve-2 : goal.invariant_of-self-in_err-reserve-2
+invariant_of-self-in_err-reserve-2 c =
+    let s = c.self.inside in
+    let kept : IsKept (arc_value s.config) s.labels s.parts.items s.numbers.items s.waiting.items c.know_ids.new.arrived s.sessions.items s.max_docs = kept_listed (arc_value s.config) s.labels s.parts.items s.numbers.items s.waiting.items s.arrived s.sessions.items s.max_docs c.self.invariant c.know_ids.new.arrived c.deref.result.now c.deref-3.result.now c.deref-2.result.now c.deref.ensures.value c.deref-3.ensures.value c.deref-2.ensures.value c.know_ids.ensures.tracks c.know_ids.ensures.count in
+    kept_same (arc_value s.config) s.labels s.parts.items s.numbers.items s.waiting.items c.know_ids.new.arrived s.sessions.items s.max_docs kept s.numbers.items c.reserve-2.new.self.items c.reserve.new.self.items (refl) (c.in_err-reserve-2.ensures.items) (c.in_ok-reserve.ensures.items)
+
+pub invariant_of-self-in_err-reserve-3 : goal.invariant_of-self-in_err-reserve-3
+invariant_of-self-in_err-reserve-3 c =
+    let s = c.self.inside in
+    let kept : IsKept (arc_value s.config) s.labels s.parts.items s.numbers.items s.waiting.items c.know_ids.new.arrived s.sessions.items s.max_docs = kept_listed (arc_value s.config) s.labels s.parts.items s.numbers.items s.waiting.items s.arrived s.sessions.items s.max_docs c.self.invariant c.know_ids.new.arrived c.deref.result.now c.deref-3.result.now c.deref-2.result.now c.deref.ensures.value c.deref-3.ensures.value c.deref-2.ensures.value c.know_ids.ensures.tracks c.know_ids.ensures.count in
+    kept_same (arc_value s.config) s.labels s.parts.items s.numbers.items s.waiting.items c.know_ids.new.arrived s.sessions.items s.max_docs kept c.reserve-3.new.self.items c.reserve-2.new.self.items c.reserve.new.self.items (c.in_err-reserve-3.ensures.items) (c.in_ok-reserve-2.ensures.items) (c.in_ok-reserve.ensures.items)
+
+pub replace-requires-clause-tracked : goal.replace-requires-clause-tracked
+replace-requires-clause-tracked c =
+    let s = c.self.inside in
+    let kept : IsKept (arc_value s.config) s.labels s.parts.items s.numbers.items s.waiting.items c.know_ids.new.arrived s.sessions.items s.max_docs = kept_listed (arc_value s.config) s.labels s.parts.items s.numbers.items s.waiting.items s.arrived s.sessions.items s.max_docs c.self.invariant c.know_ids.new.arrived c.deref.result.now c.deref-3.result.now c.deref-2.result.now c.deref.ensures.value c.deref-3.ensures.value c.deref-2.ensures.value c.know_ids.ensures.tracks c.know_ids.ensures.count in
+    (length s.sessions.items, arrived_in s.labels s.parts.items s.numbers.items s.waiting.items, kept.tracks)
+
+pub invariant_of-self-in_err-deleted : goal.invariant_of-self-in_err-deleted
+invariant_of-self-in_err-deleted c =
+    let s = c.self.inside in
+    let kept : IsKept (arc_value s.config) s.labels s.parts.items s.numbers.items s.waiting.items c.know_ids.new.arrived s.sessions.items s.max_docs = kept_listed (arc_value s.config) s.labels s.parts.items s.numbers.items s.waiting.items s.arrived s.sessions.items s.max_docs c.self.invariant c.know_ids.new.arrived c.deref.result.now c.deref-3.result.now c.deref-2.result.now c.deref.ensures.value c.deref-3.ensures.value c.deref-2.ensures.value c.know_ids.ensures.tracks c.know_ids.ensures.count in
+    let still : IsKept (arc_value s.config) s.labels s.parts.items s.numbers.items s.waiting.items c.replace.new.self s.sessions.items s.max_docs = kept_known (arc_value s.config) s.labels s.parts.items s.numbers.items s.waiting.items c.know_ids.new.arrived s.sessions.items s.max_docs kept c.replace.new.self
+    (c.in_err-deleted.ensures.still (length s.sessions.items) (arrived_in s.labels s.parts.items s.numbers.items s.waiting.items) kept.tracks) c.in_err-deleted.ensures.same.1 in
+    kept_same (arc_value s.config) s.labels s.parts.items s.numbers.items s.waiting.items c.replace.new.self s.sessions.items s.max_docs still c.reserve-3.new.self.items c.reserve-2.new.self.items c.reserve.new.self.items
+    c.in_ok-reserve-3.ensures.items c.in_ok-reserve-2.ensures.items c.in_ok-reserve.ensures.items
+
+pub overflow_cast-deleted : goal.overflow_cast-deleted
+overflow_cast-deleted c =
+    let s = c.self.inside in
+    let kept : IsKept (arc_value s.config) s.labels s.parts.items s.numbers.items s.waiting.items c.know_ids.new.arrived s.sessions.items s.max_docs = kept_listed (arc_value s.config) s.labels s.parts.items s.numbers.items s.waiting.items s.arrived s.sessions.items s.max_docs c.self.invariant c.know_ids.new.arrived c.deref.result.now c.deref-3.result.now c.deref-2.result.now c.deref.ensures.value c.deref-3.ensures.value c.deref-2.ensures.value c.know_ids.ensures.tracks c.know_ids.ensures.count in
+    omega (
+      arith,
+      c.in_ok-deleted.ensures.count (length s.sessions.items) (arrived_in s.labels s.parts.items s.numbers.items s.waiting.items) kept.tracks,
+      few_with (arc_value s.config) s.labels s.parts.items s.numbers.items s.waiting.items c.know_ids.new.arrived s.sessions.items s.max_docs kept c.id-2.result.now,
+    )
+
+listed : (c : goal.In_ok-push-3) → IsLabelList (labels_of c.meet.new.into.seen)
+listed c = subst (λ (l : List (ℕ × List (List ℕ))). IsLabelList (labels_of l)) (sym c.meet.ensures.longer)
+    (longer_list c.self.inside.labels.seen c.note-note.result.seen c.self.invariant.list
+    (subst (λ (l : List (ℕ × List (List ℕ))). IsLabelList (labels_of l)) (sym c.note-note.ensures.note.2) c.requires.labels))
+
+-- it has noted what the token has seen
+begins : (c : goal.In_ok-push-3) → IsPrefix c.args.seen.now.seen c.meet.new.into.seen
+begins c = subst (λ (l : List (ℕ × List (List ℕ))). IsPrefix l c.meet.new.into.seen) c.note-note.ensures.note.2 c.meet.ensures.told
+
+-- ---- the fields
+
+waiting_are : (c : goal.In_ok-push-3) → c.push-3.new.self.items ≡ c.self.inside.waiting.items ++ c.args.entry ∷ []
+waiting_are c = c.in_ok-push-3.ensures.items ∙ ap (λ (l : List Entry). l ++ c.args.entry ∷ []) c.in_ok-reserve-2.ensures.items
+
+numbers_are : (c : goal.In_ok-push-3) → c.push-2.new.self.items ≡ c.self.inside.numbers.items ++ c.len-at.result ∷ []
+numbers_are c = c.in_ok-push-2.ensures.items ∙ ap (λ (l : List ℕ). l ++ c.len-at.result ∷ []) c.in_ok-reserve-3.ensures.items
+
+sessions_are : (c : goal.In_ok-push-3) → c.push.new.self.items ≡ c.self.inside.sessions.items ++ c.args.session ∷ []
+sessions_are c = c.in_ok-push.ensures.items ∙ ap (λ (l : List ℕ). l ++ c.args.session ∷ []) c.in_ok-reserve.ensures.items
+
+size : (c : goal.In_ok-push-3) → c.len-at.result ≡ length c.self.inside.sessions.items
+size c = omega (arith, c.len-at.ensures)
+
+-- ---- the documents
+
+abbrev all : (c : goal.In_ok-push-3) → List (ℕ × Doc)
+all c =
+    let s = c.self.inside in
+    arrived_in s.labels s.parts.items s.numbers.items s.waiting.items
+
+kept : (c : goal.In_ok-push-3) → IsKept (arc_value c.self.inside.config) c.self.inside.labels c.self.inside.parts.items c.self.inside.numbers.items c.self.inside.waiting.items c.know_ids.new.arrived c.self.inside.sessions.items c.self.inside.max_docs
+kept c =
+    let s = c.self.inside in
+    kept_listed (arc_value s.config) s.labels s.parts.items s.numbers.items s.waiting.items s.arrived s.sessions.items s.max_docs c.self.invariant c.know_ids.new.arrived c.deref.result.now c.deref-3.result.now c.deref-2.result.now c.deref.ensures.value c.deref-3.ensures.value c.deref-2.ensures.value c.know_ids.ensures.tracks c.know_ids.ensures.count
+
+tracked : (c : goal.In_ok-push-3) → Tracks c.know_ids.new.arrived c.len-at.result (all c)
+tracked c = subst (λ (n : ℕ). Tracks c.know_ids.new.arrived n (all c)) (sym (size c)) (kept c).tracks
+
+tracked_then : (c : goal.In_ok-push-3) → Tracks c.replace.new.self (c.len-at.result + 1) (all c ++ (c.len-at.result, c.args.entry.doc) ∷ [])
+tracked_then c = c.in_ok-deleted.ensures.tracks (all c) c.args.entry.doc (sym c.id-2.ensures.id) (tracked c)
+
+docs_then : (c : goal.In_ok-push-3) → docs_left (gone_of c.replace.new.self) (all c ++ (c.len-at.result, c.args.entry.doc) ∷ []) ≡ without c.args.entry.doc.id c.args.self.now.docs ++ c.args.entry.doc ∷ []
+docs_then c =
+    c.in_ok-deleted.ensures.docs (all c) c.args.entry.doc (sym c.id-2.ensures.id) (tracked c)
+    ∙ (λ i. without (c.id-2.ensures.id i) (docs_left (c.know_ids.ensures.gone i) (all c)) ++ c.args.entry.doc ∷ [])
+    ∙ ap (λ (x : Index). without c.args.entry.doc.id x.docs ++ c.args.entry.doc ∷ []) c.self.view_is
+
+room : (c : goal.In_ok-push-3) → length (without c.args.entry.doc.id c.args.self.now.docs) < c.self.inside.max_docs
+room c =
+    let many : c.count_others-others.result ≡ length (without c.args.entry.doc.id c.args.self.now.docs) = c.count_others-others.ensures (length c.self.inside.sessions.items) (all c) (kept c).tracks
+    ∙ (λ i. length (without (c.id.ensures.id i) (docs_left (c.know_ids.ensures.gone i) (all c)))) ∙ ap (λ (x : Index). length (without c.args.entry.doc.id x.docs)) c.self.view_is in
+    omega (arith, many, c.if-others-self.false)
+
+pub invariant_of-self-2 : goal.invariant_of-self-2
+invariant_of-self-2 c =
+    let s = c.self.inside in
+    let told = c.args.seen.now in
+    let next = c.meet.new.into in
+    let arrived = c.replace.new.self in
+    subst (λ (sessions : List ℕ). IsKept (arc_value s.config) next s.parts.items c.push-2.new.self.items c.push-3.new.self.items arrived sessions s.max_docs) (sym (sessions_are c))
+    (subst (λ (ns : List ℕ). IsKept (arc_value s.config) next s.parts.items ns c.push-3.new.self.items arrived (s.sessions.items ++ c.args.session ∷ []) s.max_docs) (sym (numbers_are c))
+    (subst (λ (es : List Entry). IsKept (arc_value s.config) next s.parts.items (s.numbers.items ++ c.len-at.result ∷ []) es arrived (s.sessions.items ++ c.args.session ∷ []) s.max_docs) (sym (waiting_are c))
+    (kept_more (arc_value s.config) s.labels s.parts.items s.numbers.items s.waiting.items c.know_ids.new.arrived s.sessions.items s.max_docs (kept c) next c.meet.ensures.more.0 (listed c) told c.args.entry
+    c.len-at.result c.args.session arrived (search (rules, c.meet.ensures.same, c.self.invariant.note)) c.requires.labels (begins c)
+    (subst (λ (config : Config). IsEntry config (labels_of told.seen) c.args.entry) (sym (ap (λ (x : Index). x.config) c.self.view_is)) c.requires.entry)
+    (size c) (tracked_then c) (few_more (arc_value s.config) s.labels s.parts.items s.numbers.items s.waiting.items c.know_ids.new.arrived s.sessions.items s.max_docs (kept c) next c.meet.ensures.more.0 (listed c) told c.args.entry c.len-at.result c.replace.new.self (without c.args.entry.doc.id c.args.self.now.docs) (tracked_then c) (docs_then c) (room c)))))
+
+pub returns-clause-deleted : goal.returns-clause-deleted
+returns-clause-deleted c =
+    c.in_ok-deleted.ensures.count (length c.self.inside.sessions.items) (all c) (kept c).tracks
+    ∙ (λ i. count_with (c.id-2.ensures.id i) (docs_left (c.know_ids.ensures.gone i) (all c))) ∙ ap (λ (x : Index). count_with c.args.entry.doc.id x.docs) c.self.view_is
+
+arrived_now : (c : goal.In_ok-push-3) → arrived_in c.meet.new.into c.self.inside.parts.items c.push-2.new.self.items c.push-3.new.self.items ≡ all c ++ (c.len-at.result, c.args.entry.doc) ∷ []
+arrived_now c =
+    let s = c.self.inside in
+    (λ i. arrived_in c.meet.new.into s.parts.items (numbers_are c i) (waiting_are c i))
+    ∙ arrived_more (arc_value s.config) s.labels s.parts.items s.numbers.items s.waiting.items c.know_ids.new.arrived s.sessions.items s.max_docs (kept c) c.meet.new.into c.meet.ensures.more.0 (listed c) c.args.seen.now c.args.entry c.len-at.result
+
+docs_are : (c : goal.In_ok-push-3) → docs_left (gone_of c.replace.new.self) (arrived_in c.meet.new.into c.self.inside.parts.items c.push-2.new.self.items c.push-3.new.self.items) ≡ without c.args.entry.doc.id c.args.self.now.docs ++ c.args.entry.doc ∷ []
+docs_are c = ap (docs_left (gone_of c.replace.new.self)) (arrived_now c) ∙ docs_then c
+
+abbrev changed_to : (c : goal.In_ok-push-3) → Index
+changed_to c =
+    let s = c.self.inside in
+    index_of (segments_in s.parts.items) (arrived_in c.meet.new.into s.parts.items c.push-2.new.self.items c.push-3.new.self.items) (length c.push-3.new.self.items) (gone_of c.replace.new.self) c.push.new.self.items (arc_value s.config) s.max_docs c.meet.new.into
+
+sessions_then : (c : goal.In_ok-push-3) → c.push.new.self.items ≡ c.args.self.now.sessions ++ c.args.session ∷ []
+sessions_then c = sessions_are c ∙ ap (λ (x : Index). x.sessions ++ c.args.session ∷ []) c.self.view_is
+
+pub returns-clause-changed : goal.returns-clause-changed
+returns-clause-changed c =
+    let next = c.meet.new.into in
+    is_changed c.args.self.now (changed_to c) c.args.session (replace c.args.entry.doc) (ap (λ (x : Index). x.segments) c.self.view_is) (ap (λ (x : Index). x.config) c.self.view_is)
+    (ap (λ (x : Index). x.max_docs) c.self.view_is) (docs_are c) (sessions_then c)
+    (subst (λ (x : Index). SameToken x.labels next) c.self.view_is c.meet.ensures.same.0) (subst (λ (x : Index). SeesOn x.labels next) c.self.view_is c.meet.ensures.more)
+
+pub returns-clause-stands : goal.returns-clause-stands
+returns-clause-stands c =
+    let next = c.meet.new.into in
+    let at : c.len-at.result ≡ length c.args.self.now.sessions = size c ∙ ap (λ (x : Index). length x.sessions) c.self.view_is in
+    arrived_stands c.args.self.now (changed_to c) c.args.session (replace c.args.entry.doc) c.args.entry.doc refl (docs_are c) (sessions_then c)
+    (subst (λ (x : Index). IsPrefix x.labels.seen next.seen) c.self.view_is c.meet.ensures.more.0)
+    (knows_on c.args.seen.now.seen next.seen (begins c) c.args.entry.doc c.requires.entry.known)
+    (arrived_now c ∙ ap (λ (x : Index). x.arrived ++ (c.len-at.result, c.args.entry.doc) ∷ []) c.self.view_is ∙ ap (λ (n : ℕ). c.args.self.now.arrived ++ (n, c.args.entry.doc) ∷ []) at)
+
+pub returns-clause-room : goal.returns-clause-room
+returns-clause-room c = omega (arith, room c, ap (λ (x : Index). x.max_docs) c.self.view_is)
+
+pub returns-clause-full : goal.returns-clause-full
+returns-clause-full c le = absurd (omega (arith, room c, ap (λ (x : Index). x.max_docs) c.self.view_is, le))
