@@ -72,10 +72,10 @@ def check_files(checker: Checker, stored: dict[str, bytes], left: dict[str, byte
 
 
 def check_found(checker: Checker, commits: list[Answered], found: reference.Session) -> None:
-    """The documents are those that the operations of the last commit leave; the labels are the first of all, and those that its session was shown."""
+    """The documents are the first of all, as many as the commit that came last has; the labels are the first of all, and those that its session was shown."""
     many = max(a.number("n") or 0 for a in commits)
-    if [plain(document) for document in found.documents] != [plain(document) for document in checker.history.documents(many)]:
-        checker.broken("files", (), f"they open as other documents than the first {many} operations leave")
+    if [plain(document) for document in found.documents] != [plain(document) for document in checker.documents[:many]]:
+        checker.broken("files", (), f"they open as other documents than the first {many}")
     least = max(checker.shown[id(a)] for a in commits)
     if found.labels != checker.labels[: len(found.labels)] or len(found.labels) < least:
         checker.broken("files", (), f"they open as {len(found.labels)} labels, which are not the first ones, or fewer than {least}")

@@ -10,19 +10,9 @@ REFRESH = '{"s":1,"cmd":"refresh"}'
 COMMIT = '{"s":1,"cmd":"commit"}'
 STATS = '{"s":1,"cmd":"stats"}'
 MERGE = '{"s":1,"cmd":"merge"}'
-HOLD = '{"s":1,"cmd":"hold","name":"a"}'
-TOP = '"ask":[{"top":["Author"],"n":10}]'
 RANGES = '{"s":1,"cmd":"ranges","dim":"price","ranges":[{"name":"low","min":0,"max":10},{"name":"mid","min":10,"max":20,"min_open":true}]}'
 SUMS = '{"s":1,"cmd":"sums","dim":"genre","n":10}'
 BAD_SHAPE = {"fault": "bad_shape", "line": 2}
-
-
-def delete(id: str) -> str:
-    return '{"s":1,"cmd":"delete","id":"%s"}' % id
-
-
-def replace(id: str, author: str) -> str:
-    return '{"s":1,"cmd":"replace","id":"%s","facets":[["Author","%s"]]}' % (id, author)
 
 
 def search(keys: str) -> str:
@@ -73,37 +63,6 @@ READ: list[tuple[str, dict | None]] = [
     ('{"s":65,"cmd":"merge","n":1}', {"fault": "bad_shape", "line": 2}),
     ('{"s":65,"cmd":"merge"}', {"fault": "bad_session", "line": 2}),
     ('{"s":1,"cmd":"add","id":"b","on":"a"}', {"fault": "bad_shape", "line": 2}),
-    (delete("b"), None),
-    (delete("x" * 256), None),
-    (delete("é" * 128), None),
-    ('{"s":1,"cmd":"replace","id":"b"}', None),
-    ('{"s":64,"cmd":"replace","id":"b","text":"","facets":[]}', None),
-    (replace("x" * 256, "Bob"), None),
-    (delete(""), BAD_SHAPE),
-    (delete("x" * 257), BAD_SHAPE),
-    (delete("é" * 129), BAD_SHAPE),
-    ('{"s":1,"cmd":"delete"}', BAD_SHAPE),
-    ('{"cmd":"delete","id":"b"}', BAD_SHAPE),
-    ('{"s":1,"cmd":"delete","id":null}', BAD_SHAPE),
-    ('{"s":1,"cmd":"delete","id":7}', BAD_SHAPE),
-    ('{"s":1,"cmd":"delete","id":["b"]}', BAD_SHAPE),
-    ('{"s":1,"cmd":"delete","id":"b","text":""}', BAD_SHAPE),
-    ('{"s":1,"cmd":"delete","id":"b","facets":[]}', BAD_SHAPE),
-    ('{"s":1,"cmd":"delete","id":"b","on":"a"}', BAD_SHAPE),
-    ('{"s":1,"cmd":"delete","ids":["b"]}', BAD_SHAPE),
-    ('{"s":1,"cmd":"delete","query":{"all":true}}', BAD_SHAPE),
-    ('{"s":1,"cmd":"deletes","id":"b"}', BAD_SHAPE),
-    ('{"s":1,"cmd":"Delete","id":"b"}', BAD_SHAPE),
-    ('{"s":65,"cmd":"delete","id":""}', BAD_SHAPE),
-    ('{"s":65,"cmd":"delete","id":"b"}', {"fault": "bad_session", "line": 2}),
-    ('{"s":0,"cmd":"replace","id":"b"}', {"fault": "bad_session", "line": 2}),
-    ('{"s":1,"cmd":"replace"}', BAD_SHAPE),
-    ('{"s":1,"cmd":"replace","id":""}', BAD_SHAPE),
-    (replace("x" * 257, "Bob"), BAD_SHAPE),
-    (replace("b", ""), BAD_SHAPE),
-    ('{"s":1,"cmd":"replace","id":"b","facets":[[]]}', BAD_SHAPE),
-    ('{"s":1,"cmd":"replace","id":"b","text":null}', BAD_SHAPE),
-    ('{"s":1,"cmd":"replace","id":"b","by":{}}', BAD_SHAPE),
     ('{"s":0,"cmd":"stats"}', {"fault": "bad_session", "line": 2}),
     ('{"s":65,"cmd":"stats"}', {"fault": "bad_session", "line": 2}),
     ('{"s":18446744073709551615,"cmd":"stats"}', {"fault": "bad_session", "line": 2}),
@@ -164,22 +123,22 @@ CONFIGS: list[tuple[str, dict | None]] = [
     ('{"cmd":"config","Auto_merge":true}', {"fault": "bad_shape", "line": 1}),
 ]
 
-# How many documents segments have, and how many after the merge that `auto_merge` makes of them.
+# Where segments end, and where they end after the merge that `auto_merge` makes of them.
 TIERED: list[tuple[list[int], list[int]]] = [
     ([], []),
     ([1], [1]),
-    ([1, 1], [1, 1]),
-    ([1, 1, 1, 1], [1, 1, 1, 1]),
-    ([1, 1, 1, 1, 1], [5]),
-    ([5, 1, 1, 1, 1], [5, 1, 1, 1, 1]),
-    ([5, 1, 1, 1, 1, 1], [5, 5]),
-    ([5, 5, 5, 5], [5, 5, 5, 5]),
-    ([5, 5, 5, 5, 1], [21]),
-    ([10, 1, 4, 1], [10, 6]),
-    ([1, 4], [5]),
-    ([1, 3], [1, 3]),
-    ([100, 1, 1], [100, 1, 1]),
-    ([2, 100, 1], [103]),
+    ([1, 2], [1, 2]),
+    ([1, 2, 3, 4], [1, 2, 3, 4]),
+    ([1, 2, 3, 4, 5], [5]),
+    ([5, 6, 7, 8, 9], [5, 6, 7, 8, 9]),
+    ([5, 6, 7, 8, 9, 10], [5, 10]),
+    ([5, 10, 15, 20], [5, 10, 15, 20]),
+    ([5, 10, 15, 20, 21], [21]),
+    ([10, 11, 15, 16], [10, 16]),
+    ([1, 5], [5]),
+    ([1, 4], [1, 4]),
+    ([100, 101, 102], [100, 101, 102]),
+    ([2, 102, 103], [103]),
 ]
 
 # Command-line arguments, and what they ask for: the directory, how many documents are generated, whether it is the line mode and whether it only reads; or None
@@ -332,76 +291,6 @@ ALONE: list[tuple[str, list[str], list[str]]] = [
         [
             '{"line":2,"refused":"labels_full","s":1,"size":3}',
             '{"at":0,"line":3,"s":1}',
-            '{"labels":[[0,"Author"],[1,"Bob"]],"opened":[0,1],"order":[1]}',
-        ],
-    ),
-    (
-        CONFIG,
-        [BOB, LISA, REFRESH, HOLD, delete("b1"), replace("b2", "Bob"), REFRESH, search('"on":"a",' + TOP), search(TOP)]
-        + ['{"s":1,"cmd":"document","at":0}', delete("zz")],
-        [
-            '{"at":0,"line":2,"s":1}',
-            '{"at":1,"line":3,"s":1}',
-            '{"line":4,"n":2,"s":1}',
-            '{"line":5,"n":2,"s":1}',
-            '{"at":2,"deleted":1,"line":6,"s":1}',
-            '{"at":3,"deleted":1,"line":7,"s":1}',
-            '{"line":8,"n":4,"s":1}',
-            '{"hit_count":2,"hits":[{"at":0,"id":"b1"},{"at":1,"id":"b2"}],"line":9,"n":2,"results":'
-            + '[{"child_count":2,"children":[["Bob",1],["Lisa",1]],"path":["Author"],"value":2}],"s":1}',
-            '{"hit_count":1,"hits":[{"at":0,"id":"b2"}],"line":10,"n":4,"results":[{"child_count":1,"children":[["Bob",1]],"path":["Author"],"value":1}],"s":1}',
-            '{"at":0,"id":"b2","labels":[["Author","Bob"]],"line":11,"n":4,"ordinals":[2],"s":1,"text":""}',
-            '{"at":4,"deleted":0,"line":12,"s":1}',
-            '{"labels":[[0,"Author"],[1,"Bob"],[1,"Lisa"]],"opened":[0,1],"order":[1,1,1,1,1]}',
-        ],
-    ),
-    # several documents have one id; a replace takes all of them out, and adds one
-    (
-        CONFIG,
-        [BOB, BOB, LISA, REFRESH, BOB, delete("b1"), STATS, REFRESH, STATS, '{"s":1,"cmd":"document","at":1}', replace("b2", "Eve"), LISA, replace("b2", "Bob")],
-        [
-            '{"at":0,"line":2,"s":1}',
-            '{"at":1,"line":3,"s":1}',
-            '{"at":2,"line":4,"s":1}',
-            '{"line":5,"n":3,"s":1}',
-            '{"at":3,"line":6,"s":1}',
-            '{"at":4,"deleted":3,"line":7,"s":1}',
-            '{"documents":3,"labels":4,"line":8,"n":3,"s":1}',
-            '{"line":9,"n":5,"s":1}',
-            '{"documents":1,"labels":4,"line":10,"n":5,"s":1}',
-            '{"count":1,"line":11,"refused":"no_such_document","s":1}',
-            '{"at":5,"deleted":1,"line":12,"s":1}',
-            '{"at":6,"line":13,"s":1}',
-            '{"at":7,"deleted":2,"line":14,"s":1}',
-            '{"labels":[[0,"Author"],[1,"Bob"],[1,"Lisa"],[1,"Eve"]],"opened":[0,1],"order":[1,1,1,1,1,1,1,1]}',
-        ],
-    ),
-    # the limit is of documents and not of operations; a replace is counted without what it takes out, and its labels stay where it is refused
-    (
-        '{"cmd":"config","max_docs":1}',
-        [BOB, replace("b1", "Lisa"), replace("b2", "Eve"), delete("b2"), delete("b1"), replace("b2", "Eve"), BOB],
-        [
-            '{"at":0,"line":2,"s":1}',
-            '{"at":1,"deleted":1,"line":3,"s":1}',
-            '{"count":1,"line":4,"refused":"docs_full","s":1}',
-            '{"at":2,"deleted":0,"line":5,"s":1}',
-            '{"at":3,"deleted":1,"line":6,"s":1}',
-            '{"at":4,"deleted":0,"line":7,"s":1}',
-            '{"count":1,"line":8,"refused":"docs_full","s":1}',
-            '{"labels":[[0,"Author"],[1,"Bob"],[1,"Lisa"],[1,"Eve"]],"opened":[0,1],"order":[1,1,1,1,1]}',
-        ],
-    ),
-    # a replace that the config rejects takes nothing out
-    (
-        CONFIG,
-        [BOB, '{"s":1,"cmd":"replace","id":"b1","facets":[["Author","Eve"],["Author","Bob"]]}', '{"s":1,"cmd":"replace","id":"b1","facets":[["Author"]]}']
-        + [REFRESH, STATS],
-        [
-            '{"at":0,"line":2,"s":1}',
-            '{"facet":1,"line":3,"refused":"not_multi_valued","s":1}',
-            '{"facet":0,"line":4,"refused":"no_component","s":1}',
-            '{"line":5,"n":1,"s":1}',
-            '{"documents":1,"labels":3,"line":6,"n":1,"s":1}',
             '{"labels":[[0,"Author"],[1,"Bob"]],"opened":[0,1],"order":[1]}',
         ],
     ),
@@ -565,28 +454,6 @@ def found(hits: str) -> list[str]:
     return ['{"at":0,"line":2,"s":1}', '{"at":1,"line":3,"s":1}', '{"line":4,"n":2,"s":1}', reply, last]
 
 
-def thinned(last: str) -> list[str]:
-    """One of two documents is deleted before a refresh."""
-    last_line = '{"labels":[[0,"Author"],[1,"Bob"],[1,"Lisa"]],"opened":[0,1],"order":[1,1,1]}'
-    return ['{"at":0,"line":2,"s":1}', '{"at":1,"line":3,"s":1}', '{"at":2,"deleted":1,"line":4,"s":1}', '{"line":5,"n":3,"s":1}', last, last_line]
-
-
-def swapped(reply: str, order: str) -> list[str]:
-    """Session 2 deletes, or replaces, what session 1 may have added before."""
-    return ['{"at":%d,"line":2,"s":1}' % order.index("1"), reply, '{"labels":[[0,"A"],[1,"x"]],"opened":[0,1],"order":[%s]}' % ",".join(order)]
-
-
-def full_again(last: str, order: str) -> list[str]:
-    """One document is added and deleted, where there is room for one."""
-    return ['{"at":0,"line":2,"s":1}', '{"at":1,"deleted":1,"line":3,"s":1}', last, *order.split(" ")]
-
-
-THINNED = [BOB, LISA, delete("b1"), REFRESH]
-DELETES, REPLACES = '{"s":2,"cmd":"delete","id":"a"}', '{"s":2,"cmd":"replace","id":"a","facets":[["A","x"]]}'
-FULL_AGAIN = [A % 1, delete("a"), B % 1]
-NONE_FULL = '{"labels":[[0,"A"],[1,"x"],[0,"B"],[3,"y"]],"opened":[0,1],"order":[1,1]}'
-ONE_FULL = '{"at":2,"line":5,"s":2} {"labels":[[0,"A"],[1,"x"],[0,"B"],[3,"y"]],"opened":[0,1],"order":[1,1,2]}'
-
 NEWEST = [BOB, LISA, REFRESH, search('"newest":true')]
 SHOWN = [BOB, LISA, REFRESH, search('"hits":1,"show":true')]
 RANGED = ['{"s":1,"cmd":"add","id":"b1","facets":[["price","10"]]}', REFRESH, RANGES]
@@ -634,40 +501,6 @@ JUDGED: list[tuple[str, list[str], list[str], str | None]] = [
     (CONFIG, [MERGE], ['{"line":2,"merged":true,"n":0,"s":1}', '{"labels":[],"opened":[0,1],"order":[]}'], "replies"),
     (CONFIG, [MERGE], ['{"line":2,"n":0,"s":1}', '{"labels":[],"opened":[0,1],"order":[]}'], "replies"),
     (CONFIG, [MERGE], ['{"count":1,"line":2,"refused":"closed","s":1}', '{"labels":[],"opened":[0,1],"order":[]}'], "replies"),
-    # a delete leaves out each document with its id, and no other; `n` counts operations, and `documents` documents
-    (CONFIG, [*THINNED, STATS], thinned('{"documents":1,"labels":4,"line":6,"n":3,"s":1}'), None),
-    (CONFIG, [*THINNED, STATS], thinned('{"documents":2,"labels":4,"line":6,"n":3,"s":1}'), "replies"),
-    (CONFIG, [*THINNED, STATS], thinned('{"documents":1,"labels":4,"line":6,"n":1,"s":1}'), "pairs"),
-    # a pair has the labels of what it has deleted too
-    (CONFIG, [BOB, LISA, delete("b2"), REFRESH, STATS], thinned('{"documents":1,"labels":4,"line":6,"n":3,"s":1}'), None),
-    (CONFIG, [BOB, LISA, delete("b2"), REFRESH, STATS], thinned('{"documents":1,"labels":3,"line":6,"n":3,"s":1}'), "publications"),
-    (CONFIG, [*THINNED, search('"hits":9')], thinned('{"hit_count":1,"hits":[{"at":0,"id":"b2"}],"line":6,"n":3,"results":[],"s":1}'), None),
-    (CONFIG, [*THINNED, search('"hits":9')], thinned('{"hit_count":1,"hits":[{"at":1,"id":"b2"}],"line":6,"n":3,"results":[],"s":1}'), "replies"),
-    (CONFIG, [*THINNED, search('"hits":9')], thinned('{"hit_count":1,"hits":[{"at":0,"id":"b1"}],"line":6,"n":3,"results":[],"s":1}'), "replies"),
-    # of a document that is not there the reply tells how many there are, which the pair of one operation has too, but not after a refresh of three
-    (CONFIG, [*THINNED, SEES % 1], thinned('{"count":1,"line":6,"refused":"no_such_document","s":1}'), None),
-    (CONFIG, [*THINNED, SEES % 1], thinned('{"count":2,"line":6,"refused":"no_such_document","s":1}'), "pairs"),
-    (CONFIG, [*THINNED, SEES % 1], thinned('{"count":3,"line":6,"refused":"no_such_document","s":1}'), "replies"),
-    # what another session deletes and replaces depends on which came first
-    (CONFIG, [A % 1, DELETES], swapped('{"at":1,"deleted":1,"line":3,"s":2}', "12"), None),
-    (CONFIG, [A % 1, DELETES], swapped('{"at":0,"deleted":0,"line":3,"s":2}', "21"), None),
-    (CONFIG, [A % 1, DELETES], swapped('{"at":1,"deleted":0,"line":3,"s":2}', "12"), "replies"),
-    (CONFIG, [A % 1, DELETES], swapped('{"at":0,"deleted":1,"line":3,"s":2}', "21"), "replies"),
-    (CONFIG, [A % 1, DELETES], swapped('{"at":1,"line":3,"s":2}', "12"), "replies"),
-    (CONFIG, [A % 1, REPLACES], swapped('{"at":1,"deleted":1,"line":3,"s":2}', "12"), None),
-    (CONFIG, [A % 1, REPLACES], swapped('{"at":0,"deleted":0,"line":3,"s":2}', "21"), None),
-    (CONFIG, [A % 1, REPLACES], swapped('{"at":0,"deleted":1,"line":3,"s":2}', "21"), "replies"),
-    (CONFIG, [A % 1, DELETES], swapped('{"at":0,"deleted":0,"line":3,"s":2}', "12"), "operations"),
-    (CONFIG, [A % 1, DELETES], swapped('{"line":3,"refused":"no_memory","s":2}', "1"), None),
-    (CONFIG, [A % 1, DELETES], swapped('{"count":1,"line":3,"refused":"docs_full","s":2}', "1"), "replies"),
-    ('{"cmd":"config","max_docs":1}', [A % 1, REPLACES], swapped('{"at":1,"deleted":1,"line":3,"s":2}', "12"), None),
-    ('{"cmd":"config","max_docs":1}', [A % 1, REPLACES], swapped('{"count":1,"line":3,"refused":"docs_full","s":2}', "1"), "replies"),
-    ('{"cmd":"config","max_docs":1}', [A % 1, REPLACES.replace("a\"", "b\"")], swapped('{"count":1,"line":3,"refused":"docs_full","s":2}', "1"), None),
-    ('{"cmd":"config","max_docs":1}', [A % 1, REPLACES.replace("a\"", "b\"")], swapped('{"at":1,"deleted":0,"line":3,"s":2}', "12"), "replies"),
-    # an add is refused for documents where there are too many when it comes, and not for those that were there before
-    ('{"cmd":"config","max_docs":1}', FULL_AGAIN, full_again('{"count":1,"line":4,"refused":"docs_full","s":1}', NONE_FULL), "fresh"),
-    ('{"cmd":"config","max_docs":1}', [*FULL_AGAIN, A % 2], full_again('{"count":1,"line":4,"refused":"docs_full","s":1}', ONE_FULL), None),
-    ('{"cmd":"config","max_docs":1}', FULL_AGAIN, full_again('{"count":0,"line":4,"refused":"docs_full","s":1}', NONE_FULL), "replies"),
     # hits are listed from the last document on if that is asked for, and have their content only then
     (CONFIG, NEWEST, found('[{"at":1,"id":"b2"},{"at":0,"id":"b1"}]'), None),
     (CONFIG, NEWEST, found('[{"at":0,"id":"b1"},{"at":1,"id":"b2"}]'), "replies"),

@@ -6,10 +6,8 @@ from __future__ import annotations
 
 import itertools
 from collections.abc import Callable, Iterator
-from dataclasses import dataclass, field
+from dataclasses import dataclass
 
-import reference
-from history import BRINGING, docs
 from reference import Document
 from relation import Answered, Checker, comes_after, may_come_after
 from shapes import LOOKS
@@ -19,12 +17,10 @@ Numbers = tuple[int, int]
 
 @dataclass
 class Hidden:
-    """The pairs that were published, each beside its session; by line the place among them of what an order took or published; and by line how many operations
-    there were when a change was refused for documents."""
+    """The pairs that were published, each beside its session, and by line the place among them of what an order took or published."""
 
     published: list[tuple[int, Numbers]]
     places: dict[int, int]
-    saw: dict[int, int] = field(default_factory=dict)
 
 
 @dataclass
@@ -46,8 +42,7 @@ class Literal:
         clauses: dict[str, Callable[[], bool]] = {
             "replies": self.replies,
             "entered": lambda: all(self.is_entered(ordinal) for ordinal in range(len(self.read.opened.labels), len(self.read.labels))),
-            "fresh": lambda: all(self.stood(a) is None or self.is_fresh(a, self.stood(a)) for a in self.read.answered),
-            "refused": lambda: all(not is_full(a) or self.is_full_at(a, self.stood(a)) for a in self.read.answered),
+            "fresh": lambda: all(a.stood is None or self.is_fresh(a, a.stood) for a in self.read.answered),
             "opened_pair_first": lambda: self.hidden.published[0] == (0, (len(self.read.opened.documents), len(self.read.opened.labels))),
             "publications": self.are_publications,
             "refreshes": self.are_refreshes,
@@ -59,15 +54,6 @@ class Literal:
 
     def known_to(self, a: Answered) -> Iterator[Answered]:
         return (b for b in self.read.answered if comes_after(a, b))
-
-    def docs(self, n: int) -> list[Document]:
-        return docs(self.read.history.changes[:n])
-
-    def stood(self, a: Answered) -> int | None:
-        return self.hidden.saw.get(a.order.line) if is_full(a) else a.stood
-
-    def shows(self, a: Answered) -> int:
-        return self.hidden.saw.get(a.order.line, 0) if is_full(a) else a.shows
 
     # ---- replies
 
@@ -97,18 +83,18 @@ class Literal:
             pair = under if a.order.on is not None else self.took(a)
             if pair is None:
                 return a.order.on is not None and given == {"refused": "not_held"}
-            self.read.view.pair = reference.Pair(*pair, self.docs(pair[0]))
+            self.read.view.documents, (self.read.view.taken, self.read.view.taken_labels) = self.read.documents, pair
             return given == getattr(self.read.view, a.order.command)(a.order.value)
         # the others see nothing that is hidden
         return True
 
-    # ---- labels and operations
+    # ---- labels and documents
 
     def reply_among(self, a: Answered, count: int) -> bool:
         these = set(self.read.labels[:count])
-        if a.order.command in BRINGING and (a.placed is not None or a.is_refused("docs_full")):
+        if a.order.command == "add" and (a.placed is not None or a.is_refused("docs_full")):
             return self.knows(these, self.read.document_of(a.order.value))
-        if a.order.command in BRINGING and a.is_refused("labels_full"):
+        if a.order.command == "add" and a.is_refused("labels_full"):
             return (a.number("size") or 0) <= count
         return a.order.command != "stats" or (a.number("labels") or 0) <= count
 
@@ -122,34 +108,21 @@ class Literal:
     def is_entered(self, ordinal: int) -> bool:
         path, before = self.read.labels[ordinal], set(self.read.labels[:ordinal])
         for b in self.read.answered:
-            paths = self.read.paths_of(b) if b.order.command in BRINGING else []
+            paths = self.read.paths_of(b) if b.order.command == "add" else []
             if path in paths and before.issuperset(paths[: paths.index(path)]) and all(self.labels_among(a, ordinal) for a in self.known_to(b)):
                 return True
         return False
 
     def is_fresh(self, a: Answered, n: int) -> bool:
-        return len(self.read.opened.documents) <= n <= len(self.read.history) and all(self.shows(b) <= n for b in self.known_to(a))
-
-    def is_full_at(self, a: Answered, n: int | None) -> bool:
-        """The documents of the first n operations are as many as a refused change says, without those that it takes out, and they leave no room."""
-        if n is None:
-            return False
-        change = self.read.change_of(a)
-        count = sum(document.id != change.without for document in self.docs(n))
-        return count == a.number("count") and self.read.view.max_docs <= count
+        return len(self.read.opened.documents) <= n <= len(self.read.documents) and all(b.shows <= n for b in self.known_to(a))
 
     # ---- pairs
 
     def are_publications(self) -> bool:
         pairs = [pair for _, pair in self.hidden.published]
         rise = all(pair[0] <= other[0] and pair[1] <= other[1] for pair, other in zip(pairs, pairs[1:]))
-        there = all(n <= len(self.read.history) and labels <= len(self.read.labels) for n, labels in pairs)
-        return rise and there and all(self.covers(labels, n) for n, labels in pairs)
-
-    def covers(self, labels: int, n: int) -> bool:
-        """So many labels have all prefixes of the labels of each document that the first n operations brought."""
-        these = set(self.read.labels[:labels])
-        return all(change.document is None or self.knows(these, change.document) for change in self.read.history.changes[:n])
+        there = all(n <= len(self.read.documents) and labels <= len(self.read.labels) for n, labels in pairs)
+        return rise and there and all(self.knows(set(self.read.labels[:labels]), document) for n, labels in pairs for document in self.read.documents[:n])
 
     def are_refreshes(self) -> bool:
         sessions = {session for session, _ in self.hidden.published[1:]} | {a.order.session for a in self.read.answered}
@@ -182,11 +155,6 @@ class Literal:
 # ---- hidden data
 
 
-def is_full(a: Answered) -> bool:
-    """A change that was refused for documents."""
-    return a.order.command in BRINGING and a.is_refused("docs_full")
-
-
 def takes(a: Answered) -> bool:
     """It took a pair without a name, and was not refused for memory or for a name."""
     if a.is_refused("no_memory") or a.is_refused("held_already"):
@@ -208,7 +176,7 @@ def found(read: Checker) -> Hidden:
     for a in read.answered:
         if takes(a) and a.order.line not in places:
             places[a.order.line] = max((places[b.order.line] for b in read.answered if comes_after(a, b) and b.order.line in places), default=0)
-    return Hidden(published, places, dict(read.saw))
+    return Hidden(published, places)
 
 
 def merged(lists: list[list[Answered]]) -> Iterator[list[Answered]]:
@@ -233,23 +201,10 @@ def all_hidden(read: Checker) -> Iterator[Hidden]:
             if not Literal(read, Hidden(published, {})).are_publications():
                 continue
             own = {a.order.line: place for place, a in enumerate(order, 1)}
-            choices = [[place for place, (_, pair) in enumerate(published) if may_be_of(read, a, pair[0])] for a in taking]
+            told = [a.number("count" if a.is_refused("no_such_document") else "n") for a in taking]
+            choices = [[place for place, (_, pair) in enumerate(published) if n in (None, pair[0])] for n in told]
             for choice in itertools.product(*choices):
-                for saw in all_saw(read):
-                    yield Hidden(published, {**own, **{a.order.line: place for a, place in zip(taking, choice)}}, saw)
-
-
-def may_be_of(read: Checker, a: Answered, n: int) -> bool:
-    """The reply may be one over a pair of so many operations, as far as the number that it tells."""
-    if a.is_refused("no_such_document"):
-        return a.number("count") == len(docs(read.history.changes[:n]))
-    return a.number("n") in (None, n)
-
-
-def all_saw(read: Checker) -> Iterator[dict[int, int]]:
-    """Every choice of what the changes have seen that were refused for documents."""
-    full = [a.order.line for a in read.answered if is_full(a)]
-    return (dict(zip(full, numbers)) for numbers in itertools.product(range(len(read.history) + 1), repeat=len(full)))
+                yield Hidden(published, {**own, **{a.order.line: place for a, place in zip(taking, choice)}})
 
 
 def has_hidden(read: Checker) -> bool:

@@ -4,7 +4,6 @@ import copy
 import json
 
 from files import digest, sealed
-from history import BRINGING
 from shapes import NOT_JSON
 
 DIMENSIONS = ["A", "B", "Author", "é", "Z\x1f", "a"]
@@ -90,40 +89,6 @@ def add(random, number):
     return order
 
 
-def some_id(random, number):
-    """An id that some documents have, or one, or none."""
-    return random.choice(["twin", "é", "x", "k" * 256, f"b{random.randint(0, number)}", f"b{random.randint(0, number)}", "nobody"])
-
-
-def delete(random, number):
-    return {"s": 1, "cmd": "delete", "id": some_id(random, number)}
-
-
-def replacing(random, order, number):
-    """A replace by the document of an add, whose id others may have."""
-    return {**order, "cmd": "replace", "id": some_id(random, number) if random.random() < 0.8 else order["id"]}
-
-
-def change(random, number):
-    kind = random.random()
-    if kind < 0.15:
-        return delete(random, number)
-    return replacing(random, add(random, number), number) if kind < 0.3 else add(random, number)
-
-
-def ids_of(values):
-    """The ids that documents may have after these lines."""
-    return {value["id"] for value in values if value["cmd"] in BRINGING}
-
-
-def clearing(random, ids):
-    """Deletes of all documents with these ids, or of all but a few, and a commit."""
-    ids = sorted(ids)
-    random.shuffle(ids)
-    few = ids[: len(ids) - random.choice([0, 0, 1, 3])]
-    return [{"s": 1, "cmd": "delete", "id": id} for id in few] + [{"s": 1, "cmd": "commit"}]
-
-
 def ask(random):
     kind, number = random.random(), random.choice([1, 2, 5, 2**32 - 1]) if random.random() < 0.98 else 0
     if kind < 0.4:
@@ -192,8 +157,8 @@ def look(random):
 
 def order(random, number):
     kind = random.random()
-    if kind < 0.48:
-        return change(random, number)
+    if kind < 0.45:
+        return add(random, number)
     if kind < 0.75:
         return {"s": 1, "cmd": random.choice(["refresh", "refresh", "refresh", "commit", "commit", "stats", "merge"])}
     if kind < 0.8:
@@ -279,7 +244,7 @@ EVERY = {"all": True}
 PATHS = [[], ["A"] * 32, ["A"] * 33, ["A", ""], ["A", "é" * 512], ["A", "é" * 513]]
 # values of a key at its limits and behind them
 LIMITS = {
-    "cmd": ["config", "add", "delete", "replace", "hold", "phase", "merge"],
+    "cmd": ["config", "add", "hold", "phase", "merge"],
     "s": [0, 1, 2, 64, 65, 2**64 - 1, 2**64, -1, 1.5],
     "id": ["", "x" * 256, "x" * 257, "é" * 128, "é" * 129],
     "text": ["", "x" * 65536, "x" * 65537],

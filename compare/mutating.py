@@ -6,7 +6,6 @@ import copy
 from collections.abc import Callable, Iterator
 from random import Random
 
-from history import BRINGING, CHANGES
 from relation import Path
 from scripts import Order
 from shapes import LOOKS
@@ -21,8 +20,8 @@ class Output:
         self.orders = ran.script.in_writing_order()
         self.lines = copy.deepcopy(ran.lines())
         self.last = ran.last()
-        self.view, self.history = ran.world.view, ran.world.history
-        self.count = len(self.history)
+        self.view = ran.world.view
+        self.count = len(ran.world.view.documents)
 
     def bytes(self) -> bytes:
         return output_of(self.lines, self.last)
@@ -34,10 +33,6 @@ class Output:
 
     def all(self, command: str, key: str) -> list[int]:
         return [place for place, order in enumerate(self.orders) if order.command == command and key in self.lines[place]]
-
-    def placed(self) -> list[int]:
-        """The changes that were placed."""
-        return [place for command in CHANGES for place in self.all(command, "at")]
 
     def refused(self, word: str) -> list[int]:
         return [place for place, line in enumerate(self.lines) if line.get("refused") == word]
@@ -53,11 +48,10 @@ class Output:
             if order.command in (*LOOKS, "hold") and order.on is None and "n" in self.lines[place]:
                 yield place
 
-    def look_at(self, place: int, operations: int) -> bool:
-        """The order took another pair. Answers whether the reply tells which one."""
-        order, pair = self.orders[place], (operations, len(self.ran.world.labels))
-        self.answer(place, {"n": operations} if order.command == "hold" else answer(self.view, self.history, order, pair))
-        return "n" in self.lines[place]
+    def look_at(self, place: int, documents: int) -> None:
+        """The order took another pair."""
+        order = self.orders[place]
+        self.answer(place, {"n": documents} if order.command == "hold" else answer(self.view, order, (documents, len(self.ran.world.labels))))
 
     def published(self) -> Iterator[tuple[Order, int]]:
         for order, line in zip(self.orders, self.lines):
@@ -65,10 +59,10 @@ class Output:
                 yield order, line["n"]
 
     def bringers(self) -> dict[Path, list[int]]:
-        """For each path the commands that may enter it."""
+        """For each path the adds that may enter it."""
         found: dict[Path, list[int]] = {}
         for place, order in enumerate(self.orders):
-            labels = [tuple(path) for path in order.value.get("facets", [])] if order.command in BRINGING else []
+            labels = [tuple(path) for path in order.value.get("facets", [])] if order.command == "add" else []
             if not self.view.broken(labels):
                 for path in dict.fromkeys(label[:end] for label in labels for end in range(1, len(label) + 1)):
                     found.setdefault(path, []).append(place)
@@ -90,7 +84,7 @@ def is_later(order: Order, other: Order) -> bool:
 
 
 def an_at_twice(output: Output) -> bool:
-    placed = output.placed()
+    placed = output.all("add", "at")
     if len(placed) < 2:
         return False
     first, second = output.random.sample(placed, 2)
@@ -99,7 +93,7 @@ def an_at_twice(output: Output) -> bool:
 
 
 def exchanged_places(output: Output) -> bool:
-    placed = output.placed()
+    placed = output.all("add", "at")
     if len(placed) < 2:
         return False
     first, second = (output.lines[place] for place in output.random.sample(placed, 2))
@@ -133,7 +127,8 @@ def a_pair_nobody_published(output: Output) -> bool:
     looks = list(output.looks())
     if not unknown or not looks:
         return False
-    return output.look_at(output.random.choice(looks), output.random.choice(unknown))
+    output.look_at(output.random.choice(looks), output.random.choice(unknown))
+    return True
 
 
 def a_pair_published_later(output: Output) -> bool:
@@ -142,7 +137,8 @@ def a_pair_published_later(output: Output) -> bool:
         sources = {n for refresh, n in output.published() if not is_later(refresh, order)} | {len(output.ran.opened.documents)}
         later = [n for refresh, n in output.published() if is_later(refresh, order) and n not in sources]
         if later:
-            return output.look_at(place, output.random.choice(later))
+            output.look_at(place, output.random.choice(later))
+            return True
     return False
 
 
@@ -153,13 +149,14 @@ def an_old_pair(output: Output) -> bool:
         known = [n for refresh, n in output.published() if refresh.phase < order.phase]
         older = [n for n in [len(output.ran.opened.documents), *known] if n < max(known, default=0)]
         if older:
-            return output.look_at(place, output.random.choice(older))
+            output.look_at(place, output.random.choice(older))
+            return True
     return False
 
 
 def a_stale_refresh(output: Output) -> bool:
     for place in output.all("refresh", "n") + output.all("commit", "n"):
-        before = [output.lines[at]["at"] for at in output.placed() if is_later(output.orders[place], output.orders[at])]
+        before = [output.lines[at]["at"] for at in output.all("add", "at") if is_later(output.orders[place], output.orders[at])]
         if before:
             output.lines[place]["n"] = output.random.randint(0, max(before))
             return True
@@ -175,7 +172,7 @@ def a_refresh_of_the_future(output: Output) -> bool:
 
 
 def a_label_before_its_elder(output: Output) -> bool:
-    """Two labels that one command alone can have entered, in the other order."""
+    """Two labels that one add alone can have entered, in the other order."""
     first = len(output.ran.opened.labels)
     labels, bringers = output.ran.world.labels, output.bringers()
     pairs = [(at, at + 1) for at in range(first, len(labels) - 1) if bringers[labels[at]] == bringers[labels[at + 1]] and len(bringers[labels[at]]) == 1]
@@ -183,7 +180,7 @@ def a_label_before_its_elder(output: Output) -> bool:
 
 
 def a_label_before_a_shown_one(output: Output) -> bool:
-    """Two labels that two commands of one session alone can have entered, of which the first was placed, in the other order."""
+    """Two labels that two adds of one session alone can have entered, of which the first was placed, in the other order."""
     first = len(output.ran.opened.labels)
     labels, bringers = output.ran.world.labels, output.bringers()
     pairs = []
@@ -231,18 +228,17 @@ def a_label_missing(output: Output) -> bool:
     return any("at" in output.lines[place] for place in output.bringers()[path])
 
 
-def last_brought(output: Output) -> int | None:
-    """The add or the replace that was placed last of all changes, which is then taken out of the order."""
-    placed = output.placed()
-    last = max(placed, key=lambda place: output.lines[place]["at"], default=None)
-    if last is None or output.orders[last].command not in BRINGING:
+def last_add(output: Output) -> int | None:
+    """The add that was placed last, which is then taken out of the order."""
+    placed = output.all("add", "at")
+    if not placed:
         return None
     output.last["order"].pop()
-    return last
+    return max(placed, key=lambda place: output.lines[place]["at"])
 
 
 def labels_full_with_room(output: Output) -> bool:
-    place = last_brought(output)
+    place = last_add(output)
     if place is None or len(output.ran.world.labels) >= output.view.max_labels:
         return False
     output.answer(place, {"refused": "labels_full", "size": len(output.ran.world.labels)})
@@ -257,42 +253,10 @@ def labels_full_of_another_size(output: Output) -> bool:
 
 
 def docs_full_with_room(output: Output) -> bool:
-    place = last_brought(output)
-    if place is None:
+    place = last_add(output)
+    if place is None or output.count - 1 >= output.view.max_docs:
         return False
-    count = output.history.count_beside(output.history.changes[-1], output.count - 1)
-    output.answer(place, {"refused": "docs_full", "count": count})
-    return count < output.view.max_docs
-
-
-def docs_full_of_another_count(output: Output) -> bool:
-    """More documents than there ever were."""
-    for place in output.refused("docs_full"):
-        output.lines[place]["count"] = max(output.history.counts) + 1
-        return True
-    return False
-
-
-def another_deleted(output: Output) -> bool:
-    """A delete or a replace has taken out more documents, or fewer."""
-    places = output.all("delete", "deleted") + output.all("replace", "deleted")
-    if not places:
-        return False
-    line = output.lines[output.random.choice(places)]
-    line["deleted"] += output.random.choice([-1, 1]) if line["deleted"] else 1
-    return True
-
-
-def nothing_deleted(output: Output) -> bool:
-    """A delete or a replace is answered as an add is, or an add as they are."""
-    placed = output.placed()
-    if not placed:
-        return False
-    line = output.lines[output.random.choice(placed)]
-    if "deleted" in line:
-        del line["deleted"]
-    else:
-        line["deleted"] = 0
+    output.answer(place, {"refused": "docs_full", "count": output.count - 1})
     return True
 
 
@@ -420,7 +384,7 @@ def held_after_release(output: Output) -> bool:
 
 def too_few_labels(output: Output) -> bool:
     for place in output.all("stats", "labels"):
-        if any(change.document and change.document.labels for change in output.history.changes[: output.lines[place]["n"]]):
+        if any(document.labels for document in output.view.documents[: output.lines[place]["n"]]):
             output.lines[place]["labels"] = 1
             return True
     return False
@@ -489,9 +453,6 @@ MUTATIONS: list[tuple[Callable[[Output], bool], set[str]]] = [
     (labels_full_with_room, {"replies"}),
     (labels_full_of_another_size, {"replies"}),
     (docs_full_with_room, {"replies"}),
-    (docs_full_of_another_count, {"replies"}),
-    (another_deleted, {"replies"}),
-    (nothing_deleted, {"replies"}),
     (closed_without_failure, {"closed"}),
     (closed_with_another_count, {"closed"}),
     (durable_after_failure, {"last_commit", "stays_closed"}),

@@ -1,14 +1,13 @@
 """Looks for places of pairs among the publications of a run.
 
-No reply tells in which order pairs were published that have equal numbers of operations, how many labels a pair has that no `stats` was asked of, or which of
-them a command took; and where a document is not there, the reply tells only how many documents there are, which pairs of several numbers of operations may have.
-This searches for an order of all refreshes, for their numbers of labels, and for the pair that each command took, such that
+No reply tells in which order pairs were published that have equal numbers of documents, how many labels a pair has that no `stats` was asked of, or which of
+them a command took. This searches for an order of all refreshes, for their numbers of labels, and for the pair that each command took, such that
 
 - neither number of the pairs ever falls, and each pair's labels are at least those that are due to its refresh;
 - each command takes the last pair that there is when it comes, in the order of its session, and no phase begins before the one before it ends;
 - each added label has a bringer: an add that may have entered it, since all pairs that its session had seen have no more labels than stood before it.
 
-A command takes its pair as early as it can: an earlier pair has no more operations and no more labels, so nothing that comes later is hindered by it. A pair has
+A command takes its pair as early as it can: an earlier pair has no more documents and no more labels, so nothing that comes later is hindered by it. A pair has
 as few labels as it can, or as many as the next `stats` tells. Where each label can have been entered by one session alone, and no command waits for fewer labels
 than the next `stats` tells, the best refresh to come next is known (`best`), and nothing is tried in vain; else all ways are tried."""
 
@@ -27,12 +26,12 @@ GONE: Any = object()
 
 @dataclass(frozen=True)
 class Event:
-    """A refresh, or a command that took a pair. `among` are the numbers of operations that the pair may have, rising; a refresh has one alone. `labels` are those
-    of the pair, where a reply tells them; `least` is how many a refresh has to publish."""
+    """A refresh, or a command that took a pair, which has so many documents. `labels` are those of the pair, where a reply tells them; `least` is how many a
+    refresh has to publish."""
 
     line: int
     is_refresh: bool
-    among: tuple[int, ...]
+    documents: int
     labels: int | None = None
     least: int = 0
 
@@ -133,11 +132,11 @@ class Search:
         return [self.event(state.phase, session, come) for session, come in zip(self.sessions[state.phase], state.come)]
 
     def lowest_refresh(self, state: State) -> int | None:
-        """The least number of operations of a refresh that is still to come in the phase."""
+        """The least number of documents of a refresh that is still to come in the phase."""
         lowest = None
         for session, come in zip(self.sessions[state.phase], state.come):
             events = self.problem.phases[state.phase].get(session, [])
-            found = next((event.among[0] for event in events[come:] if event.is_refresh), None)
+            found = next((event.documents for event in events[come:] if event.is_refresh), None)
             if found is not None and (lowest is None or found < lowest):
                 lowest = found
         return lowest
@@ -173,7 +172,7 @@ class Search:
         place = 0
         while place < len(state.come):
             event = self.event(state.phase, self.sessions[state.phase][place], state.come[place])
-            if event and not event.is_refresh and state.pair[0] in event.among and event.labels in (None, state.pair[1]):
+            if event and not event.is_refresh and event.documents == state.pair[0] and event.labels in (None, state.pair[1]):
                 following = self.moved(state, place, state.pair, (event.line, None))
                 if following is None:
                     return None
@@ -198,47 +197,45 @@ class Search:
 
     def is_stuck(self, state: State, lowest: int | None) -> bool:
         """A command waits for a pair that can't come."""
-        if lowest is not None and lowest < state.pair[0]:
-            return True
         for event in self.next_events(state):
-            if event and not event.is_refresh and not any(can_come(event, operations, lowest, state.pair) for operations in event.among):
+            if event and not event.is_refresh and (lowest is None or event.documents < lowest or (event.documents, event.labels or state.pair[1]) < state.pair):
                 return True
-        return False
+        return lowest is not None and lowest < state.pair[0]
 
-    def next_told(self, state: State, operations: int) -> int | None:
-        """The fewest labels that a reply tells of a pair of so many operations that is still to be taken in the phase."""
+    def next_told(self, state: State, documents: int) -> int | None:
+        """The fewest labels that a reply tells of a pair of so many documents that is still to be taken in the phase."""
         come = zip(self.sessions[state.phase], state.come)
-        told = [first_told(self.problem.phases[state.phase].get(session, []), count, operations) for session, count in come]
+        told = [first_told(self.problem.phases[state.phase].get(session, []), count, documents) for session, count in come]
         return min((labels for labels in told if labels is not None), default=None)
 
-    def told_later(self, phase: int, operations: int) -> int | None:
+    def told_later(self, phase: int, documents: int) -> int | None:
         """The same of later phases."""
-        told = [first_told(events, 0, operations) for later in self.problem.phases[phase + 1 :] for events in later.values()]
+        told = [first_told(events, 0, documents) for later in self.problem.phases[phase + 1 :] for events in later.values()]
         return min((labels for labels in told if labels is not None), default=None)
 
-    def ready(self, state: State, operations: int) -> list[Ready]:
+    def ready(self, state: State, documents: int) -> list[Ready]:
         """The refreshes that can come next, those with the fewest labels first."""
         found = []
         for place, (session, come) in enumerate(zip(self.sessions[state.phase], state.come)):
             event = self.event(state.phase, session, come)
-            if event and event.is_refresh and event.among[0] == operations:
+            if event and event.is_refresh and event.documents == documents:
                 found.append(Ready(max(event.least, state.pair[1]), self.latest[state.phase, session][come], place, event))
         return sorted(found, key=lambda refresh: (refresh.fewest, refresh.latest, refresh.place))
 
-    def best(self, state: State, ready: list[Ready], told: int | None, operations: int) -> tuple[Ready, int] | None:
+    def best(self, state: State, ready: list[Ready], told: int | None, documents: int) -> tuple[Ready, int] | None:
         """The refresh that is to come next, with its labels. One that has to come before there are as many labels as the next reply tells comes first, with the
         fewest it can have; then the one publishes these of which the rest of its session can wait the least long."""
-        hurried = [refresh for refresh in ready if told is None or refresh.latest < told or (operations, told) == state.pair and refresh.latest == told]
+        hurried = [refresh for refresh in ready if told is None or refresh.latest < told or (documents, told) == state.pair and refresh.latest == told]
         if hurried:
             return hurried[0], hurried[0].fewest
         openers = [refresh for refresh in ready if refresh.fewest <= told <= refresh.latest]
         return (min(openers, key=lambda refresh: refresh.latest), told) if openers else None
 
-    def is_hurried(self, state: State, told: int | None, operations: int) -> bool:
-        """A command waits for a pair of so many operations with fewer labels than the next reply tells."""
+    def is_hurried(self, state: State, told: int | None, documents: int) -> bool:
+        """A command waits for a pair of so many documents with fewer labels than the next reply tells."""
         for session, come in zip(self.sessions[state.phase], state.come):
             event = self.event(state.phase, session, come)
-            if event and not event.is_refresh and operations in event.among and told is not None and self.latest[state.phase, session][come] < told:
+            if event and not event.is_refresh and event.documents == documents and told is not None and self.latest[state.phase, session][come] < told:
                 return True
         return False
 
@@ -286,17 +283,12 @@ class Search:
         return Outcome(False, True, self.farthest[1])
 
 
-def can_come(event: Event, operations: int, lowest: int | None, pair: tuple[int, int]) -> bool:
-    """Whether a pair of so many operations that a command waits for can still be published, if the next refresh has at least `lowest` and this is the last pair."""
-    return lowest is not None and lowest <= operations and pair <= (operations, event.labels or pair[1])
-
-
-def first_told(events: list[Event], come: int, operations: int) -> int | None:
-    """How many labels a reply tells of the first pair of so many operations behind the events that have come."""
+def first_told(events: list[Event], come: int, documents: int) -> int | None:
+    """How many labels a reply tells of the first pair of so many documents behind the events that have come."""
     for event in events[come:]:
-        if event.among[0] > operations:
+        if event.documents > documents:
             return None
-        if event.among == (operations,) and event.labels is not None:
+        if event.documents == documents and event.labels is not None:
             return event.labels
     return None
 

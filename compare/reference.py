@@ -6,13 +6,9 @@ from collections import namedtuple
 
 import files
 from files import Malformed, digest, words
-from history import History, change_of
 
 # Labels are paths, which are tuples of texts; leaves and counted are ordinals.
 Document = namedtuple("Document", "id text labels leaves counted")
-
-# What a search sees: how many operations and labels, and the documents that these operations leave.
-Pair = namedtuple("Pair", "operations labels documents")
 
 NO_FLAGS = (False, False, False)
 
@@ -86,38 +82,16 @@ def contains(given, number):
     return given["min"] <= number <= given["max"]
 
 
-def tiered(sizes):
-    """How many segments stay as they are when those from the first one on that has less than a third of the documents after it become one."""
-    for at, size in enumerate(sizes):
-        if 3 * size < sum(sizes[at + 1 :]):
-            return at
-    return len(sizes)
-
-
-class Segment:
-    """Documents that are written as one file, and the places of those that were deleted since."""
-
-    def __init__(self, documents, dead=(), data=None):
-        self.documents, self.dead, self.data = documents, set(dead), data
-
-    @property
-    def live(self):
-        return [document for place, document in enumerate(self.documents) if place not in self.dead]
-
-    def without(self, id):
-        """The segment without the documents that have this id. It is the same file."""
-        found = {place for place, document in enumerate(self.documents) if document.id == id}
-        return Segment(self.documents, self.dead | found, self.data) if found else self
-
-    def body(self):
-        """The bytes of its file."""
-        if self.data is None:
-            self.data = files.document_segment(self.documents)
-        return self.data
+def tiered(ends):
+    """Where segments end that ended at `ends`, once all from the first one on that has less than a third of the documents after it are one."""
+    for at, (start, end) in enumerate(zip([0, *ends], ends)):
+        if 3 * (end - start) < ends[-1] - end:
+            return ends[:at] + ends[-1:]
+    return ends
 
 
 class Session:
-    """The files of a store, by their names, with what was read of them and changed since."""
+    """The files of a store, by their names, with what was read of them and added since."""
 
     def __init__(self, stored, config):
         self.stored = stored
@@ -126,28 +100,15 @@ class Session:
         self.max_docs = config.get("max_docs", 1000000)
         self.max_labels = config.get("max_labels", 1000000)
         self.auto_merge = config.get("auto_merge", False)
-        self.labels, self.places = [()], {}
-        # all documents are those of the segments that are live, and behind them those that wait for the next segment
-        self.segments, self.waiting = [], []
+        self.labels = [()]
+        self.documents = []
+        # where the segments end, each with its bytes and its dead documents if it has any, and how many documents and labels a search sees
+        self.ends, self.bodies = [], []
         self.label_commit, self.label_parts = None, []
         self.document_commit, self.kept = None, []
         self.open()
-        self.history = History.of(self.documents)
-        self.pair = self.newest_pair()
+        self.taken, self.taken_labels = len(self.documents), len(self.labels)
         self.committed_labels = len(self.labels)
-
-    @property
-    def documents(self):
-        return [document for segment in self.segments for document in segment.live] + self.waiting
-
-    def ordinals(self):
-        """The place of each label in the list."""
-        for ordinal in range(len(self.places), len(self.labels)):
-            self.places[self.labels[ordinal]] = ordinal
-        return self.places
-
-    def newest_pair(self):
-        return Pair(len(self.history), len(self.labels), self.history.documents())
 
     def flags_of(self, dim):
         return self.flags.get(dim, NO_FLAGS)
@@ -231,9 +192,11 @@ class Session:
         written = files.document_segment(documents)
         if written != data:
             raise Malformed(next((at for at, pair in enumerate(zip(written, data)) if pair[0] != pair[1]), min(len(written), len(data))))
-        self.segments.append(Segment(documents, dead, data))
+        self.documents += [document for place, document in enumerate(documents) if place not in dead]
+        self.ends.append(len(self.documents))
+        self.bodies.append((data, size, dead) if dead else None)
 
-    # ---- changing
+    # ---- adding
 
     def broken(self, labels):
         """What the first facet breaks that breaks a rule."""
@@ -253,78 +216,53 @@ class Session:
             hierarchical, multi_valued, require_dim_count = self.flags_of(label[0])
             if multi_valued and (hierarchical or require_dim_count):
                 counted |= {label[:end] for end in range(1 if require_dim_count else 2, len(label))}
-        ordinals = self.ordinals()
+        ordinals = {path: ordinal for ordinal, path in enumerate(self.labels)}
         return Document(id, string, labels, [ordinals[label] for label in labels], sorted(ordinals[path] for path in counted))
 
-    def enter_labels(self, labels):
-        """Enters the labels that are missing, each behind its parent. Returns the refusal where there is no room for one."""
+    def add(self, order):
+        labels = [tuple(path) for path in order.get("facets", [])]
+        refused = self.broken(labels)
+        if refused:
+            return refused
         limit = max(self.max_labels, len(self.labels))
         for label in labels:
             for end in range(1, len(label) + 1):
-                if label[:end] in self.ordinals():
+                if label[:end] in self.labels:
                     continue
                 if len(self.labels) >= limit:
                     return {"refused": "labels_full", "size": limit}
                 self.labels.append(label[:end])
-        return None
-
-    def bring(self, order):
-        """An add or a replace."""
-        labels = [tuple(path) for path in order.get("facets", [])]
-        refused = self.broken(labels) or self.enter_labels(labels)
-        if refused:
-            return refused
-        change = change_of(order["cmd"], order["id"], self.document_of(order["id"], order.get("text", ""), labels))
-        count = self.history.count_beside(change)
-        if count >= self.max_docs:
-            return {"refused": "docs_full", "count": count}
-        return self.enter(change)
-
-    def enter(self, change):
-        at, deleted = len(self.history), self.history.enter(change)
-        if change.without is not None:
-            self.segments = [segment for segment in (segment.without(change.without) for segment in self.segments) if segment.live]
-            self.waiting = [document for document in self.waiting if document.id != change.without]
-        if change.document is not None:
-            self.waiting.append(change.document)
-        return {"at": at} if change.without is None else {"at": at, "deleted": deleted}
-
-    def add(self, order):
-        return self.bring(order)
-
-    def replace(self, order):
-        return self.bring(order)
-
-    def delete(self, order):
-        return self.enter(change_of("delete", order["id"], None))
+        if len(self.documents) >= self.max_docs:
+            return {"refused": "docs_full", "count": len(self.documents)}
+        self.documents.append(self.document_of(order["id"], order.get("text", ""), labels))
+        return {"at": len(self.documents) - 1}
 
     def flush(self):
-        if self.waiting:
-            self.segments.append(Segment(self.waiting))
-            self.waiting = []
+        if len(self.documents) > (self.ends[-1] if self.ends else 0):
+            self.ends.append(len(self.documents))
+            self.bodies.append(None)
 
-    def merge_from(self, first):
-        """The live documents of all segments from this one on become one segment."""
-        documents = [document for segment in self.segments[first:] for document in segment.live]
-        self.segments = self.segments[:first] + [Segment(documents)] * bool(documents)
+    def end_at(self, ends):
+        """Segments end there, where the last one is a new one if it begins earlier than it did."""
+        if len(ends) < len(self.ends):
+            self.bodies = self.bodies[: len(ends) - 1] + [None]
+        self.ends = ends
 
     def merge(self, order):
         self.flush()
-        if len(self.segments) > 1 or any(segment.dead for segment in self.segments):
-            self.merge_from(0)
+        self.end_at(self.ends[-1:])
         return {"merged": True}
 
     def settle(self):
         """Puts all documents into segments, and with `auto_merge` makes these few."""
         self.flush()
-        first = tiered([len(segment.live) for segment in self.segments])
-        if self.auto_merge and first < len(self.segments):
-            self.merge_from(first)
+        if self.auto_merge:
+            self.end_at(tiered(self.ends))
 
     def refresh(self, order):
         self.settle()
-        self.pair = self.newest_pair()
-        return {"n": self.pair.operations}
+        self.taken, self.taken_labels = len(self.documents), len(self.labels)
+        return {"n": self.taken}
 
     # ---- searching
 
@@ -385,7 +323,7 @@ class Session:
         refused = self.refused_look(order)
         if refused:
             return refused
-        seen = self.pair.documents
+        seen = self.documents[: self.taken]
         passes = self.passing(order)
 
         def documents_for(dim):
@@ -393,7 +331,7 @@ class Session:
 
         hits = [(at, document) for at, document in enumerate(seen) if passes(document)]
         results = [self.answer(ask, seen, documents_for) for ask in asks]
-        return {"n": self.pair.operations, "hit_count": len(hits), "hits": self.listed(order, hits), "results": results}
+        return {"n": self.taken, "hit_count": len(hits), "hits": self.listed(order, hits), "results": results}
 
     def listed(self, order, hits):
         """The page of these hits that a search lists, each with its text and labels if the search shows them."""
@@ -404,30 +342,30 @@ class Session:
         return [{"at": at, "id": document.id, "text": document.text, "labels": [list(label) for label in document.labels]} for at, document in page]
 
     def ranges(self, order):
-        found = [values(document, order["dim"]) for document in filter(self.passing(order), self.pair.documents)]
+        found = [values(document, order["dim"]) for document in filter(self.passing(order), self.documents[: self.taken])]
         counts = [[given["name"], sum(any(contains(given, number) for number in numbers) for numbers in found)] for given in order["ranges"]]
-        return {"n": self.pair.operations, "ranges": counts, "valued": sum(map(bool, found))}
+        return {"n": self.taken, "ranges": counts, "valued": sum(map(bool, found))}
 
     def sums(self, order):
         refused = self.refused_look(order)
         if refused:
             return refused
         totals = {}
-        for document in filter(self.passing(order), self.pair.documents):
+        for document in filter(self.passing(order), self.documents[: self.taken]):
             for part, number in weights(document, order["dim"]):
                 totals[part] = totals.get(part, 0) + number
         falling = sorted(totals.items(), key=lambda total: (-total[1], total[0].encode()))
-        return {"n": self.pair.operations, "sums": [list(total) for total in falling[: order["n"]]]}
+        return {"n": self.taken, "sums": [list(total) for total in falling[: order["n"]]]}
 
     def document(self, order):
-        at, seen = order["at"], self.pair.documents
-        if at >= len(seen):
-            return {"refused": "no_such_document", "count": len(seen)}
-        labels = [list(label) for label in seen[at].labels]
-        return {"n": self.pair.operations, "at": at, "id": seen[at].id, "text": seen[at].text, "labels": labels, "ordinals": seen[at].leaves}
+        at = order["at"]
+        if at >= self.taken:
+            return {"refused": "no_such_document", "count": self.taken}
+        found = self.documents[at]
+        return {"n": self.taken, "at": at, "id": found.id, "text": found.text, "labels": [list(label) for label in found.labels], "ordinals": found.leaves}
 
     def stats(self, order):
-        return {"n": self.pair.operations, "documents": len(self.pair.documents), "labels": self.pair.labels}
+        return {"n": self.taken, "documents": self.taken, "labels": self.taken_labels}
 
     # ---- committing
 
@@ -443,7 +381,10 @@ class Session:
             put[f"taxonomy/segment-{following}"] = segment
             put[f"taxonomy/commit-{label_commit}"] = files.label_commit(label_commit, len(self.labels), label_parts)
             following += 2
-        segments = [(segment.body(), len(segment.documents), tuple(sorted(segment.dead))) for segment in self.segments]
+        segments = [
+            body or (files.document_segment(self.documents[start:end]), end - start, ())
+            for start, end, body in zip([0] + self.ends, self.ends, self.bodies)
+        ]
         document_commit, kept = self.document_commit, self.kept
         if segments != [of[1:] for of in kept]:
             kept, left = [], list(self.kept)
@@ -466,7 +407,7 @@ class Session:
         self.label_commit, self.label_parts, self.document_commit, self.kept = label_commit, label_parts, document_commit, kept
         self.stored.update(put)
         self.remove_strays()
-        return {"n": len(self.history)}
+        return {"n": len(self.documents)}
 
     def remove_strays(self):
         named = {f"taxonomy/commit-{self.label_commit}", f"index/commit-{self.document_commit}"}

@@ -1,21 +1,21 @@
 """Tells whether an output of a script of several sessions is right, clause by clause.
 
-Sessions of a phase run beside each other, so there are many right outputs. The last line says which labels were added and whose the operations are, each in
-their order; an operation is an add, a delete or a replace that was answered with its place. With it an output is right where these clauses hold:
+Sessions of a phase run beside each other, so there are many right outputs. The last line says which labels were added and whose the added documents are, each
+in their order; with it an output is right where these clauses hold:
 
     bytes          each line is spelled as it has to be, and the last one has its keys
     asked          each order has one reply: phase by phase, the sessions rising, the lines rising
     label_list     the labels all differ, each stands behind its parent and is a path
     opened_labels  the labels begin with the opened ones
     label_limit    they are no more than fit, or than were opened
-    entered        each added label was entered by an add or a replace that the config accepts and that brings it; no earlier path of its document was
-                   skipped, and there were all labels that its session had been shown
-    full           one is refused for labels only where all of them may be there: each is brought by one that did not come after it
-    opened_docs    the operations begin with an add of each opened document
-    operations     behind them those of each session are those of its adds, deletes and replaces that were placed, in line order, each at its place
-    replies        each reply is right of the final labels and operations, and of what the session holds
-    fresh          each change, refresh and commit comes behind all operations that its session had been shown; one that was refused for documents too
-    publications   the labels of a pair cover the documents that its operations brought, also those that are gone
+    entered        each added label was entered by an add that the config accepts and that brings it; no earlier path of its document was skipped, and there
+                   were all labels that its session had been shown
+    full           an add is refused for labels only where all of them may be there: each is brought by an add that did not come after it
+    opened_docs    the documents begin with the opened ones
+    operations     behind them those of each session are those of its adds that were placed, in line order, each at its place
+    replies        each reply is right of the final labels and documents, and of what the session holds
+    fresh          each add, refresh and commit comes behind all documents that its session had been shown
+    publications   the labels of a pair cover its documents
     pairs          a pair was opened, or a refresh that may have come before published it, and no older one than the session knew
     places         all pairs stand in one list that never falls; each command takes the last one when it comes (see `places`)
     one_failure    at most one commit fails on the disk
@@ -36,12 +36,12 @@ from typing import Any
 
 import places
 import reference
-from history import BRINGING, CHANGES, NEVER, Change, History, change_of
 from reference import Document, line_of
 from scripts import Order, Script
 from shapes import LOOKS, is_list, is_object, is_text, is_whole
 
 Path = tuple[str, ...]
+NEVER = 1 << 80
 
 
 @dataclass(frozen=True)
@@ -81,16 +81,10 @@ class Verdict:
 
 @dataclass
 class Pair:
-    """A pair that was taken: the numbers of operations that it may have, rising, and its labels where a reply told them. A reply tells the number of operations,
-    unless it says that a document is not there: then it tells that of the documents, which several numbers of operations may leave."""
+    """A pair that was taken: its documents, and its labels where a reply told them."""
 
-    among: tuple[int, ...]
+    documents: int
     labels: int | None = None
-
-    @property
-    def operations(self) -> int:
-        """The least number that it may have."""
-        return self.among[0]
 
 
 @dataclass(eq=False)
@@ -115,17 +109,23 @@ class Answered:
 
     @property
     def placed(self) -> int | None:
-        return self.number("at") if self.order.command in CHANGES else None
+        return self.number("at") if self.order.command == "add" else None
 
     @property
     def shows(self) -> int:
-        """How many operations the reply has shown, if it was not refused for documents."""
-        return self.number("n") or 0 if self.placed is None else self.placed + 1
+        """How many documents the reply has shown."""
+        if self.placed is not None:
+            return self.placed + 1
+        if self.is_refused("docs_full"):
+            return self.number("count") or 0
+        return self.number("n") or 0
 
     @property
     def stood(self) -> int | None:
-        """How many operations there were when a change, a refresh or a commit came to its turn, as far as its reply tells."""
-        return self.number("n") if self.order.command in ("refresh", "commit") else self.placed
+        """How many documents there were when an add, a refresh or a commit came to its turn."""
+        if self.order.command == "add":
+            return self.number("count") if self.is_refused("docs_full") else self.placed
+        return self.number("n") if self.order.command in ("refresh", "commit") else None
 
     @property
     def refreshed(self) -> int | None:
@@ -162,10 +162,8 @@ class Checker:
         self.last: dict = {}
         self.labels: list[Path] = []
         self.ordinals: dict[Path, int] = {}
-        self.history = History()
+        self.documents: list[Document] = []
         self.owners: list[int] = []
-        # by line, how many operations a change that was refused for documents has seen: the least number that leaves no room
-        self.saw: dict[int, int] = {}
 
     def broken(self, clause: str, lines: Iterable[int], why: str) -> None:
         self.verdict.breaks.append(Break(clause, tuple(lines), why))
@@ -174,10 +172,10 @@ class Checker:
         try:
             self.read_output()
             self.read_labels()
-            self.read_history()
+            self.read_documents()
         except Unreadable:
             return self.verdict
-        self.paths = {id(a): self.paths_of(a) for a in self.answered if a.order.command in BRINGING}
+        self.paths = {id(a): self.paths_of(a) for a in self.answered if a.order.command == "add"}
         self.check_replies()
         self.check_fresh()
         self.check_commits()
@@ -248,29 +246,26 @@ class Checker:
         if len(self.labels) > max(self.view.max_labels, len(self.opened.labels)):
             self.broken("label_limit", (), f"there are {len(self.labels)} labels")
 
-    def read_history(self) -> None:
-        """The history: an add of each opened document, and behind them each session's operations, as `order` tells."""
-        self.history, self.owners = History.of(self.opened.documents), [0] * len(self.opened.documents)
-        changes: dict[int, list[Answered]] = defaultdict(list)
+    def read_documents(self) -> None:
+        """The history: the opened documents, and behind them each session's, as `order` tells."""
+        self.documents, self.owners = list(self.opened.documents), [0] * len(self.opened.documents)
+        adds: dict[int, list[Answered]] = defaultdict(list)
         for a in self.answered:
             if a.placed is not None:
-                changes[a.order.session].append(a)
-        later = {session: iter(of_session) for session, of_session in changes.items()}
+                adds[a.order.session].append(a)
+        later = {session: iter(of_session) for session, of_session in adds.items()}
         misplaced = []
         for session in self.last["order"]:
             a = next(later.get(session, iter(())), None)
             if a is None:
-                self.fail("operations", (), f"an operation of session {session} at {len(self.history)} is none of its commands")
-            if a.placed != len(self.history):
+                self.fail("operations", (), f"an operation of session {session} at {len(self.documents)} is none of its adds")
+            if a.placed != len(self.documents):
                 misplaced.append(a.order.line)
-            self.history.enter(self.change_of(a))
+            self.documents.append(self.document_of(a.order.value))
             self.owners.append(session)
         missing = [a.order.line for of_session in later.values() for a in of_session]
         if misplaced or missing:
-            self.fail("operations", sorted(misplaced + missing), "the operations stand elsewhere in `order`, or are missing there")
-
-    def change_of(self, a: Answered) -> Change:
-        return change_of(a.order.command, a.order.value["id"], self.document_of(a.order.value) if a.order.command in BRINGING else None)
+            self.fail("operations", sorted(misplaced + missing), "the adds stand elsewhere in `order`, or are missing there")
 
     def document_of(self, value: dict) -> Document:
         labels = [tuple(path) for path in value.get("facets", [])]
@@ -278,15 +273,15 @@ class Checker:
 
     # ---- what was known
 
-    def known_before(self, value: Callable[[Answered, int], int], start: int) -> dict[int, int]:
-        """For each answered order the greatest value of those that it comes after, at least this one. The value of an order may depend on that greatest one."""
+    def known_before(self, value: Callable[[Answered], int], start: int) -> dict[int, int]:
+        """For each answered order the greatest value of those that it comes after, at least this one."""
         known, base, phase = {}, start, -1
         running: dict[int, int] = {}
         for a in self.answered:
             if a.order.phase != phase:
                 phase, base, running = a.order.phase, max([base, *running.values()]), {}
             known[id(a)] = running.get(a.order.session, base)
-            running[a.order.session] = max(known[id(a)], value(a, known[id(a)]))
+            running[a.order.session] = max(known[id(a)], value(a))
         return known
 
     # ---- replies
@@ -313,12 +308,9 @@ class Checker:
             return self.right_name(a, held.get((a.order.session, a.order.value["name"])))
         if a.order.command in LOOKS:
             return self.right_look(a, held)
-        if a.order.command in BRINGING:
-            return self.right_bringing(a)
-        return {"delete": self.right_change, "refresh": self.right_count, "commit": self.right_commit, "merge": self.right_merge}[a.order.command](a)
+        return {"add": self.right_add, "refresh": self.right_count, "commit": self.right_commit, "merge": self.right_merge}[a.order.command](a)
 
-    def right_bringing(self, a: Answered) -> dict | None:
-        """Of an add or a replace."""
+    def right_add(self, a: Answered) -> dict | None:
         document = self.document_of(a.order.value)
         refused = self.view.broken(document.labels)
         if refused:
@@ -327,29 +319,14 @@ class Checker:
             return {"refused": "labels_full", "size": len(self.labels)} if self.view.max_labels <= len(self.labels) else None
         if a.is_refused("docs_full"):
             count = a.number("count")
-            return {"refused": "docs_full", "count": count} if count is not None and self.full_from(a, 0) is not None else None
-        right = self.right_change(a)
-        return right if right and self.history.count_beside(self.change_of(a), right["at"]) < self.view.max_docs else None
-
-    def right_change(self, a: Answered) -> dict | None:
-        """Of a change that was placed: it is the operation there, and takes out the documents that have its id then."""
-        if a.placed is None or a.placed >= len(self.history):
+            return {"refused": "docs_full", "count": count} if count is not None and self.view.max_docs <= count <= len(self.documents) else None
+        if a.placed is None or a.placed >= min(self.view.max_docs, len(self.documents)):
             return None
-        change = self.change_of(a)
-        if (self.owners[a.placed], self.history.changes[a.placed]) != (a.order.session, change):
-            return None
-        return {"at": a.placed} if change.without is None else {"at": a.placed, "deleted": self.history.count_with(change.without, a.placed)}
-
-    def full_from(self, a: Answered, least: int) -> int | None:
-        """Of a change that was refused for documents: the least number of operations from this one on that leaves as many as it says, and no room for one more."""
-        count, change = a.number("count") or 0, self.change_of(a)
-        if count < self.view.max_docs:
-            return None
-        return next((n for n in range(least, len(self.history) + 1) if self.history.count_beside(change, n) == count), None)
+        return {"at": a.placed} if (self.owners[a.placed], self.documents[a.placed]) == (a.order.session, document) else None
 
     def right_count(self, a: Answered) -> dict | None:
         n = a.number("n")
-        return {"n": n} if n is not None and n <= len(self.history) else None
+        return {"n": n} if n is not None and n <= len(self.documents) else None
 
     def right_commit(self, a: Answered) -> dict | None:
         for word in ("disk", "closed"):
@@ -367,12 +344,12 @@ class Checker:
 
     def right_name(self, a: Answered, pair: Pair | None) -> dict | None:
         if a.order.command == "release":
-            return {"refused": "not_held"} if pair is None else {"n": pair.operations}
+            return {"refused": "not_held"} if pair is None else {"n": pair.documents}
         if pair is not None:
             return {"refused": "held_already"}
         right = self.right_count(a)
         if right is not None:
-            a.took = Pair((right["n"],))
+            a.took = Pair(right["n"])
         return right
 
     def right_look(self, a: Answered, held: dict[tuple[int, str], Pair]) -> dict | None:
@@ -385,43 +362,26 @@ class Checker:
             refused = self.view.refused_look(a.order.value)
             if refused:
                 return refused
-            among = self.numbers_of(a)
-            if not among:
+            n = a.number("count" if a.is_refused("no_such_document") else "n")
+            if n is None or n > len(self.documents):
                 return None
-            a.took = pair = Pair(among)
+            a.took = pair = Pair(n)
         if a.order.command == "stats" and pair.labels is None:
             pair.labels = a.number("labels")
         return self.over(pair, a.order)
 
-    def numbers_of(self, a: Answered) -> tuple[int, ...]:
-        """The numbers of operations that the pair of a command may have that looked at the last one."""
-        if a.is_refused("no_such_document"):
-            return tuple(n for n, count in enumerate(self.history.counts) if count == a.number("count"))
-        n = a.number("n")
-        return () if n is None or n > len(self.history) else (n,)
-
     def over(self, pair: Pair, order: Order) -> dict:
-        self.view.pair = reference.Pair(pair.operations, pair.labels, self.history.documents(pair.operations))
+        self.view.documents = self.documents
+        self.view.taken, self.view.taken_labels = pair.documents, pair.labels
         return getattr(self.view, order.command)(order.value)
 
-    # ---- operations
-
-    def shown_operations(self, a: Answered, known: int) -> int:
-        """How many operations a reply has shown to a session that had been shown so many before."""
-        if a.order.command not in BRINGING or not a.is_refused("docs_full"):
-            return a.shows
-        saw = self.full_from(a, known)
-        if saw is None:
-            self.broken("fresh", (a.order.line,), f"behind the {known} operations that the session had been shown none leaves as many documents")
-            return known
-        self.saw[a.order.line] = saw
-        return saw
+    # ---- documents
 
     def check_fresh(self) -> None:
-        known = self.known_before(self.shown_operations, len(self.opened.documents))
+        known = self.known_before(lambda a: a.shows, len(self.opened.documents))
         for a in self.answered:
-            if a.stood is not None and not known[id(a)] <= a.stood <= len(self.history):
-                self.broken("fresh", (a.order.line,), f"{a.stood}, but the session had been shown {known[id(a)]}, and there are {len(self.history)}")
+            if a.stood is not None and not known[id(a)] <= a.stood <= len(self.documents):
+                self.broken("fresh", (a.order.line,), f"{a.stood}, but the session had been shown {known[id(a)]}, and there are {len(self.documents)}")
 
     # ---- commits
 
@@ -455,9 +415,9 @@ class Checker:
         prefixes = [label[:end] for label in document.labels for end in range(1, len(label) + 1)]
         return max((self.ordinals[path] + 1 if path in self.ordinals else NEVER for path in prefixes), default=0)
 
-    def shown_labels(self, a: Answered, _: int) -> int:
+    def shown_labels(self, a: Answered) -> int:
         """How many labels a reply has shown."""
-        if a.order.command in BRINGING:
+        if a.order.command == "add":
             if a.placed is not None or a.is_refused("docs_full"):
                 return self.covered_by(self.document_of(a.order.value))
             return (a.number("size") or 0) if a.is_refused("labels_full") else 0
@@ -481,13 +441,13 @@ class Checker:
         for ordinal, spots in bringers.items():
             if not spots:
                 lines = [a.order.line for a in self.answered if self.labels[ordinal] in self.paths.get(id(a), [])]
-                self.broken("entered", lines, f"no command can have entered label {ordinal}, {list(self.labels[ordinal])}")
+                self.broken("entered", lines, f"no add can have entered label {ordinal}, {list(self.labels[ordinal])}")
         return {ordinal: list(spots.values()) for ordinal, spots in bringers.items()}
 
     def check_full(self) -> None:
         refused: dict[tuple[int, int], Answered] = {}
         for a in self.answered:
-            if a.order.command in BRINGING and a.is_refused("labels_full"):
+            if a.order.command == "add" and a.is_refused("labels_full"):
                 refused.setdefault(a.key, a)
         if not refused:
             return
@@ -506,39 +466,29 @@ class Checker:
         return a.refreshed is not None or a.took is not None
 
     def check_pairs(self) -> None:
+        took = [a for a in self.answered if a.took is not None]
         published: dict[int, list[Answered]] = defaultdict(list)
         for b in self.answered:
             if b.refreshed is not None:
                 published[b.refreshed].append(b)
-        known_refresh = self.known_before(lambda a, _: a.refreshed or 0, 0)
-        known_pair = self.known_before(lambda a, known: self.settle_pair(a, published, max(known, known_refresh[id(a)])), 0)
-        known_labels = self.known_before(lambda a, _: a.took.labels or 0 if a.took else 0, 0)
+        known_refresh = self.known_before(lambda a: a.refreshed or 0, 0)
+        known_pair = self.known_before(lambda a: a.took.documents if a.took else 0, 0)
+        known_labels = self.known_before(lambda a: a.took.labels or 0 if a.took else 0, 0)
         covers = self.covers()
-        for a in self.answered:
-            if a.took is None:
-                continue
-            n, labels = a.took.operations, a.took.labels
+        for a in took:
+            n, labels = a.took.documents, a.took.labels
+            if n != len(self.opened.documents) and not any(may_come_after(a, b) for b in published[n]):
+                self.broken("pairs", (a.order.line,), f"no refresh that may have come before has published {n}")
             if n < max(known_refresh[id(a)], known_pair[id(a)]) or (labels is not None and labels < known_labels[id(a)]):
                 self.broken("pairs", (a.order.line,), f"a pair of {n} is older than one that the session knew")
             if labels is not None and not covers[n] <= labels <= len(self.labels):
-                self.broken("publications", (a.order.line,), f"{labels} labels do not cover {n} operations, or are not there")
-
-    def settle_pair(self, a: Answered, published: dict[int, list[Answered]], known: int) -> int:
-        """Leaves the pair that an order took only the numbers that were published before it and are none too old, if there are any. Returns the least one."""
-        if a.took is None:
-            return 0
-        among = [n for n in a.took.among if n == len(self.opened.documents) or any(may_come_after(a, b) for b in published[n])]
-        if not among:
-            self.broken("pairs", (a.order.line,), f"no refresh that may have come before has published {a.took.operations}")
-        among = [n for n in among if n >= known] or among
-        a.took.among = tuple(among) or a.took.among
-        return a.took.operations
+                self.broken("publications", (a.order.line,), f"{labels} labels do not cover {n} documents, or are not there")
 
     def covers(self) -> list[int]:
-        """For each number of operations, how many labels cover so many."""
+        """For each number of documents, how many labels cover so many."""
         covers = [1]
-        for change in self.history.changes:
-            covers.append(max(covers[-1], self.covered_by(change.document) if change.document else 0))
+        for document in self.documents:
+            covers.append(max(covers[-1], self.covered_by(document)))
         return covers
 
     def check_places(self, bringers: dict[int, list[places.Spot]]) -> None:
@@ -547,9 +497,9 @@ class Checker:
         for a in self.answered:
             events = phases[a.order.phase][a.order.session]
             if a.refreshed is not None:
-                events.append(places.Event(a.order.line, True, (a.refreshed,), None, max(self.shown[id(a)], covers[a.refreshed])))
+                events.append(places.Event(a.order.line, True, a.refreshed, None, max(self.shown[id(a)], covers[a.refreshed])))
             elif a.took is not None:
-                events.append(places.Event(a.order.line, False, a.took.among, a.took.labels))
+                events.append(places.Event(a.order.line, False, a.took.documents, a.took.labels))
         opened = (len(self.opened.documents), len(self.opened.labels))
         outcome = places.Search(places.Problem(opened, phases, bringers, len(self.labels))).run()
         self.verdict.is_decided = outcome.is_decided

@@ -113,15 +113,12 @@ def is_config(value):
 # what the documents are whose numbers a command takes
 MATCHING = {"on": is_name, "query": is_query, "drill": is_drill}
 
-# what names documents, and what a document has besides
-ID = {"id": lambda id: is_text(id, 1, 256)}
-CONTENT = {"text": lambda string: is_text(string, 0, 65536), "facets": lambda facets: is_list(facets, 256, is_path)}
-
 # the keys of each command besides `cmd` and `s`: those that are due, and those that may be left out
 COMMANDS = {
-    "add": (ID, CONTENT),
-    "replace": (ID, CONTENT),
-    "delete": (ID, {}),
+    "add": (
+        {"id": lambda id: is_text(id, 1, 256)},
+        {"text": lambda string: is_text(string, 0, 65536), "facets": lambda facets: is_list(facets, 256, is_path)},
+    ),
     "refresh": ({}, {}),
     "commit": ({}, {}),
     "merge": ({}, {}),

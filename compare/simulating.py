@@ -1,5 +1,5 @@
 """Random scripts of several sessions, and runs of them as they may go: the sessions of a phase take their steps in a random order, over four histories: the
-labels, the operations, the pairs that were published, and the commits. `compare/run` gives the scripts to the program; `compare/selftest` uses both."""
+labels, the documents, the pairs that were published, and the commits. `compare/run` gives the scripts to the program; `compare/selftest` uses both."""
 
 from __future__ import annotations
 
@@ -13,7 +13,6 @@ import reading
 import reference
 import scripts
 import sessions
-from history import Change, History, change_of
 from reference import line_of
 from relation import Opened
 from scripts import Order, Script
@@ -41,20 +40,11 @@ def small_add(random: Random, number: int) -> dict:
     return {"s": 1, "cmd": "add", "id": f"b{number}", "text": random.choice(["", "go", "rust go"]), "facets": list(labels.values())}
 
 
-def change(random: Random, number: int) -> dict:
-    """An add, or a delete or a replace of documents that this session or another may have added."""
-    kind = random.random()
-    if kind < 0.15:
-        return making.delete(random, number)
-    value = small_add(random, number) if random.random() < 0.7 else making.add(random, number)
-    return making.replacing(random, value, number) if kind < 0.3 else value
-
-
 def order(random: Random, number: int, session: int) -> dict:
     kind = random.random()
-    if kind < 0.43:
-        value = change(random, number)
-    elif kind < 0.46:
+    if kind < 0.41:
+        value = small_add(random, number) if random.random() < 0.7 else making.add(random, number)
+    elif kind < 0.45:
         value = {"cmd": "merge"}
     elif kind < 0.6:
         value = {"cmd": "refresh"}
@@ -96,8 +86,7 @@ def thousands() -> list[dict]:
 
 
 def eight_sessions() -> list[dict]:
-    """Eight sessions add 2,000 documents each, beside each other, take some out again, their own and each other's, refresh, commit and merge now and then, and then
-    all of them look."""
+    """Eight sessions add 2,000 documents each, beside each other, refresh, commit and merge now and then, and then all of them look."""
     values: list[dict] = [{"cmd": "config", "dims": [{"dim": "Date", "hierarchical": True}]}]
     for at in range(2000):
         for session in range(1, 9):
@@ -105,10 +94,6 @@ def eight_sessions() -> list[dict]:
             values.append({"s": session, "cmd": "add", "id": f"{session}-{at}", "facets": facets})
             if at % 500 == 250 + session:
                 values.append({"s": session, "cmd": "refresh"})
-            if at % 100 == 50:
-                values.append({"s": session, "cmd": "delete", "id": f"{session % 8 + 1}-{at - 45}"})
-            if at % 100 == 75:
-                values.append({"s": session, "cmd": "replace", "id": f"{session}-{at - 75}", "text": "go", "facets": facets})
             if at == 1000 and session in (1, 5):
                 values.append({"s": session, "cmd": "commit"})
             if at % 700 == 600 + session:
@@ -120,8 +105,8 @@ def eight_sessions() -> list[dict]:
 
 
 def all_sessions() -> list[dict]:
-    """All 64 sessions add fifty documents each, beside each other, refresh once, and hold a pair over the next phase, in which each deletes one and looks, some
-    merge and one commits."""
+    """All 64 sessions add fifty documents each, beside each other, refresh once, and hold a pair over the next phase, in which each looks, some merge and one
+    commits."""
     values: list[dict] = [{"cmd": "config", "dims": [{"dim": "Date", "hierarchical": True}]}]
     sessions = range(1, 65)
     for at in range(50):
@@ -134,7 +119,6 @@ def all_sessions() -> list[dict]:
     values += [{"cmd": "phase"}, {"s": 64, "cmd": "commit"}]
     values += [{"s": session, "cmd": ("refresh", "merge")[session % 8 - 1]} for session in sessions if session % 8 in (1, 2)]
     for session in sessions:
-        values.append({"s": session, "cmd": "delete", "id": f"{65 - session}-{session % 50}"})
         values.append({"s": session, "cmd": "search", "on": "a", "hits": 1, "ask": [{"top": ["Author"], "n": 3}]})
         values += [{"s": session, "cmd": "stats", "on": "a"}, {"s": session, "cmd": "stats"}]
     return values
@@ -145,8 +129,7 @@ def opened_of(random: Random, dims: list[dict]) -> dict[str, bytes]:
     stored: dict[str, bytes] = {}
     if random.random() < 0.3:
         before = [small_add(random, number) for number in range(random.randint(0, 4))]
-        gone = [making.delete(random, 4)] if random.random() < 0.3 else []
-        reference.run(stored, [{"cmd": "config", "dims": dims}, *before, {"s": 1, "cmd": "commit"}, *gone, {"s": 1, "cmd": "commit"}])
+        reference.run(stored, [{"cmd": "config", "dims": dims}, *before, {"s": 1, "cmd": "commit"}])
     return stored
 
 
@@ -179,7 +162,6 @@ class World:
     chances: Chances
     opened: Opened
     labels: list[tuple[str, ...]] = field(default_factory=list)
-    history: History = field(default_factory=History)
     owners: list[int] = field(default_factory=list)
     pairs: list[tuple[int, int]] = field(default_factory=list)
     commits: int = 0
@@ -194,8 +176,7 @@ class World:
     def wants_memory(self) -> bool:
         return self.random.random() < self.chances.wants_memory
 
-    def bring(self, order: Order) -> Steps:
-        """An add or a replace."""
+    def add(self, order: Order) -> Steps:
         labels = [tuple(path) for path in order.value.get("facets", [])]
         refused = self.view.broken(labels)
         if refused:
@@ -210,36 +191,27 @@ class World:
                     return {"refused": "labels_full", "size": len(self.labels)}
                 self.labels.append(path)
         yield
-        change = change_of(order.command, order.value["id"], self.view.document_of(order.value["id"], order.value.get("text", ""), labels))
-        count = self.history.count_beside(change)
-        if count >= self.view.max_docs:
-            return {"refused": "docs_full", "count": count}
-        return self.enter(order, change)
-
-    def delete(self, order: Order) -> Steps:
-        yield
-        return self.enter(order, change_of("delete", order.value["id"], None))
-
-    def enter(self, order: Order, change: Change) -> dict:
+        if len(self.view.documents) >= self.view.max_docs:
+            return {"refused": "docs_full", "count": len(self.view.documents)}
         if self.wants_memory():
             return {"refused": "no_memory"}
-        at, deleted = len(self.history), self.history.enter(change)
+        self.view.documents.append(self.view.document_of(order.value["id"], order.value.get("text", ""), labels))
         self.owners.append(order.session)
-        return {"at": at} if change.without is None else {"at": at, "deleted": deleted}
+        return {"at": len(self.view.documents) - 1}
 
     def refresh(self, order: Order) -> Steps:
         while self.is_refreshing:
             yield
         self.is_refreshing = True
-        operations = len(self.history)
+        documents = len(self.view.documents)
         yield
         labels = len(self.labels)
         yield
         self.is_refreshing = False
         if self.wants_memory():
             return {"refused": "no_memory"}
-        self.pairs.append((operations, labels))
-        return {"n": operations}
+        self.pairs.append((documents, labels))
+        return {"n": documents}
 
     def take(self, order: Order) -> Generator[None, None, tuple[int, int] | None]:
         """The pair that was published last, or is held under the order's name."""
@@ -271,7 +243,7 @@ class World:
             return {"refused": "not_held"}
         if order.command != "stats" and self.wants_memory():
             return {"refused": "no_memory"}
-        return answer(self.view, self.history, order, pair)
+        return answer(self.view, order, pair)
 
     def merge(self, order: Order) -> Steps:
         """Merges segments, which no reply shows."""
@@ -284,7 +256,7 @@ class World:
         if self.failed is not None:
             return {"refused": "closed", "count": self.failed}
         self.is_committing = True
-        operations = len(self.history)
+        documents = len(self.view.documents)
         yield
         self.is_committing = False
         if self.wants_memory():
@@ -295,13 +267,12 @@ class World:
         if self.commits - 1 == self.chances.failing_commit:
             self.failed = self.random.randint(1, 3)
             return {"refused": "disk", "count": self.failed}
-        return {"n": operations}
+        return {"n": documents}
 
     # ---- sessions
 
     def session(self, orders: list[Order]) -> Iterator[None]:
-        commands = {"add": self.bring, "replace": self.bring, "delete": self.delete, "merge": self.merge}
-        commands |= {"refresh": self.refresh, "hold": self.hold, "release": self.release, "commit": self.commit}
+        commands = {"add": self.add, "refresh": self.refresh, "hold": self.hold, "release": self.release, "merge": self.merge, "commit": self.commit}
         for order in orders:
             yield
             self.replies[order.line] = yield from commands.get(order.command, self.look)(order)
@@ -321,9 +292,9 @@ class World:
 STOPPED: Any = object()
 
 
-def answer(view: reference.Session, history: History, order: Order, pair: tuple[int, int]) -> dict:
-    """The reply of a command that looks over a pair of so many operations and labels."""
-    view.pair = reference.Pair(*pair, history.documents(pair[0]))
+def answer(view: reference.Session, order: Order, pair: tuple[int, int]) -> dict:
+    """The reply of a command that looks over a pair of documents and labels."""
+    view.taken, view.taken_labels = pair
     return getattr(view, order.command)(order.value)
 
 
@@ -356,8 +327,8 @@ def ran(random: Random, stored: dict[str, bytes], lines: list[dict], chances: Ch
     script = scripts.script_of(lines)
     view = reference.Session(dict(stored), script.config)
     opened = Opened(list(view.labels), list(view.documents))
-    world = World(view, random, chances, opened, pairs=[(len(opened.documents), len(opened.labels))])
-    world.labels, world.history = view.labels, view.history
+    world = World(view, random, chances, opened, pairs=[(len(view.documents), len(view.labels))])
+    world.labels = view.labels
     for phase in script.phases:
         world.phase(phase)
     return Ran(script, opened, world)

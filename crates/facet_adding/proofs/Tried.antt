@@ -1,17 +1,16 @@
--- An add or a replace that was tried.
+-- An add that was tried.
 use Rattle.std.proofs.Common.{◌≡◌, ◌≢◌, ◌∙◌, ℕ, true, List, Ok, Err, refl, sym, subst}
 use Rattle.chronicle.specs.Shown.{Shown, SeesOn}
 use Rattle.chronicle.proofs.Prefixes.{prefix_self}
 use Rattle.facet_model.specs.Documents.{Doc}
 use Rattle.facet_model.specs.Histories.{Change, Operation, knows}
 use Rattle.facet_names.proofs.LabelLists.{Labels}
-use Rattle.index_state.specs.declared.done.Done.{Done}
 use Rattle.pair_manager.specs.declared.pass.Pass.{Pass}
 use Rattle.pair_manager.specs.Appended.{HasNoRoom, IsPlaced}
 use Rattle.taxo_cache.specs.Seen.{labels_of}
 use Rattle.taxo_list.specs.declared.fault.TaxoFault.{TaxoFault}
 use Rattle.taxo_list.specs.declared.fault.TaxoFault.TheVariants.{LabelsFull as ListFull, NoMemory as ListNoMemory}
-use Rattle.taxo_adding.specs.Several.{AddsInTurn, IsFullForOne}
+use Rattle.taxo_adding.specs.Several.{IsFullForOne}
 use Rattle.facet_adding.specs.Adding.{HasTried}
 use Rattle.facet_adding.specs.declared.adding.AddFault.TheVariants as adds
 
@@ -26,10 +25,6 @@ full_for size limit labels paths fault is full = subst (λ (f : TaxoFault). IsFu
     apart : ListFull size ≡ ListNoMemory → ⊥
     apart e = cc
 
--- labels that were added stay added
-pub still_added : (paths : Labels) (limit : ℕ) (old mid new : Shown (List (List ℕ))) → new ≡ mid → AddsInTurn paths limit old mid → AddsInTurn paths limit old new
-still_added paths limit old mid new same all = subst (λ (t : Shown (List (List ℕ))). AddsInTurn paths limit old t) (sym same) all
-
 -- ---- from the resolved labels on
 
 module _ (limit session : ℕ) (brings : Doc → Change) (doc : Doc) (old mid new : Pass) (entered : Doc) (is : entered ≡ doc) (operations : mid.operations ≡ old.operations) (labels : new.labels ≡ mid.labels)
@@ -37,8 +32,8 @@ module _ (limit session : ℕ) (brings : Doc → Change) (doc : Doc) (old mid ne
   still_known : knows (labels_of new.labels.seen) doc ≡ true
   still_known = subst (λ (t : Shown (List (List ℕ))). knows (labels_of t.seen) doc ≡ true) (sym labels) known
 
-  pub tried_placed : (done : Done) → IsPlaced done (record { session = session; change = brings entered }) mid.operations new.operations → HasTried limit session (brings doc) doc old new (Ok done)
-  tried_placed done there = (still_known, subst (λ (T : Type 0). T) (λ i. IsPlaced done (record { session = session; change = brings (is i) }) (operations i) new.operations) there)
+  pub tried_placed : (at : ℕ) → IsPlaced at (record { session = session; change = brings entered }) mid.operations new.operations → HasTried limit session (brings doc) doc old new (Ok at)
+  tried_placed at there = (still_known, subst (λ (T : Type 0). T) (λ i. IsPlaced at (record { session = session; change = brings (is i) }) (operations i) new.operations) there)
 
   pub tried_full : (count : ℕ) → SeesOn mid.operations new.operations → HasNoRoom (brings entered) count new.operations → HasTried limit session (brings doc) doc old new (Err (adds.DocsFull count))
   tried_full count on full = (subst (λ (t : Shown Operation). SeesOn t new.operations) operations on, still_known, subst (λ (d : Doc). HasNoRoom (brings d) count new.operations) is full)

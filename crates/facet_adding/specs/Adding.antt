@@ -1,4 +1,4 @@
--- What adding a document does to the tokens of a session, also where it replaces others.
+-- What adding a document does to the tokens of a session.
 use Rattle.std.specs.Prelude.{◌-◌, ℕ, List, IsTrue, length, slice_index_or, Result, Ok, Err}
 use Rattle.chronicle.specs.Shown.{SeesOn}
 use Rattle.facet_model.specs.CountedPaths.{AreResolved}
@@ -6,7 +6,6 @@ use Rattle.facet_model.specs.Documents.{Doc}
 use Rattle.facet_model.specs.Flags.{Config}
 use Rattle.facet_model.specs.Histories.{Change, knows}
 use Rattle.facet_names.specs.Labels.{IsLabelList}
-use Rattle.index_state.specs.declared.done.Done.{Done}
 use Rattle.pair_manager.specs.declared.pass.Pass.{Pass}
 use Rattle.pair_manager.specs.Appended.{HasNoRoom, IsPlaced}
 use Rattle.seg_documents.specs.Entries.{IsEntry}
@@ -32,9 +31,9 @@ abbrev pub SeesLabelsOf : Pass → Doc → Type 0
 SeesLabelsOf pass doc = IsTrue (knows (labels_of pass.labels.seen) doc)
 
 -- What a session's change did that adds this document, which the config accepts, by its result.
-abbrev pub HasTried : ℕ → ℕ → Change → Doc → Pass → Pass → Result Done AddFault → Type 0
-HasTried limit session change doc old new (Ok done) = SeesLabelsOf new doc
-    × IsPlaced done (record { session = session; change = change }) old.operations new.operations
+abbrev pub HasTried : ℕ → ℕ → Change → Doc → Pass → Pass → Result ℕ AddFault → Type 0
+HasTried limit session change doc old new (Ok at) = SeesLabelsOf new doc
+    × IsPlaced at (record { session = session; change = change }) old.operations new.operations
 HasTried limit session change doc old new (Err (adds.Broken fault)) = ⊥
 HasTried limit session change doc old new (Err (adds.LabelsFull size)) = SeesOn old.operations new.operations
     × IsFullForOne (ListFull size) limit (labels_of new.labels.seen) doc.labels

@@ -1,22 +1,20 @@
-ghost use Rattle.std.specs.Prelude.{◌≡◌, List, ℕ, All, Err, IfOk, IfErr, OnOk, flat_map, length, map};
+ghost use Rattle.std.specs.Prelude.{◌≡◌, List, ℕ, All, IfOk, OnOk, flat_map, length, map};
 ghost use mathlib.Core.List.{IsPrefix};
 ghost use Rattle.facet_config.specs.Expanding.{AreAsLong};
 ghost use Rattle.facet_model.specs.Accepts.{Accepts};
 ghost use Rattle.facet_model.specs.ConfigTexts.{config_texts};
 ghost use Rattle.facet_model.specs.CountedPaths.{AreResolved};
-ghost use Rattle.facet_model.specs.Flags.{Config};
-ghost use Rattle.facet_model.specs.Histories.{Change, add as added, replace as replaced};
+ghost use Rattle.facet_model.specs.Histories.{add};
 ghost use Rattle.facet_names.specs.Labels.{IsLabelList, prefixes};
-ghost use Rattle.seg_documents.specs.Entries.{IsEntry, IsShort};
-ghost use Rattle.taxo_cache.specs.Seen.{labels_of};
+ghost use Rattle.seg_documents.specs.Entries.{IsShort};
 ghost use Rattle.taxo_adding.specs.Several.{AddsInTurn};
 ghost use Rattle.pair_manager.specs.Passes.{IsOf, SamePass};
-ghost use Rattle.facet_adding.specs.Adding.{HasTried, IsEntryWhere, SeesLabelsOf, leaf_of};
+ghost use Rattle.facet_adding.specs.Adding.{HasTried, IsEntryWhere, leaf_of};
 
 use facet_config::{DocFault, FacetsConfig};
 use facet_model::{Document, Resolved};
 use facet_names::{NoMemory, Path};
-use index_state::{AppendFault, Done};
+use index_state::AppendFault;
 use pair_manager::{Manager, Pass};
 use seg_file::Entry;
 use std::alloc::Global;
@@ -24,14 +22,14 @@ use std::sync::Wait;
 use taxo_cache::Name;
 use taxo_list::TaxoFault;
 
-/// Why a document was not added, alone or in the place of others.
+/// Why a document was not added.
 #[derive(Drop, Clone, Copy, Debug, PartialEq, Eq)]
 pub enum AddFault {
     /// The config rejects the document.
     Broken { fault: DocFault },
     /// The list has `size` labels, with the root, and one more does not fit.
     LabelsFull { size: u64 },
-    /// There are `count` documents that would stay, and one more does not fit.
+    /// There are `count` documents, and one more does not fit.
     DocsFull { count: u64 },
     /// Out of memory.
     NoMemory,
@@ -80,43 +78,8 @@ fn entry_of(
     })
 }
 
-// Adds the missing labels of a document that the config accepts, and returns the document with its ordinals.
-fn entry_for<N: Name, R: Wait>(
-    rt: &R,
-    alloc: Global,
-    manager: &Manager<N>,
-    config: &FacetsConfig,
-    pass: &mut Pass,
-    doc: Document,
-) -> Result<Entry, AddFault>
-    requires own { IsOf manager.now pass.old }
-    requires config { config_texts config.now ≡ pass.old.operations.frame.texts }
-    requires accepted { Accepts config.now doc }
-    ensures same { SamePass pass.old pass.new }
-    ensures rest { (pass.new.operations ≡ pass.old.operations) × (pass.new.pairs ≡ pass.old.pairs)
-        × (pass.new.commits ≡ pass.old.commits) }
-    ensures more { IsPrefix pass.old.labels.seen pass.new.labels.seen }
-    ensures adds { AddsInTurn (flat_map prefixes doc.labels) manager.now.writer.limit pass.old.labels pass.new.labels }
-    ensures doc { IfOk result (λ e. e.doc ≡ doc) }
-    ensures sees { OnOk result (SeesLabelsOf pass.new doc) }
-    ensures entry { IfOk result (λ e. (config : Config) → config_texts config ≡ pass.new.operations.frame.texts
-        → IsEntry config (labels_of pass.new.labels.seen) e) }
-    ensures tried { IfErr result (λ e. (session : ℕ) (change : Change)
-        → HasTried manager.now.writer.limit session change doc pass.old pass.new (Err e)) }
-{
-    let resolved = match manager.resolve_each(rt, pass, doc.facets()) {
-        Ok(resolved) => resolved,
-        Err(TaxoFault::LabelsFull { size }) => return Err(AddFault::LabelsFull { size }),
-        Err(TaxoFault::NoMemory) => return Err(AddFault::NoMemory),
-    };
-    match entry_of(alloc, config, doc, &resolved) {
-        Ok(entry) => Ok(entry),
-        Err(_) => Err(AddFault::NoMemory),
-    }
-}
-
-/// Adds a document that the config accepts after all others, and returns the operation's place, from 0. It makes the
-/// document's entry before it takes the lock of the operations; in that lock, the index may still have to grow.
+/// Adds a document that the config accepts after all others, and returns its place, from 0. It makes the document's
+/// entry before it takes the lock of the operations; in that lock, the index may still have to grow.
 ///
 /// Locks: if a label is missing from the cache, that of the labels, once for all labels; then that of the operations.
 /// It holds one at a time.
@@ -131,7 +94,7 @@ pub fn add_to<N: Name, R: Wait>(
     pass: &mut Pass,
     session: u32,
     doc: Document,
-) -> Result<Done, AddFault>
+) -> Result<u64, AddFault>
     requires own { IsOf manager.now pass.old }
     requires config { config_texts config.now ≡ pass.old.operations.frame.texts }
     requires accepted { Accepts config.now doc }
@@ -139,51 +102,18 @@ pub fn add_to<N: Name, R: Wait>(
     ensures rest { (pass.new.pairs ≡ pass.old.pairs) × (pass.new.commits ≡ pass.old.commits) }
     ensures more { IsPrefix pass.old.labels.seen pass.new.labels.seen }
     ensures adds { AddsInTurn (flat_map prefixes doc.labels) manager.now.writer.limit pass.old.labels pass.new.labels }
-    ensures tried { HasTried manager.now.writer.limit session (added doc) doc pass.old pass.new result }
+    ensures tried { HasTried manager.now.writer.limit session (add doc) doc pass.old pass.new result }
 {
-    let entry = match entry_for(rt, alloc, manager, config, pass, doc) {
-        Ok(entry) => entry,
-        Err(fault) => return Err(fault),
+    let resolved = match manager.resolve_each(rt, pass, doc.facets()) {
+        Ok(resolved) => resolved,
+        Err(TaxoFault::LabelsFull { size }) => return Err(AddFault::LabelsFull { size }),
+        Err(TaxoFault::NoMemory) => return Err(AddFault::NoMemory),
+    };
+    let Ok(entry) = entry_of(alloc, config, doc, &resolved) else {
+        return Err(AddFault::NoMemory);
     };
     match manager.append(rt, pass, session, entry) {
-        Ok(done) => Ok(done),
-        Err(AppendFault::DocsFull { count }) => Err(AddFault::DocsFull { count }),
-        Err(AppendFault::NoMemory) => Err(AddFault::NoMemory),
-    }
-}
-
-/// Deletes each document with the id of a document that the config accepts, and adds that document after all others, as
-/// one operation. Returns the operation's place, from 0, and how many documents it deleted. The entry is made before, as
-/// in [`add_to`].
-///
-/// Locks: as [`add_to`].
-///
-/// Errors: `LabelsFull` and `DocsFull` at the limits of the settings, where the documents that it deletes do not count;
-/// out of memory. Labels that were added before stay, and no document is deleted.
-pub fn replace_to<N: Name, R: Wait>(
-    rt: &R,
-    alloc: Global,
-    manager: &Manager<N>,
-    config: &FacetsConfig,
-    pass: &mut Pass,
-    session: u32,
-    doc: Document,
-) -> Result<Done, AddFault>
-    requires own { IsOf manager.now pass.old }
-    requires config { config_texts config.now ≡ pass.old.operations.frame.texts }
-    requires accepted { Accepts config.now doc }
-    ensures same { SamePass pass.old pass.new }
-    ensures rest { (pass.new.pairs ≡ pass.old.pairs) × (pass.new.commits ≡ pass.old.commits) }
-    ensures more { IsPrefix pass.old.labels.seen pass.new.labels.seen }
-    ensures adds { AddsInTurn (flat_map prefixes doc.labels) manager.now.writer.limit pass.old.labels pass.new.labels }
-    ensures tried { HasTried manager.now.writer.limit session (replaced doc) doc pass.old pass.new result }
-{
-    let entry = match entry_for(rt, alloc, manager, config, pass, doc) {
-        Ok(entry) => entry,
-        Err(fault) => return Err(fault),
-    };
-    match manager.replace(rt, pass, session, entry) {
-        Ok(done) => Ok(done),
+        Ok(at) => Ok(at),
         Err(AppendFault::DocsFull { count }) => Err(AddFault::DocsFull { count }),
         Err(AppendFault::NoMemory) => Err(AddFault::NoMemory),
     }

@@ -1,7 +1,7 @@
-//! Adding a document of a session, alone or in the place of those with its id. Its labels are resolved, and then one
-//! operation is entered after all others, or the document is rejected.
+//! Adding a document of a session: its labels are resolved, and then it becomes an operation after all others, or the
+//! add is rejected.
 #![tactic(auto)]
 
 mod adding;
 
-pub use adding::{AddFault, add_to, replace_to};
+pub use adding::{AddFault, add_to};

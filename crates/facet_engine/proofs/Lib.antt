@@ -13,7 +13,6 @@ pub mod Sharing
 pub mod Taking
 pub mod Looks
 pub mod PairReplies
-pub mod Changed
 pub mod Added
 pub mod Spent
 pub mod Carried

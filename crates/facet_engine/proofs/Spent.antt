@@ -12,8 +12,7 @@ use Rattle.pair_manager.specs.declared.point.CommitPoint.{CommitPoint as Point}
 use Rattle.facet_output.specs.Replies.{Reply, refused, numbers_spent}
 use Rattle.facet_output.specs.Seen.{CommitPoint}
 use Rattle.facet_engine.specs.Calls.{SpendsWithin}
-use Rattle.index_state.specs.declared.done.Done.{Done}
-use Rattle.facet_engine.specs.Replies.{fault_reply, add_reply, delete_reply, replace_reply, refresh_reply, hold_reply, release_reply, stats_reply, commit_reply, merge_reply}
+use Rattle.facet_engine.specs.Replies.{add_reply, refresh_reply, hold_reply, release_reply, stats_reply, commit_reply, merge_reply}
 use Rattle.pair_search.specs.Replies.{search_reply, ranges_reply, sums_reply, document_reply}
 use Rattle.pair_search.specs.declared.ranging.RangesAnswer.{RangesAnswer}
 use Rattle.pair_search.specs.declared.ranging.RangesFault.{RangesFault}
@@ -40,23 +39,12 @@ TellsOfNone reply = (number : ℕ) → reply ≡ refused (numbers_spent number) 
 pub spends_none : (old new : Pass) (reply : Reply) → TellsOfNone reply → SpendsWithin old new reply
 spends_none old new reply none next moment faults failures numbers number is = absurd (none number is)
 
-fault_tells : (fault : AddFault) → TellsOfNone (fault_reply fault)
-fault_tells (adds.Broken fault) number is = cc
-fault_tells (adds.LabelsFull size) number is = cc
-fault_tells (adds.DocsFull count) number is = cc
-fault_tells adds.NoMemory number is = cc
-
 pub add_tells : (result : Result ℕ AddFault) → TellsOfNone (add_reply result)
 add_tells (Ok at) number is = cc
-add_tells (Err fault) number is = fault_tells fault number is
-
-pub delete_tells : {E : Type 0} (result : Result Done E) → TellsOfNone (delete_reply result)
-delete_tells (Ok done) number is = cc
-delete_tells (Err fault) number is = cc
-
-pub replace_tells : (result : Result Done AddFault) → TellsOfNone (replace_reply result)
-replace_tells (Ok done) number is = cc
-replace_tells (Err fault) number is = fault_tells fault number is
+add_tells (Err (adds.Broken fault)) number is = cc
+add_tells (Err (adds.LabelsFull size)) number is = cc
+add_tells (Err (adds.DocsFull count)) number is = cc
+add_tells (Err adds.NoMemory) number is = cc
 
 pub refresh_tells : {E : Type 0} (result : Result ℕ E) → TellsOfNone (refresh_reply result)
 refresh_tells (Ok n) number is = cc

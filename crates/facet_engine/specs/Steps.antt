@@ -6,9 +6,8 @@ use Rattle.facet_model.specs.Documents.{Doc}
 use Rattle.facet_output.specs.Replies.{Reply, refused, no_memory}
 use Rattle.facet_output.specs.Seen.{CommitPoint, Seen}
 use Rattle.facet_output.specs.Steps.{Step}
-use Rattle.facet_words.specs.Commands.{Search, Counted, Command, add, delete, replace, refresh, hold, release, search}
-use Rattle.facet_words.specs.Commands.{ranges, sums, document, stats, commit, merge}
-use Rattle.index_state.specs.declared.done.Done.{Done}
+use Rattle.facet_words.specs.Commands.{Search, Counted, Command, add, refresh, hold, release, search, ranges, sums}
+use Rattle.facet_words.specs.Commands.{document, stats, commit, merge}
 use Rattle.number_facets.specs.Values.{Range}
 use Rattle.pair_manager.specs.declared.manager.Stats.{Stats}
 use Rattle.pair_manager.specs.declared.pass.Pass.{Pass}
@@ -25,8 +24,8 @@ use Rattle.pair_search.specs.declared.showing.DocumentFault.{DocumentFault}
 use Rattle.pair_search.specs.declared.showing.Shown.{Shown}
 use Rattle.pair_search.specs.declared.summing.SumsAnswer.{SumsAnswer}
 use Rattle.pair_search.specs.declared.summing.SumsFault.{SumsFault}
-use Rattle.facet_engine.specs.Replies.{add_reply, delete_reply, replace_reply, refresh_reply, hold_reply, release_reply}
-use Rattle.facet_engine.specs.Replies.{stats_reply, commit_reply, merge_reply}
+use Rattle.facet_engine.specs.Replies.{add_reply, refresh_reply, hold_reply, release_reply, stats_reply, commit_reply}
+use Rattle.facet_engine.specs.Replies.{merge_reply}
 use Rattle.pair_search.specs.Replies.{search_reply, ranges_reply, sums_reply, document_reply}
 
 -- a point as the output's definitions have it
@@ -59,20 +58,12 @@ step_of command took place saw reply old new phase line = record {
 }
 
 -- a change that was refused for documents saw all operations that its session has seen then
-abbrev pub operations_seen : {A : Type 0} → Pass → Result A AddFault → Option ℕ
+abbrev pub operations_seen : Pass → Result ℕ AddFault → Option ℕ
 operations_seen pass (Err (adds.DocsFull count)) = Some (length pass.operations.seen)
 operations_seen pass _ = None
 
 abbrev pub added : Doc → Pass → Pass → Result ℕ AddFault → ℕ → ℕ → Step
 added doc old new result = step_of (add doc) None None (operations_seen new result) (add_reply result) old new
-
--- a delete is never refused for documents
-abbrev pub deleted : {E : Type 0} → List ℕ → Pass → Pass → Result Done E → ℕ → ℕ → Step
-deleted id old new result = step_of (delete id) None None None (delete_reply result) old new
-
-abbrev pub replaced : Doc → Pass → Pass → Result Done AddFault → ℕ → ℕ → Step
-replaced doc old new result =
-    step_of (replace doc) None None (operations_seen new result) (replace_reply result) old new
 
 -- the place of the last pair that was seen
 abbrev pub last_place : Pass → ℕ

@@ -13,7 +13,7 @@ use std::sync::Wait;
 use taxo_cache::Name;
 
 impl<D: Disk, N: Name + Start> System<D, N> {
-    /// Adds a document after all others, and returns the place of the operation, from 0. The document is not copied.
+    /// Adds a document after all others and returns its place, from 0. The document is not copied.
     ///
     /// Locks: if a label is missing from the cache, that of the labels, once for all labels; then that of the
     /// operations. It holds one at a time.
@@ -32,21 +32,15 @@ impl<D: Disk, N: Name + Start> System<D, N> {
         ensures step { IsCall self.now session.old (added doc session.old.pass session.new.pass result) }
     {
         match self.config.check(&doc) {
-            Ok(()) => {
-                let done = add_to(
-                    rt,
-                    self.alloc,
-                    &self.manager,
-                    &self.config,
-                    &mut session.pass,
-                    session.number,
-                    doc,
-                );
-                match done {
-                    Ok(done) => Ok(done.at),
-                    Err(fault) => Err(fault),
-                }
-            }
+            Ok(()) => add_to(
+                rt,
+                self.alloc,
+                &self.manager,
+                &self.config,
+                &mut session.pass,
+                session.number,
+                doc,
+            ),
             Err(fault) => Err(AddFault::Broken { fault }),
         }
     }

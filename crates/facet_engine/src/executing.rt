@@ -1,12 +1,12 @@
 ghost use Rattle.std.specs.Prelude.{◌≡◌};
 ghost use Rattle.facet_config.specs.Faults.{fault_view};
-ghost use Rattle.facet_output.specs.Replies.{broken, changed, refused};
+ghost use Rattle.facet_output.specs.Replies.{broken, refused};
 ghost use Rattle.facet_replies.specs.ReplyViews.{refusal_view, reply_view};
 ghost use Rattle.facet_words.specs.CommandViews.{counted_view, search_view as line_view, command_view};
 ghost use Rattle.facet_engine.specs.Calls.{IsCarriedOut};
 ghost use Rattle.facet_names.specs.Texts.{text_in};
-ghost use Rattle.facet_engine.specs.Replies.{add_reply, commit_reply, delete_reply, fault_reply, hold_reply};
-ghost use Rattle.facet_engine.specs.Replies.{merge_reply, refresh_reply, release_reply, replace_reply, stats_reply};
+ghost use Rattle.facet_engine.specs.Replies.{add_reply, commit_reply, hold_reply, merge_reply, refresh_reply};
+ghost use Rattle.facet_engine.specs.Replies.{release_reply, stats_reply};
 ghost use Rattle.pair_search.specs.Replies.{document_reply, ranges_reply, search_reply, sums_reply};
 ghost use Rattle.pair_search.specs.Searches.{search_view};
 ghost use Rattle.facet_engine.specs.Systems.{BelongsTo};
@@ -23,7 +23,6 @@ use facet_model::Word;
 use facet_names::NoMemory;
 use facet_replies::{Refusal, Reply};
 use facet_words::{Command, CountedLine, SearchLine};
-use index_state::Done;
 use pair_manager::Stats;
 use pair_search::{
     DocumentFault, RangesAnswer, RangesFault, SearchAnswer, SearchFault, Shown, SumsAnswer,
@@ -49,51 +48,15 @@ fn broken(fault: DocFault) -> Refusal
     }
 }
 
-// An add or a replace was refused.
-fn not_added(fault: AddFault) -> Reply
-    ensures { reply_view result ≡ fault_reply fault }
-{
-    match fault {
-        AddFault::Broken { fault } => refused(broken(fault)),
-        AddFault::LabelsFull { size } => refused(Refusal::LabelsFull { size }),
-        AddFault::DocsFull { count } => refused(Refusal::DocsFull { count }),
-        AddFault::NoMemory => refused(Refusal::NoMemory),
-    }
-}
-
 fn added(of: Result<u64, AddFault>) -> Reply
     ensures { reply_view result ≡ add_reply of }
 {
     match of {
         Ok(at) => Reply::Placed { at },
-        Err(fault) => not_added(fault),
-    }
-}
-
-fn changed(done: Done) -> Reply
-    ensures { reply_view result ≡ changed done.at done.deleted }
-{
-    Reply::Changed {
-        at: done.at,
-        deleted: done.deleted,
-    }
-}
-
-fn deleted(of: Result<Done, NoMemory>) -> Reply
-    ensures { reply_view result ≡ delete_reply of }
-{
-    match of {
-        Ok(done) => changed(done),
-        Err(NoMemory) => refused(Refusal::NoMemory),
-    }
-}
-
-fn replaced(of: Result<Done, AddFault>) -> Reply
-    ensures { reply_view result ≡ replace_reply of }
-{
-    match of {
-        Ok(done) => changed(done),
-        Err(fault) => not_added(fault),
+        Err(AddFault::Broken { fault }) => refused(broken(fault)),
+        Err(AddFault::LabelsFull { size }) => refused(Refusal::LabelsFull { size }),
+        Err(AddFault::DocsFull { count }) => refused(Refusal::DocsFull { count }),
+        Err(AddFault::NoMemory) => refused(Refusal::NoMemory),
     }
 }
 
@@ -258,8 +221,6 @@ pub fn execute<D: Disk, N: Name + Start, R: Wait>(
 {
     match command {
         Command::Add { doc } => added(system.add(rt, session, doc)),
-        Command::Delete { id } => deleted(system.delete(rt, session, &id)),
-        Command::Replace { doc } => replaced(system.replace(rt, session, doc)),
         Command::Refresh => refreshed(system.refresh(rt, session)),
         Command::Hold { name } => held(system.hold(rt, session, name.text())),
         Command::Release { name } => released(system.release(session, name.text())),

@@ -6,7 +6,6 @@
 #![tactic(auto)]
 
 mod adding;
-mod changing;
 mod committing;
 mod ending;
 mod exchange;
@@ -32,7 +31,6 @@ pub use executing::execute;
 pub use facet_adding::AddFault;
 pub use held::{Held, HeldPairs};
 pub use holding::{HoldFault, NotHeld};
-pub use index_state::Done;
 pub use notes::Notes;
 pub use opening::Store;
 pub use pair_search::{

@@ -26,16 +26,14 @@ impl<D: Disk, N: Name + Start> System<D, N> {
         self.manager.merge(rt, &mut pass.operations)
     }
 
-    /// Merges all segments of the index into one, without the records of deleted documents. No document, label, reply or
-    /// published pair changes, and a held pair keeps its own segments. Searches of pairs that are published afterwards
-    /// visit one segment in place of many, and the next commit writes the merged one.
+    /// Merges all segments of the index into one. No document, label, reply or published pair changes, and a held pair
+    /// keeps its own segments. Searches of pairs that are published afterwards visit one segment in place of many, and
+    /// the next commit writes the merged one.
     ///
     /// Locks: that of the operations, twice: to share the segments, and to put the merged one in their place. Others
-    /// can add and delete documents while the segments are merged. The old segments and the merged one are in memory
-    /// together.
+    /// can add documents while the segments are merged. The old segments and the merged one are in memory together.
     ///
-    /// Errors: out of memory. The segments then stay. The documents that waited may be one more, and the records of
-    /// deleted documents may no longer be live.
+    /// Errors: out of memory. The segments then stay, and the documents that waited may be one more.
     pub fn merge<R: Wait>(&self, rt: &R, session: &mut Session) -> Result<(), NoMemory>
         requires own { BelongsTo self.now session.old.pass }
         ensures same { SameSession session.old session.new }

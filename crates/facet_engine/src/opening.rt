@@ -256,7 +256,7 @@ fn begin_commits<D: Disk, N: Name + Start>(
 
 impl<D: Disk, N: Name + Start> System<D, N> {
     /// Makes a system of a store, with its first pass, and publishes the pair of what was opened. `N` has to name the
-    /// labels of the store. It allocates the cache of labels, 12 bytes per document, and 8 per record that is not live.
+    /// labels of the store. It allocates the cache of labels, and four bytes per document.
     ///
     /// Errors: out of memory, with the disk.
     pub fn open(

@@ -16,8 +16,7 @@ impl<D: Disk, N: Name + Start> System<D, N> {
     /// include all that the session had seen.
     ///
     /// Locks: that of the pairs; in it, that of the operations and then that of the labels. The documents that were
-    /// added since the last refresh become a segment. Each segment that has a document which was deleted since then
-    /// gets a new list of its live records, and its bytes stay. Each new label is copied, and at most 4,095 others.
+    /// added since the last refresh become a segment. Each new label is copied, and at most 4,095 others.
     /// With `auto_merge` it first merges segments if there are too many, before it takes these locks. If memory is
     /// short for that, it merges none.
     ///

@@ -14,12 +14,12 @@ use Rattle.facet_output.specs.Answered.{Answered, comes_after}
 use Rattle.facet_output.specs.Held.{Held}
 use Rattle.facet_output.specs.Output.{Opened, is_brought, was_full}
 use Rattle.facet_output.specs.Replying.{IsChanged, IsAdded, IsResolved, IsRight, IsRightBy}
-use Rattle.facet_output.specs.Reported.{brings, full_in, says_full, is_refused_for_labels}
+use Rattle.facet_output.specs.Reported.{brings, says_full, is_refused_for_labels}
 use Rattle.facet_output.specs.Seen.{Seen, Sees, opened_seen, labels_of, history_of}
 use Rattle.facet_output.specs.Steps.{Step, IsEntered}
 use Rattle.facet_output.specs.Sessions.{AllRan, steps_of, own_steps}
 use Rattle.facet_output.proofs.Chain.{sees_last, sees_trans}
-use Rattle.facet_output.proofs.Effects.{change_rejected, told_placed}
+use Rattle.facet_output.proofs.Effects.{change_rejected}
 use Rattle.facet_output.proofs.Among.{In, all_in}
 use Rattle.facet_output.proofs.Answers.{answers, all_steps, any_step, in_drop, of_get_map}
 use Rattle.facet_output.proofs.Fresh.{implied}
@@ -31,14 +31,14 @@ use Rattle.chronicle.proofs.Prefixes.{prefix_length}
 module _ (settings : Settings) (labels : List (List (List ℕ))) (history : List Operation) (session : ℕ) (change : Change) (saw : Option ℕ) (reply : Reply) (says : says_full reply ≡ true) where
   full_resolved : (b : Bool) → IsResolved settings labels history session change saw b reply → settings.max_labels ≤ length labels
   full_resolved false r = r.0
-  full_resolved true r = ⊎_elim (λ p. let e : false ≡ true = sym (ap full_in (told_placed reply change p.0 _ p.3)) ∙ says in absurd cc) (λ n. let e : false ≡ true = sym (ap says_full n.4) ∙ says in absurd cc) r
+  full_resolved true r = ⊎_elim (λ p. let e : false ≡ true = sym (ap says_full p.3) ∙ says in absurd cc) (λ n. let e : false ≡ true = sym (ap says_full n.4) ∙ says in absurd cc) r
 
   pub full_added : (doc : Doc) (o : Option Broken) → IsAdded settings labels history session change saw doc o reply → settings.max_labels ≤ length labels
   full_added doc (Some b) r = let e : false ≡ true = sym (ap says_full r) ∙ says in absurd cc
   full_added doc None r = full_resolved (knows labels doc) r
 
   full_changed : (d : Option Doc) → IsChanged settings labels history session change saw d reply → settings.max_labels ≤ length labels
-  full_changed None r = let e : false ≡ true = sym (ap full_in (told_placed reply change r.0 _ r.2)) ∙ says in absurd cc
+  full_changed None r = let e : false ≡ true = sym (ap says_full r.2) ∙ says in absurd cc
   full_changed (Some doc) r = full_added doc (first_broken settings.config doc) r
 
 pub full_size : (settings : Settings) (labels : List (List (List ℕ))) (history : List Operation) (held : Held) (session : ℕ) (took : Option (ℕ × ℕ)) (saw : Option ℕ) (reply : Reply) (command : Command) → is_refused_for_labels command reply ≡ true

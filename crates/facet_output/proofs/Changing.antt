@@ -1,27 +1,28 @@
 -- Replies to changes, right and wrong, told by the definitions.
-use Rattle.std.proofs.Common.{◌≡◌, ℕ, ◌≤◌, ◌<◌, Bool, true, false, List, [], ◌∷◌, length, Option, Some, None, slice_get, refl, sym, ap, subst, arith, inl, inr, ⊎_elim}
+use Rattle.std.proofs.Common.{◌≡◌, ℕ, ◌≤◌, ◌<◌, true, false, List, [], ◌∷◌, length, Option, Some, None, slice_get, refl, sym, ap, subst, arith, inl, inr, ⊎_elim}
 use Rattle.std.specs.Prelude.{codes, take, unwrap_or}
-use Rattle.std.specs.Str.{bytes_eq}
-use Rattle.facet_model.specs.Accepts.{Broken, first_broken}
 use Rattle.facet_model.specs.Documents.{Doc}
 use Rattle.facet_model.specs.Histories as histories
-use Rattle.facet_model.specs.Histories.{Change, Operation, count_with, left_by, docs, is_add, knows}
+use Rattle.facet_model.specs.Histories.{Change, delete, replace, Operation, docs, doc_of, is_add}
 use Rattle.facet_model.proofs.Samples.{author, doc, bob, lisa}
-use Rattle.facet_words.specs.Commands.{Settings, Command, add, delete, replace}
-use Rattle.facet_replies.specs.Replies.{Refusal, docs_full, Reply, placed, changed, refused}
+use Rattle.facet_words.specs.Commands.{Settings, add}
+use Rattle.facet_replies.specs.Replies.{Refusal, docs_full, Reply, placed, refused}
 use Rattle.facet_output.specs.Answered.{Answered}
-use Rattle.facet_output.specs.Replying.{IsAdded, IsResolved, IsRight, RightReply}
+use Rattle.facet_output.specs.Replying.{IsChanged, RightReply}
 use Rattle.facet_output.specs.Reported.{shows, stood}
 use Rattle.facet_output.proofs.Holding.{labels}
-use Rattle.facet_output.proofs.Samples.{answer, answer_seeing, made, by_one, plain_settings}
+use Rattle.facet_output.proofs.Samples.{answer, answer_seeing, by_one, plain_settings}
 
--- ---- two documents are added, the first is deleted, the second is replaced by one of Bob's, and no document has the last id
+-- ---- two documents are added, the first is deleted, the second is replaced by one of Bob's
 
-abbrev pub by_bob : Doc
+abbrev by_bob : Doc
 by_bob = doc (codes "b2") (author (codes "Bob") ∷ [])
 
-abbrev pub history : List Operation
-history = by_one bob ∷ by_one lisa ∷ made (histories.delete (codes "b1")) ∷ made (histories.replace by_bob) ∷ made (histories.delete (codes "zz")) ∷ []
+abbrev made : Change → Operation
+made change = record { session = 1; change = change }
+
+abbrev history : List Operation
+history = by_one bob ∷ by_one lisa ∷ made (delete (codes "b1")) ∷ made (replace by_bob) ∷ []
 
 abbrev two_documents : Settings
 two_documents = record plain_settings { max_docs = 2 }
@@ -29,28 +30,25 @@ two_documents = record plain_settings { max_docs = 2 }
 abbrev one_document : Settings
 one_document = record plain_settings { max_docs = 1 }
 
--- a reply of these settings to a command of session 1
-abbrev IsReply : Settings → Command → Option ℕ → Reply → Type 0
-IsReply settings command saw reply = IsRight settings labels history [] 1 command None saw reply
+-- a reply of these settings to a change of session 1
+abbrev IsReply : Settings → Change → Option ℕ → Reply → Type 0
+IsReply settings change saw reply = IsChanged settings labels history 1 change saw (doc_of change) reply
 
-added : IsReply two_documents (add lisa) None (placed 1)
+added : IsReply two_documents (histories.add lisa) None (placed 1)
 added = inl (1, refl, omega arith, refl)
 
 -- a delete needs no room
-deleted : IsReply (record plain_settings { max_docs = 0 }) (delete (codes "b1")) None (changed 2 1)
+deleted : IsReply (record plain_settings { max_docs = 0 }) (delete (codes "b1")) None (placed 2)
 deleted = (2, refl, refl)
 
-none_deleted : IsReply plain_settings (delete (codes "zz")) None (changed 4 0)
-none_deleted = (4, refl, refl)
-
 -- a document takes the room of the one that it replaces
-replaced : IsReply one_document (replace by_bob) None (changed 3 1)
+replaced : IsReply one_document (replace by_bob) None (placed 3)
 replaced = inl (3, refl, omega arith, refl)
 
 -- ---- no room
 
 -- after three operations there is one document
-no_room : IsReply one_document (add bob) (Some 3) (refused (docs_full 1))
+no_room : IsReply one_document (histories.add bob) (Some 3) (refused (docs_full 1))
 no_room = inr (3, refl, omega arith, omega arith, refl)
 
 -- the document that would be replaced is not counted
@@ -76,23 +74,17 @@ size_of _ = 0
 
 abbrev place_of : Reply → ℕ
 place_of (placed at) = at
-place_of (changed at n) = at
 place_of _ = 0
 
--- the number of deleted documents in a reply
-abbrev deleted_of : Reply → ℕ
-deleted_of (changed at n) = n
-deleted_of _ = 0
-
 -- operations that are counted in place of documents
-counted_operations : ¬ IsReply one_document (add bob) (Some 3) (refused (docs_full 3))
+counted_operations : ¬ IsReply one_document (histories.add bob) (Some 3) (refused (docs_full 3))
 counted_operations r = ⊎_elim (λ p. let e = p.3 in cc)
     (λ n. let same : 3 ≡ n.0 = ap (λ (o : Option ℕ). unwrap_or o 0) n.1 in
     let size : 3 ≡ length (docs (take n.0 history)) = ap size_of n.4 in
     let one : length (docs (take n.0 history)) ≡ 1 = subst (λ (k : ℕ). length (docs (take k history)) ≡ 1) same refl in absurd (omega arith)) r
 
 -- no room where there was room for one
-too_early : (size : ℕ) → ¬ IsReply one_document (add bob) (Some 0) (refused (docs_full size))
+too_early : (size : ℕ) → ¬ IsReply one_document (histories.add bob) (Some 0) (refused (docs_full size))
 too_early size r = ⊎_elim (λ p. let e = p.3 in cc)
     (λ n. let same : 0 ≡ n.0 = ap (λ (o : Option ℕ). unwrap_or o 1) n.1 in
     let full : 1 ≤ length (docs (take 0 history)) = subst (λ (k : ℕ). 1 ≤ length (docs (take k history))) (sym same) n.3 in absurd (omega (arith, full))) r
@@ -102,78 +94,20 @@ saw_nothing : (size : ℕ) → ¬ RightReply one_document labels history [] (ans
 saw_nothing size r = ⊎_elim (λ right. ⊎_elim (λ p. let e = p.3 in cc) (λ n. let e = n.1 in cc) right) (λ lacks. let e = lacks.1 in cc) r
 
 -- a document beyond the limit
-over_full : ¬ IsReply one_document (add lisa) None (placed 1)
+over_full : ¬ IsReply one_document (histories.add lisa) None (placed 1)
 over_full r = ⊎_elim
     (λ p. let same : 1 ≡ p.0 = ap place_of p.3 in
     let room : length (docs (take 1 history)) < 1 = subst (λ (k : ℕ). length (docs (take k history)) < 1) (sym same) p.2 in absurd (omega (arith, room)))
     (λ n. let e = n.1 in cc) r
 
 -- the place of another change
-of_another : ¬ IsReply plain_settings (add bob) None (placed 2)
+of_another : ¬ IsReply plain_settings (histories.add bob) None (placed 2)
 of_another r = ⊎_elim
     (λ p. let same : 2 ≡ p.0 = ap place_of p.3 in
-    let at : Some (made (histories.delete (codes "b1"))) ≡ Some (made (histories.add bob)) = subst (λ (k : ℕ). slice_get history k ≡ Some (made (histories.add bob))) (sym same) p.1 in
+    let at : Some (made (delete (codes "b1"))) ≡ Some (made (histories.add bob)) = subst (λ (k : ℕ). slice_get history k ≡ Some (made (histories.add bob))) (sym same) p.1 in
     let wrong : false ≡ true = ap (λ (o : Option Operation). is_add (unwrap_or o (by_one bob)).change) at in absurd cc)
     (λ n. let e = n.1 in cc) r
 
 -- a delete that is refused
 delete_refused : (id : List ℕ) (why : Refusal) (saw : Option ℕ) → ¬ IsReply plain_settings (delete id) saw (refused why)
 delete_refused id why saw r = let e = r.2 in cc
-
--- ---- wrong replies to a delete and to a replace
-
--- the place alone
-delete_placed : (id : List ℕ) (at : ℕ) (saw : Option ℕ) → ¬ IsReply plain_settings (delete id) saw (placed at)
-delete_placed id at saw r = let e = r.2 in cc
-
-replace_placed : (doc : Doc) (at : ℕ) (saw : Option ℕ) → ¬ IsReply plain_settings (replace doc) saw (placed at)
-replace_placed d at saw r = by (first_broken plain_settings.config d) r
-  where
-    by : (o : Option Broken) → ¬ IsAdded plain_settings labels history 1 (histories.replace d) saw d o (placed at)
-    by (Some b) r = cc
-    by None r = known (knows labels d) r
-      where
-        known : (b : Bool) → ¬ IsResolved plain_settings labels history 1 (histories.replace d) saw b (placed at)
-        known false r = let e = r.1 in cc
-        known true r = ⊎_elim (λ p. let e = p.3 in cc) (λ n. let e = n.4 in cc) r
-
--- a number of documents that it did not take out
-delete_miscounted : ¬ IsReply plain_settings (delete (codes "b1")) None (changed 2 0)
-delete_miscounted r =
-    let same : 2 ≡ r.0 = ap place_of r.2 in
-    let none : 0 ≡ count_with (codes "b1") (docs (take r.0 history)) = ap deleted_of r.2 in
-    let one : count_with (codes "b1") (docs (take r.0 history)) ≡ 1 = subst (λ (k : ℕ). count_with (codes "b1") (docs (take k history)) ≡ 1) same refl in
-    absurd (omega arith)
-
--- the document that it adds is not among those that it takes out
-replace_miscounted : ¬ IsReply plain_settings (replace by_bob) None (changed 3 2)
-replace_miscounted r = ⊎_elim
-    (λ p. let same : 3 ≡ p.0 = ap place_of p.3 in
-    let two : 2 ≡ count_with (codes "b2") (docs (take p.0 history)) = ap deleted_of p.3 in
-    let one : count_with (codes "b2") (docs (take p.0 history)) ≡ 1 = subst (λ (k : ℕ). count_with (codes "b2") (docs (take k history)) ≡ 1) same refl in
-    absurd (omega arith))
-    (λ n. let e = n.4 in cc) r
-
--- the id of a delete
-abbrev id_of : Option Operation → List ℕ
-id_of (Some o) = id_in o.change
-  where
-    id_in : Change → List ℕ
-    id_in (histories.delete id) = id
-    id_in _ = []
-id_of None = []
-
--- the place of a delete of another id
-delete_of_another : (n : ℕ) → ¬ IsReply plain_settings (delete (codes "b1")) None (changed 4 n)
-delete_of_another n r =
-    let same : 4 ≡ r.0 = ap place_of r.2 in
-    let at : slice_get history 4 ≡ Some (made (histories.delete (codes "b1"))) = subst (λ (k : ℕ). slice_get history k ≡ Some (made (histories.delete (codes "b1")))) (sym same) r.1 in
-    let wrong : true ≡ false = ap (λ (o : Option Operation). bytes_eq (id_of o) (codes "zz")) at in cc
-
--- a document beyond the limit in the place of none
-replaced_over_full : ¬ IsRight one_document labels (by_one bob ∷ made (histories.replace lisa) ∷ []) [] 1 (replace lisa) None None (changed 1 0)
-replaced_over_full r = ⊎_elim
-    (λ p. let over = by_one bob ∷ made (histories.replace lisa) ∷ [] in
-    let same : 1 ≡ p.0 = ap place_of p.3 in
-    let room : length (left_by (histories.replace lisa) (docs (take 1 over))) < 1 = subst (λ (k : ℕ). length (left_by (histories.replace lisa) (docs (take k over))) < 1) (sym same) p.2 in absurd (omega (arith, room)))
-    (λ n. let e = n.4 in cc) r

@@ -1,9 +1,7 @@
 -- Which effect a command has, and what its reply reports, where the reply reports so much.
-use Rattle.std.proofs.Common.{◌≡◌, ℕ, true, List, Option, Some, refl, sym, ap, ◌∙◌}
+use Rattle.std.proofs.Common.{◌≡◌, ℕ, true, Option, Some, refl, sym, ap}
 use Rattle.std.specs.Prelude.{unwrap_or}
-use Rattle.facet_model.specs.Documents.{Doc}
-use Rattle.facet_model.specs.Histories.{Change, add, delete, replace, Operation}
-use Rattle.facet_words.specs.Answers.{told_of}
+use Rattle.facet_model.specs.Histories.{Change, Operation}
 use Rattle.facet_output.specs.Effects.{Effect, changes, publishes, holds, releases, persists, merges, looks, Report, says_placed, says_number, says_pair, says_refused, for_labels, for_docs, for_disk, for_closed, for_numbers, for_memory, for_other, says_nothing, report}
 use Rattle.facet_replies.specs.Replies.{Reply}
 use Rattle.facet_output.specs.Reported.{shown_in, rejected, full_in, placed_in, number_in, refreshed_in, failed_in, closed_in, of_commit}
@@ -11,15 +9,6 @@ use Rattle.facet_output.specs.Reported.{shown_in, rejected, full_in, placed_in, 
 -- how many operations a reply has shown, given how many it saw if it was refused for documents
 abbrev pub shown_by : Option ℕ → Reply → ℕ
 shown_by saw reply = shown_in saw (report reply)
-
--- the right reply to a change that was placed reports the place
-pub told_placed : (reply : Reply) (change : Change) (at : ℕ) (ds : List Doc) → reply ≡ told_of change at ds → report reply ≡ says_placed at
-told_placed reply change at ds told = ap report told ∙ by change
-  where
-    by : (change : Change) → report (told_of change at ds) ≡ says_placed at
-    by (add doc) = refl
-    by (delete id) = refl
-    by (replace doc) = refl
 
 -- only a change is rejected for labels
 pub change_rejected : (e : Effect) (said : Report) → rejected e said ≡ true → (change : Change) × (e ≡ changes change) × (full_in said ≡ true)

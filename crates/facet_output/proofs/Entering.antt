@@ -9,7 +9,7 @@ use Rattle.facet_model.specs.Accepts.{Broken, first_broken}
 use Rattle.facet_model.specs.Documents.{Doc}
 use Rattle.facet_model.specs.Histories.{Change, Operation, doc_of, knows}
 use Rattle.facet_words.specs.Commands.{Settings, Command, Order}
-use Rattle.facet_output.specs.Effects.{Effect, changes, publishes, holds, releases, persists, merges, looks, effect, Report, says_refused, for_memory, report}
+use Rattle.facet_output.specs.Effects.{Effect, changes, publishes, holds, releases, persists, merges, looks, effect, says_refused, for_memory, report}
 use Rattle.facet_output.specs.Answered.{comes_after}
 use Rattle.facet_output.specs.Held.{Held}
 use Rattle.facet_output.specs.Output.{Opened, has_shown, is_entered}
@@ -22,7 +22,6 @@ use Rattle.facet_output.specs.Reported.{brings, paths_of, add_among, change_amon
 use Rattle.facet_output.proofs.Among.{In, all_in}
 use Rattle.facet_output.proofs.Answers.{answers, all_steps, any_step, of_get_map}
 use Rattle.facet_output.proofs.Bringing.{labels_begin, label_entered, opened_size}
-use Rattle.facet_output.proofs.Effects.{told_placed}
 use Rattle.facet_output.proofs.Fresh.{implied}
 use Rattle.facet_output.proofs.Fronts.{get_below, take_prefix, labels_size}
 use Rattle.facet_output.proofs.HeldPairs.{pair_in}
@@ -60,7 +59,7 @@ module _ (settings : Settings) (labels these : List (List (List ℕ))) (history 
   resolved_among : (change : Change) (doc : Doc) (b : Bool) → knows labels doc ≡ b → IsResolved settings labels history session change saw b reply → add_among doc these (report reply) ≡ true
   resolved_among change doc false e r = subst (λ (q : Reply). add_among doc these (report q) ≡ true) (sym r.1) (le-leb (length labels) (length these) (prefix_length labels these begins))
   resolved_among change doc true e r = ⊎_elim
-      (λ p. subst (λ (said : Report). add_among doc these said ≡ true) (sym (told_placed reply change p.0 _ p.3)) (still_knows labels these doc begins e))
+      (λ p. subst (λ (q : Reply). add_among doc these (report q) ≡ true) (sym p.3) (still_knows labels these doc begins e))
       (λ n. subst (λ (q : Reply). add_among doc these (report q) ≡ true) (sym n.4) (still_knows labels these doc begins e)) r
 
   added_among : (change : Change) (doc : Doc) (o : Option Broken) → IsAdded settings labels history session change saw doc o reply → add_among doc these (report reply) ≡ true

@@ -35,7 +35,6 @@ pub mod Alone
 pub mod Served
 pub mod Failed
 pub mod Changing
-pub mod Deleting
 pub mod Merging
 pub mod Entering
 pub mod Places

@@ -10,8 +10,8 @@ use Rattle.facet_model.specs.Accepts.{Broken, first_broken}
 use Rattle.facet_model.specs.Documents.{Doc}
 use Rattle.facet_model.specs.Histories.{Change, Operation, left_by, docs, doc_of, knows}
 use Rattle.facet_model.proofs.Fronts.{weaker}
-use Rattle.facet_words.specs.Answers.{told_of, ranged_of, IsSummed}
-use Rattle.facet_words.specs.Commands.{Settings, Command, Order, add, delete, replace, refresh, hold, release, search, ranges, sums, document, stats, commit, merge}
+use Rattle.facet_words.specs.Answers.{ranged_of, IsSummed}
+use Rattle.facet_words.specs.Commands.{Settings, Command, Order, add, refresh, hold, release, search, ranges, sums, document, stats, commit, merge}
 use Rattle.facet_replies.specs.Replies.{Reply, refused, docs_full, stats as numbers}
 use Rattle.facet_output.specs.Answered.{Answered, of_session}
 use Rattle.facet_output.specs.Effects.{Effect, changes, publishes, holds, releases, persists, merges, looks, effect}
@@ -54,25 +54,16 @@ still_places labels all (p ∷ paths) (k ∷ ordinals) begins is e =
 module _ (settings : Settings) (labels all : List (List (List ℕ))) (history whole : List Operation) (held : Held) (session : ℕ) (took : Option (ℕ × ℕ)) (saw : Option ℕ) (reply : Reply)
     (begins : IsPrefix labels all) (grows : IsPrefix history whole) (is : IsLabelList all) (full : settings.max_labels ≤ length labels → labels ≡ all) where
   -- the first operations leave the same documents
-  docs_so : (n : ℕ) → n ≤ length history → docs (take n history) ≡ docs (take n whole)
-  docs_so n le = ap docs (sym (take_prefix history whole n grows le))
-
   left_so : (change : Change) (n : ℕ) → n ≤ length history → left_by change (docs (take n history)) ≡ left_by change (docs (take n whole))
-  left_so change n le = ap (left_by change) (docs_so n le)
+  left_so change n le = ap (λ (os : List Operation). left_by change (docs os)) (sym (take_prefix history whole n grows le))
 
   lifted_operation : (change : Change) (at : ℕ) → IsOperation history session change at → IsOperation whole session change at
   lifted_operation change at is = prefix_get history whole at (record { session = session; change = change }) grows is
 
-  -- and the same reply to a change behind them
-  lifted_told : (change : Change) (at : ℕ) → IsOperation history session change at → reply ≡ told_of change at (docs (take at history)) → reply ≡ told_of change at (docs (take at whole))
-  lifted_told change at is told =
-      let lt = get_below history at (record { session = session; change = change }) is in
-      told ∙ ap (told_of change at) (docs_so at (omega arith))
-
   lifted_placed : (change : Change) → IsPlaced settings history session change reply → IsPlaced settings whole session change reply
   lifted_placed change p =
       let lt = get_below history p.0 (record { session = session; change = change }) p.1 in
-      (p.0, lifted_operation change p.0 p.1, subst (λ (ds : List Doc). length ds < settings.max_docs) (left_so change p.0 (omega arith)) p.2, lifted_told change p.0 p.1 p.3)
+      (p.0, lifted_operation change p.0 p.1, subst (λ (ds : List Doc). length ds < settings.max_docs) (left_so change p.0 (omega arith)) p.2, p.3)
 
   lifted_room : (change : Change) → HasNoRoom settings history change saw reply → HasNoRoom settings whole change saw reply
   lifted_room change n =
@@ -88,7 +79,7 @@ module _ (settings : Settings) (labels all : List (List (List ℕ))) (history wh
   lifted_added change doc None r = lifted_resolved change doc (knows labels doc) refl r
 
   lifted_change : (change : Change) (d : Option Doc) → IsChanged settings labels history session change saw d reply → IsChanged settings all whole session change saw d reply
-  lifted_change change None r = (r.0, lifted_operation change r.0 r.1, lifted_told change r.0 r.1 r.2)
+  lifted_change change None r = (r.0, lifted_operation change r.0 r.1, r.2)
   lifted_change change (Some doc) r = lifted_added change doc (first_broken settings.config doc) r
 
   lifted_counts : Counts history reply → Counts whole reply
@@ -100,7 +91,7 @@ module _ (settings : Settings) (labels all : List (List (List ℕ))) (history wh
   lifted_of R S None None by r = r
 
   same_docs : (pair : ℕ × ℕ) → pair.0 ≤ length history → docs_of history pair ≡ docs_of whole pair
-  same_docs pair le = docs_so pair.0 le
+  same_docs pair le = sym (ap docs (take_prefix history whole pair.0 grows le))
 
   lifted_shown : (n at : ℕ) (ds : List Doc) (o : Option Doc) → IsShown labels n ds at o reply → IsShown all n ds at o reply
   lifted_shown n at ds None r = r
@@ -116,8 +107,6 @@ module _ (settings : Settings) (labels all : List (List (List ℕ))) (history wh
   lifted_looked (document on at) pair le r = subst (λ (ds : List Doc). IsShown all pair.0 ds at (slice_get ds at) reply) (same_docs pair le) (lifted_shown pair.0 at (docs_of history pair) (slice_get (docs_of history pair) at) r)
   lifted_looked (stats on) pair le r = r ∙ (λ i. numbers (record { operations = pair.0; labels = pair.1; documents = length (same_docs pair le i) }))
   lifted_looked (add doc) pair le r = absurd r
-  lifted_looked (delete id) pair le r = absurd r
-  lifted_looked (replace doc) pair le r = absurd r
   lifted_looked refresh pair le r = absurd r
   lifted_looked (hold name) pair le r = absurd r
   lifted_looked (release name) pair le r = absurd r

@@ -4,7 +4,7 @@ use Rattle.std.proofs.lemmas.Bool.{le-leb}
 use Rattle.facet_model.specs.Asks.{AskFault, top_of_none, value_not_kept}
 use Rattle.facet_model.specs.Documents.{Doc}
 use Rattle.facet_model.specs.Histories.{Operation}
-use Rattle.facet_words.specs.Commands.{Settings, Search, Command, add, delete, replace, refresh, hold, release, search, ranges, sums, Counted, document, stats, commit, merge}
+use Rattle.facet_words.specs.Commands.{Settings, Search, Command, add, refresh, hold, release, search, ranges, sums, Counted, document, stats, commit, merge}
 use Rattle.facet_words.specs.Answers.{IsSummed}
 use Rattle.facet_replies.specs.Replies.{Reply, refused}
 use Rattle.facet_output.specs.Effects.{report}
@@ -48,8 +48,6 @@ module _ (settings : Settings) (labels : List (List (List ℕ))) (history : List
   looked (document on at) is = shown_looked (docs_of history pair) at (slice_get (docs_of history pair) at) is
   looked (stats on) is = at_most _ is (λ saw. omega arith) (λ these many. le-leb pair.1 (length these) many)
   looked (add doc) is = absurd is
-  looked (delete id) is = absurd is
-  looked (replace doc) is = absurd is
   looked refresh is = absurd is
   looked (hold name) is = absurd is
   looked (release name) is = absurd is

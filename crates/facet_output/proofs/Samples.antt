@@ -4,7 +4,7 @@ use Rattle.std.proofs.lemmas.Bool.{eqb-true}
 use Rattle.std.specs.Prelude.{codes, Option, Some, None}
 use Rattle.facet_model.specs.Documents.{Doc}
 use Rattle.facet_model.specs.Histories as histories
-use Rattle.facet_model.specs.Histories.{Change, Operation}
+use Rattle.facet_model.specs.Histories.{Operation}
 use Rattle.facet_model.proofs.Samples.{author}
 use Rattle.facet_words.specs.Commands.{Settings, Order, Command}
 use Rattle.facet_replies.specs.Replies.{Hit, Reply, found}
@@ -34,13 +34,9 @@ answer_at place line command took reply = record (answer line command took reply
 abbrev pub answer_seeing : ℕ → ℕ → Command → Reply → Answered
 answer_seeing saw line command reply = record (answer line command None reply) { saw = Some saw }
 
--- session 1 made the change
-abbrev pub made : Change → Operation
-made change = record { session = 1; change = change }
-
 -- session 1 added the document
 abbrev pub by_one : Doc → Operation
-by_one d = made (histories.add d)
+by_one d = record { session = 1; change = histories.add d }
 
 -- what holds of session 1, and of every session where the test for 1 fails, holds of all
 pub each_session : (P : ℕ → Type 0) → P 1 → ((s : ℕ) → eqb 1 s ≡ false → P s) → (s : ℕ) → P s

@@ -12,22 +12,22 @@ use Rattle.facet_model.specs.Asks.{Asked, AskFault, ask_fault}
 use Rattle.facet_model.specs.Documents.{Doc}
 use Rattle.facet_model.specs.Flags.{Config}
 use Rattle.facet_model.specs.Histories as histories
-use Rattle.facet_model.specs.Histories.{Change, Operation, left_by, changed as with_change, docs, doc_of, knows}
+use Rattle.facet_model.specs.Histories.{Change, Operation, docs, doc_of, knows}
 use Rattle.facet_model.proofs.Changes.{docs_more, docs_opened}
 use Rattle.facet_replies.specs.ReplyLines.{reply_line}
 use Rattle.facet_words.specs.Answers as words_answers
-use Rattle.facet_words.specs.Answers.{Shelf, told_of, names_no_pair, with_labels, hits_of, first_hits, ranged_of, IsSummed}
-use Rattle.facet_words.specs.Commands.{Settings, Search, Counted, Command, Order, add, delete, replace, refresh, hold, release, search, ranges, sums, document, stats, commit, merge}
+use Rattle.facet_words.specs.Answers.{Shelf, names_no_pair, with_labels, hits_of, first_hits, ranged_of, IsSummed}
+use Rattle.facet_words.specs.Commands.{Settings, Search, Counted, Command, Order, add, refresh, hold, release, search, ranges, sums, document, stats, commit, merge}
 use Rattle.number_facets.specs.Values.{Range}
 use Rattle.facet_output.specs.Answered.{Answered}
-use Rattle.facet_output.specs.Effects.{Effect, changes, publishes, persists, merges, looks, effect, Report, says_placed, report}
+use Rattle.facet_output.specs.Effects.{Effect, publishes, persists, merges, looks, effect, report}
 use Rattle.facet_output.specs.Held.{Held, held_after}
 use Rattle.facet_output.specs.OneSession.{AddLeaves, EffectLeaves, LeavesFirst, room, is_resolved}
 use Rattle.facet_output.specs.OneShelf.{orders_of, NamesNoPair, Served, OneSessionIsServed}
 use Rattle.facet_output.specs.Output.{Opened}
 use Rattle.facet_output.specs.OutputLines.{reply_lines}
-use Rattle.facet_replies.specs.Replies.{Refusal, broken, labels_full, docs_full, disk_failed, closed, numbers_spent, no_memory, Reply, numbered, stats as numbers, merged, refused}
-use Rattle.facet_output.specs.Replying.{IsAdded, IsChanged, IsResolved, IsOf, IsFound, IsShown, IsLooked, IsRight, IsRightBy, IsCommitted, Counts, docs_of, first_refused, takes_memory}
+use Rattle.facet_replies.specs.Replies.{Refusal, broken, labels_full, docs_full, disk_failed, closed, numbers_spent, no_memory, Reply, placed, numbered, stats as numbers, merged, refused}
+use Rattle.facet_output.specs.Replying.{IsAdded, IsResolved, IsOf, IsFound, IsShown, IsLooked, IsRight, IsRightBy, IsCommitted, Counts, docs_of, first_refused, takes_memory}
 use Rattle.facet_output.specs.Seen.{CommitPoint, Entries, Seen, Sees, IsTold, EntersNone, opened_seen, labels_of, history_of, failures}
 use Rattle.facet_output.specs.Sessions.{SessionRan, AllRan, steps_of, own_steps, is_by}
 use Rattle.facet_output.specs.Steps.{Step, IsStep, IsLastPair, EntersOperation, EntersPair, EntersPoint, EntersPoints, EntersBy, EntersCommit}
@@ -36,7 +36,6 @@ use Rattle.facet_output.proofs.Alone.{nothing_between, own, step_leaves}
 use Rattle.facet_output.proofs.Among.{In, all_in, in_left, in_right}
 use Rattle.facet_output.proofs.Bringing.{opened_first}
 use Rattle.facet_output.proofs.Chain.{sees_self, sees_trans, sees_last}
-use Rattle.facet_output.proofs.Effects.{told_placed}
 use Rattle.facet_output.proofs.Exact.{filter_all}
 use Rattle.facet_output.proofs.Fresh.{if_some}
 use Rattle.facet_output.proofs.Fronts.{get_last, operation_of, map_prefix, take_prefix}
@@ -93,8 +92,8 @@ shelf_same labels labels' ops ops' shown pair shut l o = λ i. shelf_with (l i) 
 history_size : (operations : Entries Change) → length (map operation_of operations) ≡ length operations
 history_size operations = length-map operations operation_of
 
-one_more : (operations : Entries Change) (n : ℕ) (change : Change) → documents_in (operations ++ (n, change) ∷ []) ≡ with_change (documents_in operations) change
-one_more operations n change = ap docs (map-append operation_of operations ((n, change) ∷ [])) ∙ docs_more (map operation_of operations) (operation_of (n, change))
+one_more : (operations : Entries Change) (n : ℕ) (doc : Doc) → documents_in (operations ++ (n, histories.add doc) ∷ []) ≡ documents_in operations ++ doc ∷ []
+one_more operations n doc = ap docs (map-append operation_of operations ((n, histories.add doc) ∷ [])) ∙ docs_more (map operation_of operations) (operation_of (n, histories.add doc))
 
 -- the first operations leave the same documents when more come behind them
 first_docs : (ops more : Entries Change) (pair : ℕ × ℕ) → IsPrefix ops more → pair.0 ≤ length ops → docs_of (map operation_of more) pair ≡ docs_of (map operation_of ops) pair
@@ -149,12 +148,6 @@ among_all (q ∷ paths) label p there among = ⊎_elim
 pub all_known : (labels : List (List (List ℕ))) (doc : Doc) → knows (with_labels labels doc) doc ≡ true
 all_known labels doc = all_in (λ label. list_all (stands (with_labels labels doc)) (prefixes label)) doc.labels
     (λ label there. all_in (stands (with_labels labels doc)) (prefixes label) (λ p among. all_stand (flat_map prefixes doc.labels) labels p (among_all doc.labels label p there among)))
-
--- a change that was placed had all labels of its document
-told_resolved : (change : Change) (at : ℕ) (ds : List Doc) → is_resolved (told_of change at ds) ≡ true
-told_resolved (histories.add doc) at ds = refl
-told_resolved (histories.delete id) at ds = refl
-told_resolved (histories.replace doc) at ds = refl
 
 -- the reply on the shelf, and the next shelf
 record Goes (settings : Settings) (command : Command) (reply : Reply) (shelf : Shelf) (after : Seen) : Type 0 where
@@ -215,180 +208,127 @@ module _ (settings : Settings) (before after : Seen) (held : Held) (session : �
     closed_so = still_closed commits;
   }
 
-  -- ---- changes of the documents
+  -- ---- add
 
-  module _ (change : Change) (saw : Option ℕ) (reply : Reply) (commits : EntersNone session before.commits after.commits) (pairs : EntersNone session before.pairs after.pairs)
-      (fresh : IfSome (stood_in (changes change) saw (report reply)) (λ n. length before.operations ≤ n)) (enters : EntersOperation session (placed_in session (changes change) (report reply)) before.operations after.operations) where
-    enters_none : (said : Report) → report reply ≡ said → placed_in session (changes change) said ≡ None → EntersNone session before.operations after.operations
-    enters_none said e none = subst (λ (q : Option (ℕ × Operation)). EntersOperation session q before.operations after.operations) (ap (placed_in session (changes change)) e ∙ none) enters
+  module _ (doc : Doc) (saw : Option ℕ) (reply : Reply) (facts : (commits : EntersNone session before.commits after.commits) × EntersNone session before.pairs after.pairs)
+      (fresh : IfSome (stood_by (add doc) saw reply) (λ n. length before.operations ≤ n)) (enters : EntersOperation session (placed_by session (add doc) reply) before.operations after.operations) where
+    abbrev all : List (List (List ℕ))
+    all = with_labels (labels_of before) doc
 
-    -- the change was placed behind all operations
-    record IsNext (at : ℕ) : Type 0 where
-      place : at ≡ length before.operations
-      there : docs (take at (history_of after)) ≡ D
-      documents : documents_in after.operations ≡ with_change D change
-      longer : length after.operations ≡ length before.operations + 1
+    abbrev IsAnswer : Option Broken → Reply → Shelf → Type 0
+    IsAnswer o told next = ((told ≡ (words_answers.added settings S doc o).0) × (next ≡ (words_answers.added settings S doc o).1)) ⊎ ((told ≡ refused no_memory) × words_answers.LeavesSome settings S doc o next)
 
-    is_next : (at : ℕ) → report reply ≡ says_placed at → IsNext at
-    is_next at e =
-        let entered = subst (λ (q : Option (ℕ × Operation)). EntersOperation session q before.operations after.operations) (ap (placed_in session (changes change)) e) enters in
-        let between = entered.0 in
-        let same = operations_so between entered.1.0 ((session, change) ∷ [], sym entered.1.1) in
-        let grown : after.operations ≡ before.operations ++ (session, change) ∷ [] = entered.1.1 ∙ ap (λ (l : Entries Change). l ++ (session, change) ∷ []) (sym same) in
-        let at_end : at ≡ length before.operations = entered.2 ∙ ap length (sym same) in
+    record Answers (o : Option Broken) : Type 0 where
+      told : Reply
+      next : Shelf
+      same : told ≡ reply
+      answer : IsAnswer o told next
+      fits : Fits after next
+
+    enters_none : (reply' : Reply) → reply ≡ reply' → placed_by session (add doc) reply' ≡ None → EntersNone session before.operations after.operations
+    enters_none reply' e none = subst (λ (q : Option (ℕ × Operation)). EntersOperation session q before.operations after.operations) (ap (placed_by session (add doc)) e ∙ none) enters
+
+    knows_all : knows all doc ≡ true
+    knows_all = all_known (labels_of before) doc
+
+    abbrev fits_in : ℕ
+    fits_in = room settings (labels_of before)
+
+    -- no room for all the labels
+    no_labels : LeavesFirst settings (labels_of before) doc reply (labels_of after) → settings.max_labels ≤ length (labels_of after) → knows (labels_of after) doc ≡ false → reply ≡ refused (labels_full (length (labels_of after))) → Answers None
+    no_labels first enough lacks e =
+        let full : length (labels_of after) ≡ fits_in = first.full (subst (λ (q : Reply). IsTrue (says_full q)) (sym e) refl) in
+        let longer : fits_in < length all = ⊎_elim (λ lt. lt)
+        (λ le. let whole : labels_of after ≡ all = first.first ∙ take_all (length (labels_of after)) all (omega arith) in
+        absurd (both_ways (knows all doc) (subst (λ l. knows l doc ≡ false) whole lacks) knows_all)) (cases_lt fits_in (length all)) in
+        let test : nat_lt fits_in (length all) ≡ true = lt-ltb fits_in (length all) longer in
+        let cut : labels_of after ≡ take fits_in all = first.first ∙ ap (λ n. take n all) full in
         record {
-          place = at_end;
-          there = first_docs before.operations after.operations (at, 0) begins (omega arith) ∙ all_docs before.operations at (omega arith);
-          documents = ap documents_in grown ∙ one_more before.operations session change;
-          longer = ap length grown ∙ length-append before.operations ((session, change) ∷ []);
+          told = refused (labels_full (length (labels_of after)));
+          next = shelf_with (labels_of after) before.operations shown pair shut;
+          same = sym e;
+          answer = inl (rw test (ap (λ n. refused (labels_full n)) full, shelf_same (labels_of after) (take fits_in all) before.operations before.operations shown pair shut cut refl));
+          fits = fits_with (labels_of after) before.operations refl (no_operation (enters_none (refused (labels_full (length (labels_of after)))) e refl)) facts.1 facts.0;
         }
 
-    -- the reply and the shelf of a change that was placed, whose labels are these
-    told_so : (at : ℕ) → IsNext at → told_of change at (docs (take at (history_of after))) ≡ told_of change (length before.operations) D
-    told_so at last = λ i. told_of change (last.place i) (last.there i)
+    -- all the labels fit, and are there
+    fits_all : LeavesFirst settings (labels_of before) doc reply (labels_of after) → IsTrue (is_resolved reply) → (labels_of after ≡ all) × (nat_lt fits_in (length all) ≡ false)
+    fits_all first is =
+        let whole = first.whole is in
+        let size = ap length whole in
+        let high = first.high in (whole, le-ltb fits_in (length all) (omega arith))
 
-    shelf_so : (at : ℕ) (labels labels' : List (List (List ℕ))) → IsNext at → labels ≡ labels' → shelf_with labels after.operations shown pair shut ≡ words_answers.after_change S labels' change
-    shelf_so at labels labels' last same = parts_same labels labels' (documents_in after.operations) (with_change D change) (length after.operations) (length before.operations + 1) shown pair shut same last.documents last.longer
+    is_placed : LeavesFirst settings (labels_of before) doc reply (labels_of after) → (at : ℕ) → length (docs (take at (history_of after))) < settings.max_docs → reply ≡ placed at → Answers None
+    is_placed first at lt e =
+        let labels = fits_all first (subst (λ (q : Reply). IsTrue (is_resolved q)) (sym e) refl) in
+        let entered = subst (λ (q : Option (ℕ × Operation)). EntersOperation session q before.operations after.operations) (ap (placed_by session (add doc)) e) enters in
+        let between = entered.0 in
+        let same = operations_so between entered.1.0 ((session, histories.add doc) ∷ [], sym entered.1.1) in
+        let grown : after.operations ≡ before.operations ++ (session, histories.add doc) ∷ [] = entered.1.1 ∙ ap (λ (l : Entries Change). l ++ (session, histories.add doc) ∷ []) (sym same) in
+        let place : at ≡ length before.operations = entered.2 ∙ ap length (sym same) in
+        let there : docs (take at (history_of after)) ≡ D = first_docs before.operations after.operations (at, 0) begins (omega arith) ∙ all_docs before.operations at (omega arith) in
+        let left = ap length there in
+        let room_left : nat_le settings.max_docs (length D) ≡ false = lt-leb settings.max_docs (length D) (omega arith) in
+        let documents : documents_in after.operations ≡ D ++ doc ∷ [] = ap documents_in grown ∙ one_more before.operations session doc in
+        let longer : length after.operations ≡ length before.operations + 1 = ap length grown ∙ length-append before.operations ((session, histories.add doc) ∷ []) in
+        let test = labels.1 in
+        record {
+          told = placed at;
+          next = shelf_with (labels_of after) after.operations shown pair shut;
+          same = sym e;
+          answer = inl (rw (test, room_left) (ap placed place, parts_same (labels_of after) all (documents_in after.operations) (D ++ doc ∷ []) (length after.operations) (length before.operations + 1) shown pair shut labels.0 documents longer));
+          fits = fits_with (labels_of after) after.operations refl refl facts.1 facts.0;
+        }
 
-    -- ---- one that adds a document
+    no_documents : LeavesFirst settings (labels_of before) doc reply (labels_of after) → (n : ℕ) → saw ≡ Some n → settings.max_docs ≤ length (docs (take n (history_of after))) → reply ≡ refused (docs_full (length (docs (take n (history_of after))))) → Answers None
+    no_documents first n known full e =
+        let labels = fits_all first (subst (λ (q : Reply). IsTrue (is_resolved q)) (sym e) refl) in
+        let size = length (docs (take n (history_of after))) in
+        let none = enters_none (refused (docs_full size)) e refl in
+        let low : length before.operations ≤ n = subst (λ (q : Option ℕ). IfSome q (λ n. length before.operations ≤ n)) (ap (stood_by (add doc) saw) e ∙ known) fresh in
+        let same = ap length (no_operation none) in
+        let count : size ≡ length D = ap length (all_docs after.operations n (omega arith)) ∙ ap (λ (ops : Entries Change). length (documents_in ops)) (sym (no_operation none)) in
+        let test = labels.1 in
+        let none_left : nat_le settings.max_docs (length D) ≡ true = le-leb settings.max_docs (length D) (omega arith) in
+        record {
+          told = refused (docs_full size);
+          next = shelf_with (labels_of after) before.operations shown pair shut;
+          same = sym e;
+          answer = inl (rw (test, none_left) (ap (λ k. refused (docs_full k)) count, shelf_same (labels_of after) all before.operations before.operations shown pair shut labels.0 refl));
+          fits = fits_with (labels_of after) before.operations refl (no_operation none) facts.1 facts.0;
+        }
 
-    module _ (doc : Doc) where
-      abbrev all : List (List (List ℕ))
-      all = with_labels (labels_of before) doc
+    lacks_memory : LeavesFirst settings (labels_of before) doc reply (labels_of after) → reply ≡ refused no_memory → Answers None
+    lacks_memory first e = record {
+      told = refused no_memory;
+      next = shelf_with (labels_of after) before.operations shown pair shut;
+      same = sym e;
+      answer = inr (refl, (length (labels_of after), first.low, first.high, shelf_same (labels_of after) (take (length (labels_of after)) all) before.operations before.operations shown pair shut first.first refl));
+      fits = fits_with (labels_of after) before.operations refl (no_operation (enters_none (refused no_memory) e refl)) facts.1 facts.0;
+    }
 
-      abbrev IsAnswer : Option Broken → Reply → Shelf → Type 0
-      IsAnswer o told next = ((told ≡ (words_answers.added settings S change doc o).0) × (next ≡ (words_answers.added settings S change doc o).1)) ⊎ ((told ≡ refused no_memory) × words_answers.LeavesSome settings S doc o next)
+    stays_so : (r : Reply) (o : Option Broken) → reply ≡ r → placed_by session (add doc) r ≡ None → labels_of after ≡ labels_of before → IsAnswer o r S → Answers o
+    stays_so r o e none labels answer = record {
+      told = r;
+      next = S;
+      same = sym e;
+      answer = answer;
+      fits = fits_with (labels_of before) before.operations (sym labels) (no_operation (enters_none r e none)) facts.1 facts.0;
+    }
 
-      record Answers (o : Option Broken) : Type 0 where
-        told : Reply
-        next : Shelf
-        same : told ≡ reply
-        answer : IsAnswer o told next
-        fits : Fits after next
+    resolved : LeavesFirst settings (labels_of before) doc reply (labels_of after) → (b : Bool) → knows (labels_of after) doc ≡ b → IsResolved settings (labels_of after) (history_of after) session (histories.add doc) saw b reply → Answers None
+    resolved first false e r = no_labels first r.0 e r.1
+    resolved first true e r = ⊎_elim (λ p. is_placed first p.0 p.2 p.3) (λ n. no_documents first n.0 n.1 n.3 n.4) r
 
-      knows_all : knows all doc ≡ true
-      knows_all = all_known (labels_of before) doc
+    added : (o : Option Broken) → AddLeaves settings (labels_of before) doc o reply (labels_of after) → IsAdded settings (labels_of after) (history_of after) session (histories.add doc) saw doc o reply ⊎ (IsTrue true × (reply ≡ refused no_memory)) → Answers o
+    added (Some b) leaves right = ⊎_elim
+        (λ r. stays_so (refused (broken b)) (Some b) r refl leaves (inl (refl, refl)))
+        (λ lacks. stays_so (refused no_memory) (Some b) lacks.1 refl leaves (inr (refl, refl))) right
+    added None leaves right = ⊎_elim (resolved leaves (knows (labels_of after) doc) refl) (λ lacks. lacks_memory leaves lacks.1) right
 
-      abbrev fits_in : ℕ
-      fits_in = room settings (labels_of before)
-
-      -- no room for all the labels
-      no_labels : LeavesFirst settings (labels_of before) doc reply (labels_of after) → settings.max_labels ≤ length (labels_of after) → knows (labels_of after) doc ≡ false → reply ≡ refused (labels_full (length (labels_of after))) → Answers None
-      no_labels first enough lacks e =
-          let full : length (labels_of after) ≡ fits_in = first.full (subst (λ (q : Reply). IsTrue (says_full q)) (sym e) refl) in
-          let longer : fits_in < length all = ⊎_elim (λ lt. lt)
-          (λ le. let whole : labels_of after ≡ all = first.first ∙ take_all (length (labels_of after)) all (omega arith) in
-          absurd (both_ways (knows all doc) (subst (λ l. knows l doc ≡ false) whole lacks) knows_all)) (cases_lt fits_in (length all)) in
-          let test : nat_lt fits_in (length all) ≡ true = lt-ltb fits_in (length all) longer in
-          let cut : labels_of after ≡ take fits_in all = first.first ∙ ap (λ n. take n all) full in
-          record {
-            told = refused (labels_full (length (labels_of after)));
-            next = shelf_with (labels_of after) before.operations shown pair shut;
-            same = sym e;
-            answer = inl (rw test (ap (λ n. refused (labels_full n)) full, shelf_same (labels_of after) (take fits_in all) before.operations before.operations shown pair shut cut refl));
-            fits = fits_with (labels_of after) before.operations refl (no_operation (enters_none _ (ap report e) refl)) pairs commits;
-          }
-
-      -- all the labels fit, and are there
-      fits_all : LeavesFirst settings (labels_of before) doc reply (labels_of after) → IsTrue (is_resolved reply) → (labels_of after ≡ all) × (nat_lt fits_in (length all) ≡ false)
-      fits_all first is =
-          let whole = first.whole is in
-          let size = ap length whole in
-          let high = first.high in (whole, le-ltb fits_in (length all) (omega arith))
-
-      is_placed : LeavesFirst settings (labels_of before) doc reply (labels_of after) → (at : ℕ) → length (left_by change (docs (take at (history_of after)))) < settings.max_docs → reply ≡ told_of change at (docs (take at (history_of after))) → Answers None
-      is_placed first at lt e =
-          let ds = docs (take at (history_of after)) in
-          let labels = fits_all first (subst (λ (q : Reply). IsTrue (is_resolved q)) (sym e) (told_resolved change at ds)) in
-          let last = is_next at (told_placed reply change at ds e) in
-          let left = ap (λ (ds : List Doc). length (left_by change ds)) last.there in
-          let room_left : nat_le settings.max_docs (length (left_by change D)) ≡ false = lt-leb settings.max_docs (length (left_by change D)) (omega arith) in
-          let test = labels.1 in
-          record {
-            told = told_of change at ds;
-            next = shelf_with (labels_of after) after.operations shown pair shut;
-            same = sym e;
-            answer = inl (rw (test, room_left) (told_so at last, shelf_so at (labels_of after) all last labels.0));
-            fits = fits_with (labels_of after) after.operations refl refl pairs commits;
-          }
-
-      no_documents : LeavesFirst settings (labels_of before) doc reply (labels_of after) → (n : ℕ) → saw ≡ Some n → settings.max_docs ≤ length (left_by change (docs (take n (history_of after))))
-          → reply ≡ refused (docs_full (length (left_by change (docs (take n (history_of after)))))) → Answers None
-      no_documents first n known full e =
-          let labels = fits_all first (subst (λ (q : Reply). IsTrue (is_resolved q)) (sym e) refl) in
-          let size = length (left_by change (docs (take n (history_of after)))) in
-          let none = enters_none _ (ap report e) refl in
-          let low : length before.operations ≤ n = subst (λ (q : Option ℕ). IfSome q (λ n. length before.operations ≤ n)) (ap (λ (q : Reply). stood_in (changes change) saw (report q)) e ∙ known) fresh in
-          let same = ap length (no_operation none) in
-          let count : size ≡ length (left_by change D) = ap (λ (ds : List Doc). length (left_by change ds)) (all_docs after.operations n (omega arith) ∙ ap documents_in (sym (no_operation none))) in
-          let test = labels.1 in
-          let none_left : nat_le settings.max_docs (length (left_by change D)) ≡ true = le-leb settings.max_docs (length (left_by change D)) (omega arith) in
-          record {
-            told = refused (docs_full size);
-            next = shelf_with (labels_of after) before.operations shown pair shut;
-            same = sym e;
-            answer = inl (rw (test, none_left) (ap (λ k. refused (docs_full k)) count, shelf_same (labels_of after) all before.operations before.operations shown pair shut labels.0 refl));
-            fits = fits_with (labels_of after) before.operations refl (no_operation none) pairs commits;
-          }
-
-      lacks_memory : LeavesFirst settings (labels_of before) doc reply (labels_of after) → reply ≡ refused no_memory → Answers None
-      lacks_memory first e = record {
-        told = refused no_memory;
-        next = shelf_with (labels_of after) before.operations shown pair shut;
-        same = sym e;
-        answer = inr (refl, (length (labels_of after), first.low, first.high, shelf_same (labels_of after) (take (length (labels_of after)) all) before.operations before.operations shown pair shut first.first refl));
-        fits = fits_with (labels_of after) before.operations refl (no_operation (enters_none _ (ap report e) refl)) pairs commits;
-      }
-
-      stays_so : (r : Reply) (o : Option Broken) → reply ≡ r → placed_in session (changes change) (report r) ≡ None → labels_of after ≡ labels_of before → IsAnswer o r S → Answers o
-      stays_so r o e none labels answer = record {
-        told = r;
-        next = S;
-        same = sym e;
-        answer = answer;
-        fits = fits_with (labels_of before) before.operations (sym labels) (no_operation (enters_none _ (ap report e) none)) pairs commits;
-      }
-
-      resolved : LeavesFirst settings (labels_of before) doc reply (labels_of after) → (b : Bool) → knows (labels_of after) doc ≡ b → IsResolved settings (labels_of after) (history_of after) session change saw b reply → Answers None
-      resolved first false e r = no_labels first r.0 e r.1
-      resolved first true e r = ⊎_elim (λ p. is_placed first p.0 p.2 p.3) (λ n. no_documents first n.0 n.1 n.3 n.4) r
-
-      added : (o : Option Broken) → AddLeaves settings (labels_of before) doc o reply (labels_of after) → IsAdded settings (labels_of after) (history_of after) session change saw doc o reply ⊎ (IsTrue true × (reply ≡ refused no_memory)) → Answers o
-      added (Some b) leaves right = ⊎_elim
-          (λ r. stays_so (refused (broken b)) (Some b) r refl leaves (inl (refl, refl)))
-          (λ lacks. stays_so (refused no_memory) (Some b) lacks.1 refl leaves (inr (refl, refl))) right
-      added None leaves right = ⊎_elim (resolved leaves (knows (labels_of after) doc) refl) (λ lacks. lacks_memory leaves lacks.1) right
-
-  -- a command that adds a document or replaces one
-  added_goes : (c : Command) (change : Change) (doc : Doc) (saw : Option ℕ) (reply : Reply) (commits : EntersNone session before.commits after.commits) (pairs : EntersNone session before.pairs after.pairs)
-      (fresh : IfSome (stood_in (changes change) saw (report reply)) (λ n. length before.operations ≤ n)) (enters : EntersOperation session (placed_in session (changes change) (report reply)) before.operations after.operations)
-      → AddLeaves settings (labels_of before) doc (first_broken settings.config doc) reply (labels_of after)
-      → IsAdded settings (labels_of after) (history_of after) session change saw doc (first_broken settings.config doc) reply ⊎ (IsTrue true × (reply ≡ refused no_memory))
-      → ((told : Reply) (next : Shelf) → (words_answers.IsAdded settings S change doc told next ⊎ ((told ≡ refused no_memory) × words_answers.LeavesSome settings S doc (first_broken settings.config doc) next)) → words_answers.RightReply settings S c told next)
-      → Goes settings c reply S after
-  added_goes c change doc saw reply commits pairs fresh enters leaves right so =
-      let a = added change saw reply commits pairs fresh enters doc (first_broken settings.config doc) leaves right in
-      record { told = a.told; next = a.next; same = a.same; right = so a.told a.next a.answer; fits = a.fits }
-
-  deleted_goes : (id : List ℕ) (took : Option (ℕ × ℕ)) (saw : Option ℕ) (reply : Reply) → Facts settings before after held session (changes (histories.delete id)) (delete id) took saw reply → Goes settings (delete id) reply S after
-  deleted_goes id took saw reply f = ⊎_elim placed_so lacks f.right
-    where
-      placed_so : IsChanged settings (labels_of after) (history_of after) session (histories.delete id) saw None reply → Goes settings (delete id) reply S after
-      placed_so r =
-          let ds = docs (take r.0 (history_of after)) in
-          let last = is_next (histories.delete id) saw reply f.commits f.pairs f.fresh f.operations r.0 (told_placed reply (histories.delete id) r.0 ds r.2) in
-          record {
-            told = told_of (histories.delete id) r.0 ds;
-            next = shelf_with (labels_of before) after.operations shown pair shut;
-            same = sym r.2;
-            right = inl (told_so (histories.delete id) saw reply f.commits f.pairs f.fresh f.operations r.0 last, shelf_so (histories.delete id) saw reply f.commits f.pairs f.fresh f.operations r.0 (labels_of before) (labels_of before) last refl);
-            fits = fits_with (labels_of before) after.operations (sym f.leaves) refl f.pairs f.commits;
-          }
-
-      lacks : IsTrue true × (reply ≡ refused no_memory) → Goes settings (delete id) reply S after
-      lacks l =
-          let none = enters_none (histories.delete id) saw reply f.commits f.pairs f.fresh f.operations _ (ap report l.1) refl in
-          record { told = refused no_memory; next = S; same = sym l.1; right = inr (refl, refl); fits = fits_with (labels_of before) before.operations (sym f.leaves) (no_operation none) f.pairs f.commits }
+    add_goes : AddLeaves settings (labels_of before) doc (first_broken settings.config doc) reply (labels_of after)
+        → IsAdded settings (labels_of after) (history_of after) session (histories.add doc) saw doc (first_broken settings.config doc) reply ⊎ (IsTrue true × (reply ≡ refused no_memory)) → Goes settings (add doc) reply S after
+    add_goes leaves right = let a = added (first_broken settings.config doc) leaves right in record { told = a.told; next = a.next; same = a.same; right = a.answer; fits = a.fits }
 
   -- ---- what enters nothing
 
@@ -587,9 +527,7 @@ module _ (settings : Settings) (before after : Seen) (held : Held) (session : �
   -- ---- each command
 
   goes : (c : Command) → names_no_pair c ≡ true → (took : Option (ℕ × ℕ)) (saw : Option ℕ) (reply : Reply) → Facts settings before after held session (effect c) c took saw reply → Goes settings c reply S after
-  goes (add doc) none took saw reply f = added_goes (add doc) (histories.add doc) doc saw reply f.commits f.pairs f.fresh f.operations f.leaves f.right (λ told next a. a)
-  goes (delete id) none took saw reply f = deleted_goes id took saw reply f
-  goes (replace doc) none took saw reply f = added_goes (replace doc) (histories.replace doc) doc saw reply f.commits f.pairs f.fresh f.operations f.leaves f.right (λ told next a. a)
+  goes (add doc) none took saw reply f = add_goes doc saw reply (f.commits, f.pairs) f.fresh f.operations f.leaves f.right
   goes refresh none took saw reply f = refresh_goes took saw reply f
   goes (hold name) none took saw reply f = absurd (both_ways false refl none)
   goes (release name) none took saw reply f = absurd (both_ways false refl none)

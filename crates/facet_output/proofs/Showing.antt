@@ -5,14 +5,13 @@ use Rattle.std.proofs.lemmas.List.{length-map}
 use Rattle.facet_model.specs.Accepts.{Broken, first_broken}
 use Rattle.facet_model.specs.Documents.{Doc}
 use Rattle.facet_model.specs.Histories.{Change, Operation, doc_of, knows}
-use Rattle.facet_words.specs.Answers.{told_of}
 use Rattle.facet_words.specs.Commands.{Settings, Command}
 use Rattle.facet_output.specs.Effects.{Effect, changes, publishes, holds, releases, persists, merges, looks, effect}
-use Rattle.facet_replies.specs.Replies.{Reply, refused, docs_full}
+use Rattle.facet_replies.specs.Replies.{Reply, placed, refused, docs_full}
 use Rattle.facet_output.specs.Held.{Held, held_under}
 use Rattle.facet_output.specs.Replying.{IsChanged, IsAdded, IsResolved, IsOf, IsLooked, IsHold, IsRelease, IsRightBy, IsCommitted, Counts, IsOperation, pair_seen}
-use Rattle.facet_output.specs.Reported.{shown_in, shows}
-use Rattle.facet_output.proofs.Effects.{shown_by, told_placed}
+use Rattle.facet_output.specs.Reported.{shows}
+use Rattle.facet_output.proofs.Effects.{shown_by}
 use Rattle.facet_output.specs.Seen.{labels_of, history_of}
 use Rattle.facet_output.specs.Steps.{Step, IsStep}
 use Rattle.facet_output.proofs.Fronts.{get_below}
@@ -26,8 +25,8 @@ module _ (settings : Settings) (labels : List (List (List ℕ))) (history : List
   counted c = let e = ap (shown_by saw) c.2 in omega (arith, c.1)
 
   -- a change that was placed shows itself and what is before it
-  in_place : (change : Change) (at : ℕ) (ds : List Doc) → IsOperation history session change at → reply ≡ told_of change at ds → shown_by saw reply ≤ length history
-  in_place change at ds is told = let e = ap (shown_in saw) (told_placed reply change at ds told) in let l = get_below history at (record { session = session; change = change }) is in omega arith
+  in_place : (change : Change) (at : ℕ) → IsOperation history session change at → reply ≡ placed at → shown_by saw reply ≤ length history
+  in_place change at is told = let e = ap (shown_by saw) told in let l = get_below history at (record { session = session; change = change }) is in omega arith
 
   -- one that was refused for documents shows what it saw
   full : (n size : ℕ) → saw ≡ Some n → n ≤ length history → reply ≡ refused (docs_full size) → shown_by saw reply ≤ length history
@@ -35,14 +34,14 @@ module _ (settings : Settings) (labels : List (List (List ℕ))) (history : List
 
   resolved : (change : Change) (b : Bool) → IsResolved settings labels history session change saw b reply → shown_by saw reply ≤ length history
   resolved change false r = let e = ap (shown_by saw) r.1 in omega arith
-  resolved change true r = ⊎_elim (λ p. in_place change p.0 _ p.1 p.3) (λ n. full n.0 _ n.1 n.2 n.4) r
+  resolved change true r = ⊎_elim (λ p. in_place change p.0 p.1 p.3) (λ n. full n.0 _ n.1 n.2 n.4) r
 
   added : (change : Change) (doc : Doc) (o : Option Broken) → IsAdded settings labels history session change saw doc o reply → shown_by saw reply ≤ length history
   added change doc (Some b) r = let e = ap (shown_by saw) r in omega arith
   added change doc None r = resolved change (knows labels doc) r
 
   changed : (change : Change) (d : Option Doc) → IsChanged settings labels history session change saw d reply → shown_by saw reply ≤ length history
-  changed change None r = in_place change r.0 _ r.1 r.2
+  changed change None r = in_place change r.0 r.1 r.2
   changed change (Some doc) r = added change doc (first_broken settings.config doc) r
 
   look_shows : (command : Command) (o : Option (ℕ × ℕ)) (on : Option (List ℕ)) → ((pair : ℕ × ℕ) → o ≡ Some pair → pair.0 ≤ length history) → IsOf (λ pair r. IsLooked settings labels history command pair r) o on reply → shown_by saw reply ≤ length history

@@ -2,11 +2,11 @@
 use Rattle.std.specs.Prelude.{ℕ, List, Option, Some, None}
 use Rattle.facet_model.specs.Histories as histories
 use Rattle.facet_model.specs.Histories.{Change}
-use Rattle.facet_words.specs.Commands.{Command, add, delete, replace, refresh, hold, release, search, ranges, sums}
-use Rattle.facet_words.specs.Commands.{document, stats, commit, merge}
+use Rattle.facet_words.specs.Commands.{Command, add, refresh, hold, release, search, ranges, sums, document, stats}
+use Rattle.facet_words.specs.Commands.{commit, merge}
 use Rattle.facet_replies.specs.Replies.{Refusal, labels_full, docs_full, disk_failed, closed, numbers_spent, no_memory}
-use Rattle.facet_replies.specs.Replies.{Reply, placed, changed, numbered, found, shown, stats as numbers, ranged, summed}
-use Rattle.facet_replies.specs.Replies.{merged, refused}
+use Rattle.facet_replies.specs.Replies.{Reply, placed, numbered, found, shown, stats as numbers, ranged, summed, merged}
+use Rattle.facet_replies.specs.Replies.{refused}
 
 -- A command changes the documents, publishes a pair, holds a pair under a name or releases it, makes operations
 -- durable, merges segments, or looks at a pair. It looks at the pair that is held under the name, or without a name at
@@ -22,8 +22,6 @@ pub data Effect : Type 0 where
 
 abbrev pub effect : Command → Effect
 effect (add doc) = changes (histories.add doc)
-effect (delete id) = changes (histories.delete id)
-effect (replace doc) = changes (histories.replace doc)
 effect refresh = publishes
 effect (hold name) = holds name
 effect (release name) = releases name
@@ -67,7 +65,6 @@ reason _ = for_other
 
 abbrev pub report : Reply → Report
 report (placed at) = says_placed at
-report (changed at deleted) = says_placed at
 report (numbered n) = says_number n
 report (found f) = says_pair f.operations None
 report (ranged r) = says_pair r.operations None

@@ -7,7 +7,7 @@ use Rattle.facet_model.specs.Documents.{Doc}
 use Rattle.facet_model.specs.Histories.{Operation, doc_of}
 use Rattle.facet_words.specs.Answers.{with_labels}
 use Rattle.facet_words.specs.Commands.{Settings, Command, Order}
-use Rattle.facet_replies.specs.Replies.{Reply, placed, changed, refused, docs_full}
+use Rattle.facet_replies.specs.Replies.{Reply, placed, refused, docs_full}
 use Rattle.facet_output.specs.Seen.{Seen, labels_of}
 use Rattle.facet_output.specs.Steps.{Step}
 use Rattle.facet_output.specs.Answered.{Answered, is_of}
@@ -59,7 +59,6 @@ room settings labels = max settings.max_labels (length labels)
 -- all labels of the document were there
 abbrev pub is_resolved : Reply → Bool
 is_resolved (placed at) = true
-is_resolved (changed at deleted) = true
 is_resolved (refused (docs_full n)) = true
 is_resolved _ = false
 

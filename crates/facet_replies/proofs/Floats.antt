@@ -13,7 +13,7 @@ use Rattle.serde_json.specs.Written.{has_float, items_have_float, members_have_f
 use Rattle.facet_model.specs.Listing.{PartCount}
 use Rattle.facet_model.specs.Results.{Listed, Answer, top_answer, value_answer, dims_answer}
 use Rattle.facet_model.specs.Accepts.{no_component, not_hierarchical, not_multi_valued}
-use Rattle.facet_replies.specs.Replies.{Content, Hit, broken, labels_full, docs_full, not_held, held_already, top_zero, dim_value_not_kept, no_such_document, disk_failed, closed, numbers_spent, no_memory, Reply, placed, changed, numbered, found, shown, stats, ranged, summed, merged, refused}
+use Rattle.facet_replies.specs.Replies.{Content, Hit, broken, labels_full, docs_full, not_held, held_already, top_zero, dim_value_not_kept, no_such_document, disk_failed, closed, numbers_spent, no_memory, Reply, placed, numbered, found, shown, stats, ranged, summed, merged, refused}
 use Rattle.facet_replies.specs.ReplyLines.{with_fields, whole_data, path_data, child_data, listed_data, value_data, dims_data, answer_data, hit_data, range_data, sum_data, reply_data}
 use Rattle.facet_replies.specs.LastLine.{label_data, last_data}
 use Rattle.facet_replies.specs.NamedFaults.{detail_field, named_fault_data}
@@ -85,7 +85,6 @@ sums_plain (s ∷ ss) = rw (integer_plain s.1) (sums_plain ss)
 pub reply_plain : (session line : ℕ) (reply : Reply) → has_float (reply_data session line reply) ≡ false
 unfolding reply_data
 reply_plain session line (placed at) = refl
-reply_plain session line (changed at deleted) = refl
 reply_plain session line (numbered n) = refl
 reply_plain session line (found f) = rw (hits_plain f.hits, answers_plain f.answers) refl
 reply_plain session line (shown s) = rw (paths_plain s.doc.labels, wholes_plain s.ordinals) refl

@@ -1,14 +1,10 @@
--- The lines of four replies.
+-- The lines of three replies.
 use Rattle.std.proofs.Common.{◌≡◌, ◌++◌, [], ◌∷◌, pos, negsuc, refl}
 use Rattle.std.specs.Prelude.{codes, Some, None}
 use Rattle.std.specs.Fmt.{digits}
 use Rattle.serde_json.proofs.OnLiterals.{serde_json_on_literals}
-use Rattle.facet_replies.specs.Replies.{changed, found, ranged, summed}
+use Rattle.facet_replies.specs.Replies.{found, ranged, summed}
 use Rattle.facet_replies.specs.ReplyLines.{hit_data, json_line, reply_data, reply_line}
-
-changed_line : reply_line 1 6 (changed 2 1) ≡ codes "{\"at\":2,\"deleted\":1,\"line\":6,\"s\":1}" ++ 10 ∷ []
-unfolding reply_line reply_data json_line digits serde_json_on_literals
-changed_line = refl
 
 found_line : reply_line 1 6 (found (record {
   operations = 2;

@@ -66,10 +66,8 @@ pub record Summed : Type 0 where
   pub operations : ℕ
   pub sums : List (List ℕ × ℤ)
 
--- An add is placed. A delete and a replace are at a place, and say how many documents they took out.
 pub data Reply : Type 0 where
   placed : ℕ → Reply
-  changed : ℕ → ℕ → Reply
   numbered : ℕ → Reply
   found : Found → Reply
   shown : Shown → Reply

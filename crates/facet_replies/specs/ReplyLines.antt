@@ -12,8 +12,8 @@ use Rattle.facet_model.specs.Results.{Listed, Answer, top_answer, value_answer, 
 use Rattle.facet_replies.specs.Replies.{Content, Hit}
 use Rattle.facet_replies.specs.Replies.{Refusal, broken, labels_full, docs_full, not_held, held_already, top_zero}
 use Rattle.facet_replies.specs.Replies.{dim_value_not_kept, no_such_document, disk_failed, closed, numbers_spent}
-use Rattle.facet_replies.specs.Replies.{no_memory, Reply, placed, changed, numbered, found, shown, stats, ranged}
-use Rattle.facet_replies.specs.Replies.{summed, merged, refused}
+use Rattle.facet_replies.specs.Replies.{no_memory, Reply, placed, numbered, found, shown, stats, ranged, summed}
+use Rattle.facet_replies.specs.Replies.{merged, refused}
 
 -- keys with their values, in any order
 abbrev pub Fields : Type 0
@@ -118,7 +118,6 @@ document_fields doc ordinals = (codes "id", string doc.id) ∷ (codes "text", st
 -- the fields of a reply, except its line and its session
 abbrev pub reply_fields : Reply → Fields
 reply_fields (placed at) = (codes "at", whole_data at) ∷ []
-reply_fields (changed at deleted) = (codes "at", whole_data at) ∷ (codes "deleted", whole_data deleted) ∷ []
 reply_fields (numbered n) = (codes "n", whole_data n) ∷ []
 reply_fields (found f) = (codes "n", whole_data f.operations) ∷ (codes "hit_count", whole_data f.hit_count)
     ∷ (codes "hits", list_data hit_data f.hits) ∷ (codes "results", list_data answer_data f.answers) ∷ []

@@ -40,7 +40,6 @@ refusal_view refusals.NoMemory = plain.no_memory
 
 abbrev pub reply_view : Reply → plain.Reply
 reply_view (replies.Placed at) = plain.placed at
-reply_view (replies.Changed at deleted) = plain.changed at deleted
 reply_view (replies.Number n) = plain.numbered n
 reply_view (replies.Found n hit_count hits results) = plain.found
     (record {

@@ -67,29 +67,24 @@ pub enum Refusal {
 /// The reply to a command.
 #[derive(Debug, Drop)]
 pub enum Reply {
-    /// To an add: the operation's place in the history, from 0.
+    /// To an add: the document's place in the history, from 0.
     Placed {
         at: u64,
     },
-    /// To a delete or a replace: the operation's place in the history, from 0, and how many documents it took out.
-    Changed {
-        at: u64,
-        deleted: u32,
-    },
-    /// To a refresh: the number of operations that searches see from now on. To a commit: the number of operations that
-    /// are durable. To a hold or a release: the number of operations of the pair.
+    /// To a refresh: the number of documents that searches see from now on. To a commit: the number of documents that
+    /// are durable. To a hold or a release: the number of documents of the pair.
     Number {
         n: u64,
     },
-    /// To a search: how many operations the pair has, how many of its documents matched, the first of these in order,
-    /// and one answer per ask.
+    /// To a search: the number of documents that it searched, how many matched, the first of these in order, and one
+    /// answer per ask.
     Found {
         n: u64,
         hit_count: u64,
         hits: Vec<HitLine>,
         results: Vec<FacetAnswer>,
     },
-    /// To a document: how many operations the pair has, the place, and the document there with the ordinals of its
+    /// To a document: the number of documents of the pair, the place, and the document there with the ordinals of its
     /// labels, in order.
     Shown {
         n: u64,

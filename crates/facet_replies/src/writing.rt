@@ -3,7 +3,7 @@ ghost use Rattle.serde_json.specs.View.{view, members_view};
 ghost use Rattle.serde_json.specs.Written.{has_float};
 ghost use Rattle.facet_model.specs.ResultViews.{answer_view};
 ghost use Rattle.number_facets.specs.SumViews.{sum_view};
-ghost use Rattle.facet_replies.specs.Replies.{placed, changed, found, shown, stats, ranged, summed};
+ghost use Rattle.facet_replies.specs.Replies.{placed, found, shown, stats, ranged, summed};
 ghost use Rattle.facet_replies.specs.ReplyLines.{with_fields, whole_data, list_data, content_fields, hit_data};
 ghost use Rattle.facet_replies.specs.ReplyLines.{document_fields, range_data, sum_data};
 ghost use Rattle.facet_replies.specs.ReplyLines.{reply_fields as fields_of_reply, reply_data, json_line, reply_line};
@@ -134,19 +134,6 @@ fn put_shown(
     put_document(alloc, fields, doc, ordinals)
 }
 
-fn put_changed(
-    alloc: Global,
-    fields: &mut Map<String, Value>,
-    at: u64,
-    deleted: u32,
-) -> Result<(), AllocError>
-    ensures { OnOk result (members_view fields.new.entries
-        ≡ with_fields (members_view fields.old.entries) (fields_of_reply (changed at deleted))) }
-{
-    put(fields, alloc, "at", Value::from(at))?;
-    put(fields, alloc, "deleted", Value::from(deleted))
-}
-
 fn put_stats(
     alloc: Global,
     fields: &mut Map<String, Value>,
@@ -255,7 +242,6 @@ fn put_reply(alloc: Global, fields: &mut Map<String, Value>, reply: &Reply) -> R
 {
     match reply {
         Reply::Placed { at } => Ok(put(fields, alloc, "at", Value::from(*at))?),
-        Reply::Changed { at, deleted } => Ok(put_changed(alloc, fields, *at, *deleted)?),
         Reply::Number { n } => Ok(put(fields, alloc, "n", Value::from(*n))?),
         Reply::Found {
             n,
@@ -302,8 +288,8 @@ pub(crate) fn to_line(alloc: Global, value: &Value) -> Result<String, NoMemory>
     Ok(text)
 }
 
-// Returns the line of an added document's place. There is one for each document, so it is written directly, without a
-// JSON value.
+// Returns the line of a document's place. There is one for each document, so it is written directly, without a JSON
+// value.
 #[tactic(auto, unfolding(crate::specs::ReplyLines::json_line, crate::specs::ReplyLines::reply_data))]
 fn placed_line(alloc: Global, session: u32, line: u64, at: u64) -> Result<String, NoMemory>
     ensures { IfOk result (λ s. string_bytes s ≡ json_line (reply_data session line (placed at))) }
@@ -313,43 +299,15 @@ fn placed_line(alloc: Global, session: u32, line: u64, at: u64) -> Result<String
     Ok(text)
 }
 
-// Returns the line of a delete's or a replace's place, in the same way.
-#[tactic(auto, unfolding(crate::specs::ReplyLines::json_line, crate::specs::ReplyLines::reply_data))]
-fn changed_line(
-    alloc: Global,
-    session: u32,
-    line: u64,
-    at: u64,
-    deleted: u32,
-) -> Result<String, NoMemory>
-    ensures { IfOk result (λ s. string_bytes s ≡ json_line (reply_data session line (changed at deleted))) }
-{
-    let mut text = String::with_capacity(alloc, 96)?;
-    write!(
-        text,
-        "{{\"at\":{at},\"deleted\":{deleted},\"line\":{line},\"s\":{session}}}\n"
-    )?;
-    Ok(text)
-}
-
-// Returns the line of a reply by its JSON value.
-#[tactic(auto, unfolding(crate::specs::ReplyLines::reply_line))]
-fn valued_line(alloc: Global, session: u32, line: u64, reply: &Reply) -> Result<String, NoMemory>
-    ensures { IfOk result (λ s. string_bytes s ≡ reply_line session line (reply_view reply.now)) }
-{
-    let value = reply_value(alloc, session, line, reply)?;
-    to_line(alloc, &value)
-}
-
 #[tactic(auto, unfolding(crate::specs::ReplyLines::reply_line))]
 fn reply_text(alloc: Global, session: u32, line: u64, reply: &Reply) -> Result<String, NoMemory>
     ensures { IfOk result (λ s. string_bytes s ≡ reply_line session line (reply_view reply.now)) }
 {
-    match reply {
-        Reply::Placed { at } => placed_line(alloc, session, line, *at),
-        Reply::Changed { at, deleted } => changed_line(alloc, session, line, *at, *deleted),
-        _ => valued_line(alloc, session, line, reply),
+    if let Reply::Placed { at } = reply {
+        return placed_line(alloc, session, line, *at);
     }
+    let value = reply_value(alloc, session, line, reply)?;
+    to_line(alloc, &value)
 }
 
 /// Appends the line of a reply: compact JSON with its keys in byte order, and a line feed.

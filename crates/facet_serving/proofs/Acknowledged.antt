@@ -30,7 +30,7 @@ use Rattle.facet_words.specs.ScriptOrder.{orders_in}
 use Rattle.pair_manager.specs.declared.point.CommitPoint.{CommitPoint}
 use Rattle.store_opening.specs.Files.{greatest_number}
 use Rattle.store_opening.specs.Newest.{next_after}
-use Rattle.facet_serving.proofs.Changes.{right_of, shown_before, stands_there}
+use Rattle.facet_serving.proofs.Adds.{right_of, shown_before, stands_there}
 use Rattle.facet_serving.proofs.Commits.{failed_before}
 use Rattle.facet_serving.proofs.Counted.{written_few}
 use Rattle.facet_serving.specs.Acknowledged.{AcknowledgedStays, AcknowledgedSurvives, CommitsAreAcknowledged, HasChange, HeldSince, Holds, IsAcknowledged, IsHeld, IsHeldSince}

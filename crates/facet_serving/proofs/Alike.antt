@@ -20,7 +20,6 @@ use Rattle.facet_model.specs.Results.{Answer, IsAnswer, dims_answer, top_answer}
 use Rattle.facet_names.proofs.LabelLists.{front_labels, label_at, place_at, stands_by_place}
 use Rattle.facet_names.specs.Labels.{IsLabelList, place, prefixes, stands}
 use Rattle.facet_output.proofs.Among.{In, at_in, of_all}
-use Rattle.facet_output.proofs.Effects.{told_placed}
 use Rattle.facet_output.proofs.Exact.{key_of}
 use Rattle.facet_output.proofs.Fronts.{get_there, prefix_whole, take_prefix}
 use Rattle.facet_output.proofs.HeldPairs.{under_held}
@@ -32,12 +31,11 @@ use Rattle.facet_output.specs.OneSession.{AddLeaves, ChangeLeaves, EffectLeaves,
 use Rattle.facet_output.specs.OutputLines.{answered_line, reply_lines}
 use Rattle.facet_output.specs.Replying.{IsAdded, IsChanged, IsCommitted, IsFound, IsHold, IsLooked, IsOf, IsRelease, IsResolved, IsRight, IsRightBy, IsShown, RightReply, docs_of, first_refused, pair_seen}
 use Rattle.facet_output.specs.Reported.{says_full, stood_at, stood_in}
-use Rattle.facet_replies.specs.Replies.{Reply, broken, docs_full, found, held_already, labels_full, numbered, refused, shown, stats as numbers, summed}
+use Rattle.facet_replies.specs.Replies.{Reply, broken, docs_full, found, held_already, labels_full, numbered, placed, refused, shown, stats as numbers, summed}
 use Rattle.number_facets.specs.Values.{PartSum}
-use Rattle.facet_words.specs.Answers.{IsSummed, counted_docs, first_hits, hits_of, ranged_of, told_of, with_labels}
-use Rattle.facet_words.specs.Commands.{Counted, Search, Settings, Command, Order, add, commit, delete, document, hold, merge, ranges, refresh, release, replace, search, stats, sums}
+use Rattle.facet_words.specs.Answers.{IsSummed, counted_docs, first_hits, hits_of, ranged_of, with_labels}
+use Rattle.facet_words.specs.Commands.{Counted, Search, Settings, Command, Order, add, commit, document, hold, merge, ranges, refresh, release, search, stats, sums}
 use Rattle.facet_serving.proofs.OneSums.{one_sums}
-use Rattle.facet_serving.proofs.Told.{told_resolved}
 use Rattle.facet_serving.proofs.Lone.{Goes, State, after, goes_on, is_in, labels_begin}
 use Rattle.facet_serving.specs.Alike.{AreAlike, IsOfStore, is_plain}
 use Rattle.facet_output.proofs.Served.{all_known}
@@ -45,18 +43,18 @@ use Rattle.chronicle.proofs.Prefixes.{prefix_length, prefix_get}
 
 -- ---- changes
 
--- The reply to a change that adds a document, given what it is told where it is placed, how many documents are left for it to join, and which facet is broken; and the labels behind it.
-abbrev outcome : Settings → Reply → ℕ → List (List (List ℕ)) → Doc → Option Broken → Reply × List (List (List ℕ))
-outcome settings told left labels doc (Some b) = (refused (broken b), labels)
-outcome settings told left labels doc None =
+-- The reply to a change that adds a document, given how many operations there are, how many documents are left for it to join, and which facet is broken; and the labels behind it.
+abbrev outcome : Settings → ℕ → ℕ → List (List (List ℕ)) → Doc → Option Broken → Reply × List (List (List ℕ))
+outcome settings operations left labels doc (Some b) = (refused (broken b), labels)
+outcome settings operations left labels doc None =
     let all = with_labels labels doc in
     if nat_lt (room settings labels) (length all) then (refused (labels_full (room settings labels)), take (room settings labels) all)
-    else (if nat_le settings.max_docs left then (refused (docs_full left), all) else (told, all))
+    else (if nat_le settings.max_docs left then (refused (docs_full left), all) else (placed operations, all))
 
 -- one that adds none is placed
-abbrev outcome_of : Settings → Reply → ℕ → List (List (List ℕ)) → Option Doc → Reply × List (List (List ℕ))
-outcome_of settings told left labels None = (told, labels)
-outcome_of settings told left labels (Some doc) = outcome settings told left labels doc (first_broken settings.config doc)
+abbrev outcome_of : Settings → ℕ → ℕ → List (List (List ℕ)) → Option Doc → Reply × List (List (List ℕ))
+outcome_of settings operations left labels None = (placed operations, labels)
+outcome_of settings operations left labels (Some doc) = outcome settings operations left labels doc (first_broken settings.config doc)
 
 -- what is known of the reply to a command with this effect, and of the labels that it left
 pub record Facts (settings : Settings) (labels : List (List (List ℕ))) (history : List Operation) (s : State) (session : ℕ) (e : Effect) (command : Command) (took : Option (ℕ × ℕ)) (saw : Option ℕ) (reply : Reply) (next : List (List (List ℕ))) : Type 0 where
@@ -85,29 +83,16 @@ module _ (settings : Settings) (labels : List (List (List ℕ))) (history : List
   abbrev left : ℕ
   left = length (left_by change (docs s.operations))
 
-  abbrev told : Reply
-  told = told_of change count (docs s.operations)
-
-  -- as many operations as there are
-  taken_here : (n : ℕ) → n ≡ count → take n history ≡ s.operations
-  taken_here n is = take_prefix s.operations history n f.begins (omega arith) ∙ take_all n s.operations (omega arith)
-
-  -- what is left of them
+  -- what is left of as many operations as there are
   left_here : (n : ℕ) → n ≡ count → length (left_by change (docs (take n history))) ≡ left
-  left_here n is = ap (λ (h : List Operation). length (left_by change (docs h))) (taken_here n is)
-
-  -- a change that is placed is placed behind them
-  told_here : (at : ℕ) → reply ≡ told_of change at (docs (take at history)) → reply ≡ told
-  told_here at is =
-      let here : at ≡ count = f.stands at (ap (stood_at saw) (told_placed reply change at (docs (take at history)) is)) in
-      is ∙ (λ i. told_of change (here i) (docs (taken_here at here i)))
+  left_here n is = ap (λ (h : List Operation). length (left_by change (docs h))) (take_prefix s.operations history n f.begins (omega arith) ∙ take_all n s.operations (omega arith))
 
   module _ (doc : Doc) where
     abbrev all : List (List (List ℕ))
     all = with_labels s.labels doc
 
     abbrev IsOutcome : Option Broken → Type 0
-    IsOutcome o = (reply ≡ (outcome settings told left s.labels doc o).0) × (next ≡ (outcome settings told left s.labels doc o).1)
+    IsOutcome o = (reply ≡ (outcome settings count left s.labels doc o).0) × (next ≡ (outcome settings count left s.labels doc o).1)
 
     lacks_labels : LeavesFirst settings s.labels doc reply next → knows labels doc ≡ false → reply ≡ refused (labels_full (length labels)) → (knows all doc ≡ true) → IsOutcome None
     lacks_labels first lacks e whole =
@@ -125,14 +110,14 @@ module _ (settings : Settings) (labels : List (List (List ℕ))) (history : List
         let size = ap length whole in
         let high = first.high in (whole, le-ltb most (length all) (omega arith))
 
-    is_placed : LeavesFirst settings s.labels doc reply next → (at : ℕ) → length (left_by change (docs (take at history))) < settings.max_docs → reply ≡ told_of change at (docs (take at history)) → IsOutcome None
+    is_placed : LeavesFirst settings s.labels doc reply next → (at : ℕ) → length (left_by change (docs (take at history))) < settings.max_docs → reply ≡ placed at → IsOutcome None
     is_placed first at lt e =
-        let l = fits first (ap is_resolved e ∙ told_resolved change at (docs (take at history))) in
-        let here : at ≡ count = f.stands at (ap (stood_at saw) (told_placed reply change at (docs (take at history)) e)) in
+        let l = fits first (ap is_resolved e) in
+        let here : at ≡ count = f.stands at (ap (λ (q : Reply). stood_at saw (report q)) e) in
         let size = left_here at here in
         let room_left : nat_le settings.max_docs left ≡ false = lt-leb settings.max_docs left (omega arith) in
         let test = l.1 in
-        rw (test, room_left) (told_here at e, l.0)
+        rw (test, room_left) (e ∙ ap placed here, l.0)
 
     lacks_room : LeavesFirst settings s.labels doc reply next → (n : ℕ) → saw ≡ Some n → settings.max_docs ≤ length (left_by change (docs (take n history)))
         → reply ≡ refused (docs_full (length (left_by change (docs (take n history))))) → IsOutcome None
@@ -152,8 +137,8 @@ module _ (settings : Settings) (labels : List (List (List ℕ))) (history : List
     added None leaves right whole = resolved leaves (knows labels doc) refl right whole
 
   is_outcome : (d : Option Doc) → ChangeLeaves settings s.labels d reply next → IsChanged settings labels history session change saw d reply → ((doc : Doc) → knows (with_labels s.labels doc) doc ≡ true)
-      → (reply ≡ (outcome_of settings told left s.labels d).0) × (next ≡ (outcome_of settings told left s.labels d).1)
-  is_outcome None leaves right whole = (told_here right.0 right.2, leaves)
+      → (reply ≡ (outcome_of settings count left s.labels d).0) × (next ≡ (outcome_of settings count left s.labels d).1)
+  is_outcome None leaves right whole = (right.2 ∙ ap placed (f.stands right.0 (ap (λ (q : Reply). stood_at saw (report q)) right.2)), leaves)
   is_outcome (Some doc) leaves right whole = added doc (first_broken settings.config doc) leaves right (whole doc)
 
 -- ---- search
@@ -311,8 +296,6 @@ module _ (settings : Settings) (labels labels' : List (List (List ℕ))) (histor
       let many : length (docs_of history pair) ≡ length (docs_of history' pair) = ap length (pair_in pair le history f.begins ∙ sym (pair_in pair le history' g.begins)) in
       one ∙ ap (λ n. numbers (record { operations = pair.0; labels = pair.1; documents = n })) many ∙ sym two
   same_looked (add doc) e f g pair le one two = absurd one
-  same_looked (delete id) e f g pair le one two = absurd one
-  same_looked (replace doc) e f g pair le one two = absurd one
   same_looked refresh e f g pair le one two = absurd one
   same_looked (hold name) e f g pair le one two = absurd one
   same_looked (release name) e f g pair le one two = absurd one

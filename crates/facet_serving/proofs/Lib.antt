@@ -10,11 +10,10 @@ pub mod Shut
 pub mod Ending
 pub mod Reopened
 pub mod OneSums
-pub mod Told
 pub mod Lone
 pub mod Alike
 pub mod Equal
-pub mod Changes
+pub mod Adds
 pub mod Placed
 pub mod Counted
 pub mod Commits

@@ -14,23 +14,22 @@ use Rattle.facet_model.specs.Accepts.{Broken, first_broken}
 use Rattle.facet_model.specs.Documents.{Doc}
 use Rattle.facet_model.proofs.Changes.{all_brought}
 use Rattle.facet_model.specs.Histories as histories
-use Rattle.facet_model.specs.Histories.{Change, Operation, brought, doc_of, docs, is_pair, knows}
+use Rattle.facet_model.specs.Histories.{Change, Operation, brought, doc_of, is_pair, knows}
 use Rattle.facet_output.proofs.Among.{In, all_in, of_all, of_filter}
 use Rattle.facet_output.proofs.Exact.{filter_all, refreshed_stood}
 use Rattle.facet_output.proofs.Growing.{prefix_snoc, begins_fold}
 use Rattle.facet_output.proofs.Lifting.{still_knows}
 use Rattle.facet_output.specs.Answered.{Answered, is_of, of_session}
-use Rattle.facet_output.specs.Effects.{Effect, effect, changes, holds, looks, merges, persists, publishes, releases, Report, report, says_nothing, says_number, says_pair, says_placed, says_refused}
+use Rattle.facet_output.specs.Effects.{Effect, effect, changes, holds, looks, merges, persists, publishes, releases, reason, Report, report, says_nothing, says_number, says_pair, says_placed, says_refused}
 use Rattle.facet_output.specs.Held.{Held, after_effect, is_numbered}
 use Rattle.facet_output.specs.OneSession.{AddLeaves, AreExact, AreExactLabels, ChangeLeaves, EffectLeaves, LeavesFirst, after_placing, is_resolved, room}
 use Rattle.facet_output.specs.Output.{IsOutput, Opened, Published, opened_operations, opened_pair}
 use Rattle.facet_output.specs.Replying.{IsAdded, IsChanged, IsResolved, IsRight, IsRightBy, RightReplies}
 use Rattle.facet_output.specs.Reported.{placed_in, placed_operation, refreshed, refreshed_in, stood_in}
-use Rattle.facet_replies.specs.Replies.{Reply}
-use Rattle.facet_words.specs.Answers.{told_of, with_labels}
+use Rattle.facet_replies.specs.Replies.{Refusal, Reply, placed, refused}
+use Rattle.facet_words.specs.Answers.{with_labels}
 use Rattle.facet_words.specs.Commands.{Settings, Command, Order}
 use Rattle.facet_output.proofs.Served.{all_known}
-use Rattle.facet_serving.proofs.Told.{no_refusal, place_said, told_resolved}
 use Rattle.chronicle.proofs.Prefixes.{prefix_self, prefix_trans, prefix_length, prefix_shorter}
 
 -- the labels and the operations, how many of both the last refresh took, and the pairs that are held
@@ -117,6 +116,17 @@ labels_begin settings labels taken (a ∷ later) last exact = prefix_trans label
 
 -- ---- an operation that was placed
 
+-- a reply that reports a place has it, and is no refusal
+place_said : (reply : Reply) (at k : ℕ) → report reply ≡ says_placed at → reply ≡ placed k → k ≡ at
+place_said reply at k said is = ap place_of (sym (ap report is) ∙ said)
+  where
+    place_of : Report → ℕ
+    place_of (says_placed n) = n
+    place_of _ = 0
+
+no_place : (reply : Reply) (at : ℕ) (why : Refusal) → report reply ≡ says_placed at → reply ≡ refused why → ⊥
+no_place reply at why said is = let e : says_placed at ≡ says_refused (reason why) = sym said ∙ ap report is in cc
+
 module _ (settings : Settings) (labels before next : List (List (List ℕ))) (history : List Operation) (held : Held) (session : ℕ) (took : Option (ℕ × ℕ)) (saw : Option ℕ) (reply : Reply) where
   -- it is the session's operation at its place, and the labels that were left know its document
   abbrev IsHere : ℕ × Operation → Type 0
@@ -126,17 +136,17 @@ module _ (settings : Settings) (labels before next : List (List (List ℕ))) (hi
     abbrev own : Operation
     own = record { session = session; change = change }
 
-    its_place : (k : ℕ) → reply ≡ told_of change k (docs (take k history)) → slice_get history k ≡ Some own → slice_get history at ≡ Some own
-    its_place k is there = subst (λ (n : ℕ). slice_get history n ≡ Some own) (place_said reply change at k (docs (take k history)) said is) there
+    its_place : (k : ℕ) → reply ≡ placed k → slice_get history k ≡ Some own → slice_get history at ≡ Some own
+    its_place k is there = subst (λ (n : ℕ). slice_get history n ≡ Some own) (place_said reply at k said is) there
 
     is_resolved_here : (doc : Doc) (b : Bool) → IsResolved settings labels history session change saw b reply → LeavesFirst settings before doc reply next → (slice_get history at ≡ Some own) × (knows next doc ≡ true)
-    is_resolved_here doc false r leaves = absurd (no_refusal reply at _ said r.1)
+    is_resolved_here doc false r leaves = absurd (no_place reply at _ said r.1)
     is_resolved_here doc true r leaves = ⊎_elim
-        (λ p. (its_place p.0 p.3 p.1, subst (λ (l : List (List (List ℕ))). knows l doc ≡ true) (sym (leaves.whole (ap is_resolved p.3 ∙ told_resolved change p.0 (docs (take p.0 history))))) (all_known before doc)))
-        (λ n. absurd (no_refusal reply at _ said n.4)) r
+        (λ p. (its_place p.0 p.3 p.1, subst (λ (l : List (List (List ℕ))). knows l doc ≡ true) (sym (leaves.whole (ap is_resolved p.3))) (all_known before doc)))
+        (λ n. absurd (no_place reply at _ said n.4)) r
 
     is_added_here : (doc : Doc) (o : Option Broken) → IsAdded settings labels history session change saw doc o reply → AddLeaves settings before doc o reply next → (slice_get history at ≡ Some own) × (knows next doc ≡ true)
-    is_added_here doc (Some b) right leaves = absurd (no_refusal reply at _ said right)
+    is_added_here doc (Some b) right leaves = absurd (no_place reply at _ said right)
     is_added_here doc None right leaves = is_resolved_here doc (knows labels doc) right leaves
 
     is_changed_here : (d : Option Doc) → IsChanged settings labels history session change saw d reply → ChangeLeaves settings before d reply next → (slice_get history at ≡ Some own) × (option_map_or (knows next) d true ≡ true)
@@ -163,7 +173,7 @@ module _ (settings : Settings) (labels before next : List (List (List ℕ))) (hi
   placed_here (looks on) command p e right leaves = absurd cc
 
 -- it stood at its place
-pub placed_stood : (session : ℕ) (e : Effect) (saw : Option ℕ) (said : Report) (p : ℕ × Operation) → placed_in session e said ≡ Some p → stood_in e saw said ≡ Some p.0
+placed_stood : (session : ℕ) (e : Effect) (saw : Option ℕ) (said : Report) (p : ℕ × Operation) → placed_in session e said ≡ Some p → stood_in e saw said ≡ Some p.0
 placed_stood session (changes change) saw (says_placed at) p e = ap (λ (o : Option (ℕ × Operation)). option_map (λ (q : ℕ × Operation). q.0) o) e
 placed_stood session (changes change) saw (says_number n) p e = absurd cc
 placed_stood session (changes change) saw (says_pair n labels) p e = absurd cc

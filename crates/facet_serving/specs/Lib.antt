@@ -8,7 +8,7 @@ pub mod Closing
 pub mod Serving
 pub mod Laws
 pub mod Alike
-pub mod Changed
+pub mod Added
 pub mod Acknowledged
 pub mod Counting
 pub mod Generating

@@ -12,8 +12,7 @@ use facet_phases::{PhaseFault, RanToEnd};
 use facet_replies::write_last_line;
 use std::alloc::Global;
 
-/// Returns the last line: the labels and the sessions of the operations that come after the opened ones, of which there
-/// are so many.
+/// Returns the last line: what comes after the opened labels and documents, of which there are so many.
 ///
 /// Errors: out of memory.
 pub fn end_line(alloc: Global, opened: (u64, u32), trace: &Trace) -> Result<Vec<u8>, NoMemory>
@@ -23,15 +22,8 @@ pub fn end_line(alloc: Global, opened: (u64, u32), trace: &Trace) -> Result<Vec<
         ≡ last_line opened.0 opened.1 trace.now.labels (drop opened.0 trace.now.sessions.items)) }
 {
     let mut line = Vec::new(alloc);
-    let sessions = &trace.sessions[opened.0 as usize..];
-    write_last_line(
-        alloc,
-        &mut line,
-        opened.0,
-        opened.1,
-        &trace.labels,
-        sessions,
-    )?;
+    let added = &trace.sessions[opened.0 as usize..];
+    write_last_line(alloc, &mut line, opened.0, opened.1, &trace.labels, added)?;
     Ok(line)
 }
 

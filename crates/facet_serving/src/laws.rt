@@ -1,7 +1,7 @@
 ghost use Rattle.facet_serving.specs.Acknowledged.{AcknowledgedStays, AcknowledgedSurvives, CommitsAreAcknowledged};
 ghost use Rattle.facet_serving.specs.Acknowledged.{HaveFewOrders};
+ghost use Rattle.facet_serving.specs.Added.{AddsArePlaced, EachAddStands, EachIsAddedOnce};
 ghost use Rattle.facet_serving.specs.Alike.{EqualFilesOpenTheSame, EqualStoresReplyAlike, EqualStoresWriteTheSame};
-ghost use Rattle.facet_serving.specs.Changed.{ChangesAreInOrder, ChangesArePlaced, EachChangeStands, EachIsMadeOnce};
 ghost use Rattle.facet_serving.specs.Laws.{AcknowledgedIsReopened, LeavesStore};
 
 use facet_disk::Disk;
@@ -15,16 +15,13 @@ pub fn runs_go_on<D: Disk>(disk: &D)
     let _ = disk;
 }
 
-/// States that each operation after the opened ones belongs to one change, which returned its place, in the order of
-/// the session's commands. The operation of each add, delete and replace that returned a place is there, under its
-/// session; a delete and a replace say how many documents they deleted there. An add or a replace whose document is
-/// accepted, whose labels fit and for which there is room returns a place, or is out of memory. So does each delete.
-/// What a replace deletes takes no room. The call does nothing.
-pub fn changes_stand<D: Disk>(disk: &D)
-    ensures once { EachIsMadeOnce D.Disk }
-    ensures order { ChangesAreInOrder D.Disk }
-    ensures stands { EachChangeStands D.Disk }
-    ensures placed { ChangesArePlaced D.Disk }
+/// States that each operation after the opened ones belongs to one change, which returned its place; and that the
+/// operation of each add that returned a place is there, under its session. An add whose document is accepted, whose
+/// labels fit and for which there is room returns a place, or is out of memory. The call does nothing.
+pub fn adds_stand<D: Disk>(disk: &D)
+    ensures once { EachIsAddedOnce D.Disk }
+    ensures stands { EachAddStands D.Disk }
+    ensures placed { AddsArePlaced D.Disk }
 {
     let _ = disk;
 }

@@ -14,7 +14,7 @@ mod tallying;
 
 pub use closing::end_line;
 pub use generating::run_generated;
-pub use laws::{changes_stand, commits_stay, equal_stores_reply_alike, runs_go_on};
+pub use laws::{adds_stand, commits_stay, equal_stores_reply_alike, runs_go_on};
 pub use reporting::{
     open_fault_line, report_open_fault, report_script_fault, report_status, write_status,
 };

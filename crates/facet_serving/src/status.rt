@@ -93,6 +93,6 @@ pub struct Ended<D: Disk> {
     pub status: Status,
     /// The disk, which can be opened again.
     pub disk: D,
-    /// The labels, and for each operation its session. `None` if no session began.
+    /// What the sessions added. `None` if no session began.
     pub trace: Option<Trace>,
 }

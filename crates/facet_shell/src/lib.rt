@@ -9,7 +9,7 @@ pub use command_line::{LiveWords, read_live};
 pub use facet_engine::Trace;
 pub use facet_phases::{Gate, OpenGate};
 pub use facet_serving::{
-    Ended, Status, changes_stand, commits_stay, equal_stores_reply_alike, runs_go_on,
+    Ended, Status, adds_stand, commits_stay, equal_stores_reply_alike, runs_go_on,
 };
 pub use line_mode::live;
 pub use live_serving::LiveEnded;

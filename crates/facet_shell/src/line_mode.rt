@@ -17,14 +17,12 @@ use std::thread::Threads;
 /// - `rt`, `keys`, `disk` and `gate` are as for [`run`](crate::run). `io` is both input and output.
 /// - `only_reads` says that no line is a commit: a commit is then a faulty line, and the disk is only read.
 /// - Before each read call all that was due for the lines that were whole is written and flushed.
-/// - It keeps the documents, the longest line and the longest group in memory, and four bytes for each operation. Other
-/// lines do not add to it. A document that was deleted or replaced stays in memory until its segment is merged or has
-/// none left, and no pair that has it is held.
+/// - It keeps the documents, the longest line and the longest group in memory. The memory does not grow with the number
+/// of lines.
 /// - It waits for the sessions of each group, where the gate waits, and where reads and writes wait.
 /// - Acknowledged commits are durable however the process ends.
 ///
-/// The result is the status, `io`, the disk, and, if sessions began, a trace: the labels, and for each operation its
-/// session. A failure is a status.
+/// The result is the status, `io`, the disk, and, if sessions began, a trace of what they added. A failure is a status.
 pub fn live<R: AllocGlobal + Threads + Wait + Sync, X: Duplex, D: Disk, G: Gate + Sync>(
     rt: &R,
     keys: RandomState,

@@ -112,15 +112,13 @@ fn run_read<R: Threads + Wait + Sync, S: Source, K: Sink, D: Disk, G: Gate + Syn
 /// - The sessions of a phase run concurrently, each on its own thread. The gate is called before and after each
 /// command.
 /// - The replies of a phase are written before the next one begins, and the last line at the end.
-/// - It keeps the script, the documents and the replies of one phase in memory. A document that was deleted or replaced
-/// stays in memory until its segment is merged or has none left, and no pair that has it is held. For generated
-/// documents it keeps a summary of the replies.
+/// - It keeps the script, the documents and the replies of one phase in memory. For generated documents it keeps a
+/// summary of the replies.
 /// - It waits for the sessions of each phase, and where the gate waits.
 /// - A commit is written to the disk when it is carried out. Acknowledged commits are durable however the invocation
 /// ends.
 ///
-/// The result is the status, the disk, and, if sessions began, a trace: the labels, and for each operation its session.
-/// A failure is a status.
+/// The result is the status, the disk, and, if sessions began, a trace of what they added. A failure is a status.
 pub fn run<R: AllocGlobal + Threads + Wait + Sync, S: Source, K: Sink, D: Disk, G: Gate + Sync>(
     rt: &R,
     keys: RandomState,

@@ -1,5 +1,5 @@
 -- The order of a line, by what was found in it.
-use Rattle.std.proofs.Common.{◌≡◌, ℕ, ◌<◌, ◌≤◌, ◌^◌, false, List, [], ◌∷◌, ◌++◌, length, get_or, Option, Some, None, Ok, refl, sym, ap, ◌∙◌, arith, append-nil, lt-ltb, le-leb}
+use Rattle.std.proofs.Common.{◌≡◌, ℕ, ◌<◌, ◌≤◌, ◌^◌, true, false, List, [], ◌∷◌, ◌++◌, length, get_or, Option, Some, None, Ok, refl, sym, ap, ◌∙◌, arith, append-nil, lt-ltb, le-leb}
 use Rattle.std.specs.Prelude.{◌==◌, SomeIff, IsUtf8, IfSome, IfOk, Result, option_map, option_and_then, Err}
 use Rattle.std.specs.Option.{unwrap_or}
 use Rattle.std.proofs.lemmas.Str.{is_utf8-from_IsUtf8}
@@ -14,11 +14,10 @@ use Rattle.serde_json.specs.Read.{number_of, read, of_json}
 use Rattle.facet_names.specs.declared.fault.NoMemory.{NoMemory}
 use Rattle.facet_words.specs.Lines.{line_data}
 use Rattle.facet_words.specs.CommandLines.{heading_of, added_of, command_of, command_named}
-use Rattle.facet_words.specs.Quick.{IsFound, HasFound, AreMembers, command_with}
+use Rattle.facet_words.specs.Quick.{IsFound, HasFound, AreMembers}
 use Rattle.facet_words.specs.CommandViews.{order_view}
+use Rattle.facet_words.specs.Commands.{add}
 use Rattle.facet_words.specs.Scripts.{order_of, ends_phase, line_of, line_at}
-use Rattle.facet_words.specs.declared.quick.found.Brings.{Brings}
-use Rattle.facet_words.specs.declared.quick.found.Brings.TheVariants.{Add, Replace}
 use Rattle.facet_words.specs.declared.quick.found.Found.{Found}
 use Rattle.facet_words.specs.declared.command.Order.{Order}
 
@@ -37,25 +36,17 @@ part_or f None d = refl
 part_or f (Some x) d = refl
 
 module _ (line n : ℕ) (ms : Members) (id : List ℕ) where
-  pub order_read : (b : Brings) (text : Option (List ℕ)) (labels : Option (List (List (List ℕ)))) → IsFound ms (Some n) (Some b) (Some id) text labels
+  pub order_read : (text : Option (List ℕ)) (labels : Option (List (List (List ℕ)))) → IsFound ms (Some n) true (Some id) text labels
       → 1 ≤ n → n ≤ 64 → 1 ≤ length id → length id ≤ 256 → length (unwrap_or text []) ≤ 65536
-      → line_of line (object ms) ≡ Ok (Some (record { session = n; line = line; command = command_with b (record { id = id; text = unwrap_or text []; labels = unwrap_or labels [] }) }))
+      → line_of line (object ms) ≡ Ok (Some (record { session = n; line = line; command = add (record { id = id; text = unwrap_or text []; labels = unwrap_or labels [] }) }))
   unfolding line_of ends_phase order_of command_of command_named heading_of added_of
-  order_read Add None None is one last some short few =
+  order_read None None is one last some short few =
       rw (is.cmd_is, is.s_is, is.id_is, is.text_is, is.facets_is, is.among, le-leb 1 (length id) some, le-leb (length id) 256 short, le-leb 1 n one, le-leb n 64 last) refl
-  order_read Add None (Some ls) is one last some short few =
+  order_read None (Some ls) is one last some short few =
       rw (is.cmd_is, is.s_is, is.id_is, is.text_is, is.facets_is, is.paths ls refl, is.among, le-leb 1 (length id) some, le-leb (length id) 256 short, le-leb 1 n one, le-leb n 64 last) refl
-  order_read Add (Some t) None is one last some short few =
+  order_read (Some t) None is one last some short few =
       rw (is.cmd_is, is.s_is, is.id_is, is.text_is, is.facets_is, is.among, le-leb 1 (length id) some, le-leb (length id) 256 short, le-leb 0 (length t) (omega arith), le-leb (length t) 65536 few, le-leb 1 n one, le-leb n 64 last) refl
-  order_read Add (Some t) (Some ls) is one last some short few =
-      rw (is.cmd_is, is.s_is, is.id_is, is.text_is, is.facets_is, is.paths ls refl, is.among, le-leb 1 (length id) some, le-leb (length id) 256 short, le-leb 0 (length t) (omega arith), le-leb (length t) 65536 few, le-leb 1 n one, le-leb n 64 last) refl
-  order_read Replace None None is one last some short few =
-      rw (is.cmd_is, is.s_is, is.id_is, is.text_is, is.facets_is, is.among, le-leb 1 (length id) some, le-leb (length id) 256 short, le-leb 1 n one, le-leb n 64 last) refl
-  order_read Replace None (Some ls) is one last some short few =
-      rw (is.cmd_is, is.s_is, is.id_is, is.text_is, is.facets_is, is.paths ls refl, is.among, le-leb 1 (length id) some, le-leb (length id) 256 short, le-leb 1 n one, le-leb n 64 last) refl
-  order_read Replace (Some t) None is one last some short few =
-      rw (is.cmd_is, is.s_is, is.id_is, is.text_is, is.facets_is, is.among, le-leb 1 (length id) some, le-leb (length id) 256 short, le-leb 0 (length t) (omega arith), le-leb (length t) 65536 few, le-leb 1 n one, le-leb n 64 last) refl
-  order_read Replace (Some t) (Some ls) is one last some short few =
+  order_read (Some t) (Some ls) is one last some short few =
       rw (is.cmd_is, is.s_is, is.id_is, is.text_is, is.facets_is, is.paths ls refl, is.among, le-leb 1 (length id) some, le-leb (length id) 256 short, le-leb 0 (length t) (omega arith), le-leb (length t) 65536 few, le-leb 1 n one, le-leb n 64 last) refl
 
 -- ---- the line

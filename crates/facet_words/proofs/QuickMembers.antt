@@ -1,5 +1,5 @@
--- What is found under each key of a line that brings a document, and the order that it is.
-use Rattle.std.proofs.Common.{◌≡◌, ℕ, ◌≤◌, true, List, [], ◌∷◌, ◌++◌, Option, Some, None, refl, sym, ap, ◌∙◌, arith, append_assoc, subst}
+-- What is found under each key of a line that adds a document, and the order that it is.
+use Rattle.std.proofs.Common.{◌≡◌, ℕ, ◌≤◌, Bool, true, false, List, [], ◌∷◌, ◌++◌, Option, Some, None, refl, sym, ap, ◌∙◌, arith, append_assoc, subst}
 use Rattle.std.specs.Prelude.{codes, option_and_then}
 use Rattle.std.specs.List.{list_any}
 use Rattle.std.specs.Str.{bytes_eq}
@@ -16,8 +16,7 @@ use Rattle.serde_json.specs.Data.{Data, Members, no_members, member, unsigned, n
 use Rattle.serde_json.specs.Read.{of_members}
 use Rattle.serde_json.proofs.Views.{get_member-put, get_member-put_other}
 use Rattle.facet_words.specs.Shapes.{list_within, path, members_among}
-use Rattle.facet_words.specs.Quick.{IsFound, HasFound, IsMember, AreMembers, document_names, name_of, list_items}
-use Rattle.facet_words.specs.declared.quick.found.Brings.{Brings}
+use Rattle.facet_words.specs.Quick.{IsFound, HasFound, IsMember, AreMembers, add_names, list_items}
 use Rattle.facet_words.specs.declared.quick.found.Found.{Found}
 
 -- a key among the names more
@@ -30,8 +29,8 @@ among_put names k d (member l e ms) own all = by (slice_cmp nat_cmp k l) (among_
     by Equal rest = all
     by Greater rest = rw ((and_parts (list_any (bytes_eq l) names) (members_among names ms) all).0) rest
 
-module _ (ms : Members) (session : Option ℕ) (brings : Option Brings) (id text : Option (List ℕ)) (labels : Option (List (List (List ℕ)))) (is : IsFound ms session brings id text labels) where
-  pub session_found : (n : ℕ) → IsFound (put (codes "s") (number (unsigned n)) ms) (Some n) brings id text labels
+module _ (ms : Members) (session : Option ℕ) (adds : Bool) (id text : Option (List ℕ)) (labels : Option (List (List (List ℕ)))) (is : IsFound ms session adds id text labels) where
+  pub session_found : (n : ℕ) → IsFound (put (codes "s") (number (unsigned n)) ms) (Some n) adds id text labels
   session_found n = record {
     s_is = get_member-put (codes "s") (number (unsigned n)) ms;
     cmd_is = get_member-put_other (codes "cmd") (codes "s") (number (unsigned n)) ms (λ e. absurd cc) ∙ is.cmd_is;
@@ -39,21 +38,21 @@ module _ (ms : Members) (session : Option ℕ) (brings : Option Brings) (id text
     text_is = get_member-put_other (codes "text") (codes "s") (number (unsigned n)) ms (λ e. absurd cc) ∙ is.text_is;
     facets_is = get_member-put_other (codes "facets") (codes "s") (number (unsigned n)) ms (λ e. absurd cc) ∙ is.facets_is;
     paths = is.paths;
-    among = among_put document_names (codes "s") (number (unsigned n)) ms refl is.among;
+    among = among_put add_names (codes "s") (number (unsigned n)) ms refl is.among;
   }
 
-  pub command_found : (b : Brings) → IsFound (put (codes "cmd") (string (name_of b)) ms) session (Some b) id text labels
-  command_found b = record {
-    s_is = get_member-put_other (codes "s") (codes "cmd") (string (name_of b)) ms (λ e. absurd cc) ∙ is.s_is;
-    cmd_is = get_member-put (codes "cmd") (string (name_of b)) ms;
-    id_is = get_member-put_other (codes "id") (codes "cmd") (string (name_of b)) ms (λ e. absurd cc) ∙ is.id_is;
-    text_is = get_member-put_other (codes "text") (codes "cmd") (string (name_of b)) ms (λ e. absurd cc) ∙ is.text_is;
-    facets_is = get_member-put_other (codes "facets") (codes "cmd") (string (name_of b)) ms (λ e. absurd cc) ∙ is.facets_is;
+  pub add_found : IsFound (put (codes "cmd") (string (codes "add")) ms) session true id text labels
+  add_found = record {
+    s_is = get_member-put_other (codes "s") (codes "cmd") (string (codes "add")) ms (λ e. absurd cc) ∙ is.s_is;
+    cmd_is = get_member-put (codes "cmd") (string (codes "add")) ms;
+    id_is = get_member-put_other (codes "id") (codes "cmd") (string (codes "add")) ms (λ e. absurd cc) ∙ is.id_is;
+    text_is = get_member-put_other (codes "text") (codes "cmd") (string (codes "add")) ms (λ e. absurd cc) ∙ is.text_is;
+    facets_is = get_member-put_other (codes "facets") (codes "cmd") (string (codes "add")) ms (λ e. absurd cc) ∙ is.facets_is;
     paths = is.paths;
-    among = among_put document_names (codes "cmd") (string (name_of b)) ms refl is.among;
+    among = among_put add_names (codes "cmd") (string (codes "add")) ms refl is.among;
   }
 
-  pub id_found : (t : List ℕ) → IsFound (put (codes "id") (string t) ms) session brings (Some t) text labels
+  pub id_found : (t : List ℕ) → IsFound (put (codes "id") (string t) ms) session adds (Some t) text labels
   id_found t = record {
     s_is = get_member-put_other (codes "s") (codes "id") (string t) ms (λ e. absurd cc) ∙ is.s_is;
     cmd_is = get_member-put_other (codes "cmd") (codes "id") (string t) ms (λ e. absurd cc) ∙ is.cmd_is;
@@ -61,10 +60,10 @@ module _ (ms : Members) (session : Option ℕ) (brings : Option Brings) (id text
     text_is = get_member-put_other (codes "text") (codes "id") (string t) ms (λ e. absurd cc) ∙ is.text_is;
     facets_is = get_member-put_other (codes "facets") (codes "id") (string t) ms (λ e. absurd cc) ∙ is.facets_is;
     paths = is.paths;
-    among = among_put document_names (codes "id") (string t) ms refl is.among;
+    among = among_put add_names (codes "id") (string t) ms refl is.among;
   }
 
-  pub text_found : (t : List ℕ) → IsFound (put (codes "text") (string t) ms) session brings id (Some t) labels
+  pub text_found : (t : List ℕ) → IsFound (put (codes "text") (string t) ms) session adds id (Some t) labels
   text_found t = record {
     s_is = get_member-put_other (codes "s") (codes "text") (string t) ms (λ e. absurd cc) ∙ is.s_is;
     cmd_is = get_member-put_other (codes "cmd") (codes "text") (string t) ms (λ e. absurd cc) ∙ is.cmd_is;
@@ -72,10 +71,10 @@ module _ (ms : Members) (session : Option ℕ) (brings : Option Brings) (id text
     text_is = get_member-put (codes "text") (string t) ms;
     facets_is = get_member-put_other (codes "facets") (codes "text") (string t) ms (λ e. absurd cc) ∙ is.facets_is;
     paths = is.paths;
-    among = among_put document_names (codes "text") (string t) ms refl is.among;
+    among = among_put add_names (codes "text") (string t) ms refl is.among;
   }
 
-  pub facets_found : (ls : List (List (List ℕ))) → list_within 0 256 path (array (list_items ls)) ≡ Some ls → IsFound (put (codes "facets") (array (list_items ls)) ms) session brings id text (Some ls)
+  pub facets_found : (ls : List (List (List ℕ))) → list_within 0 256 path (array (list_items ls)) ≡ Some ls → IsFound (put (codes "facets") (array (list_items ls)) ms) session adds id text (Some ls)
   facets_found ls fits = record {
     s_is = get_member-put_other (codes "s") (codes "facets") (array (list_items ls)) ms (λ e. absurd cc) ∙ is.s_is;
     cmd_is = get_member-put_other (codes "cmd") (codes "facets") (array (list_items ls)) ms (λ e. absurd cc) ∙ is.cmd_is;
@@ -83,10 +82,10 @@ module _ (ms : Members) (session : Option ℕ) (brings : Option Brings) (id text
     text_is = get_member-put_other (codes "text") (codes "facets") (array (list_items ls)) ms (λ e. absurd cc) ∙ is.text_is;
     facets_is = get_member-put (codes "facets") (array (list_items ls)) ms;
     paths = λ ks e. let same : ls ≡ ks = cc in subst (λ (xs : List (List (List ℕ))). list_within 0 256 path (array (list_items xs)) ≡ Some xs) same fits;
-    among = among_put document_names (codes "facets") (array (list_items ls)) ms refl is.among;
+    among = among_put add_names (codes "facets") (array (list_items ls)) ms refl is.among;
   }
 
-pub none_found : IsFound no_members None None None None None
+pub none_found : IsFound no_members None false None None None
 none_found = record { s_is = refl; cmd_is = refl; id_is = refl; text_is = refl; facets_is = refl; paths = λ ls e. absurd cc; among = refl }
 
 -- ---- member by member

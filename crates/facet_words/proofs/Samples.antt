@@ -1,12 +1,12 @@
--- Values of the commands `add`, `delete`, `replace`, `ranges`, `sums` and `search`, and some that have another form.
+-- Values of the commands `ranges`, `sums` and `search`, and some that have another form.
 use Rattle.std.proofs.Common.{◌≡◌, ℕ, Bool, ℤ, pos, neg_ℤ, true, false, List, [], ◌∷◌, ◌++◌, Option, Some, None, refl, codes}
 use Rattle.std.specs.Prelude.{option_and_then}
 use Rattle.serde_json.specs.Read.{read}
 use Rattle.serde_json.proofs.OnLiterals.{serde_json_on_literals}
 use Rattle.facet_model.specs.Queries.{all, term}
 use Rattle.number_facets.specs.Values.{Range}
-use Rattle.facet_words.specs.Commands.{Command, add, delete, replace, ranges, search, sums}
-use Rattle.facet_words.specs.CommandLines.{added_of, deleted_of, counted_with, range_of, search_with, heading_of, search_of, ranges_of, sums_of, command_named, command_of}
+use Rattle.facet_words.specs.Commands.{Command, ranges, search, sums}
+use Rattle.facet_words.specs.CommandLines.{counted_with, range_of, search_with, heading_of, search_of, ranges_of, sums_of, command_named, command_of}
 use Rattle.facet_words.specs.Queries.{query_of, query_within, all_query, term_query}
 use Rattle.facet_words.specs.Shapes.{path}
 
@@ -116,41 +116,6 @@ no_number = refl
 sideways_too : command (codes "{\"s\":1,\"cmd\":\"sums\",\"dim\":\"genre\",\"n\":1,\"sideways\":true}") ≡ None
 unfolding counted_with heading_of sums_of command_named command_of serde_json_on_literals
 sideways_too = refl
-
--- ---- changes of the documents
-
-added : command (codes "{\"s\":1,\"cmd\":\"add\",\"id\":\"b2\"}") ≡ Some (1, add (record { id = codes "b2"; text = []; labels = [] }))
-unfolding added_of heading_of command_named command_of serde_json_on_literals
-added = refl
-
-deleted : command (codes "{\"s\":1,\"cmd\":\"delete\",\"id\":\"b1\"}") ≡ Some (1, delete (codes "b1"))
-unfolding deleted_of heading_of command_named command_of serde_json_on_literals
-deleted = refl
-
-replaced : command (codes "{\"text\":\"go\",\"s\":2,\"cmd\":\"replace\",\"facets\":[[\"Author\",\"Bob\"]],\"id\":\"b2\"}")
-    ≡ Some (2, replace (record { id = codes "b2"; text = codes "go"; labels = (codes "Author" ∷ codes "Bob" ∷ []) ∷ [] }))
-unfolding added_of path heading_of command_named command_of serde_json_on_literals
-replaced = refl
-
-replaced_by_an_id_alone : command (codes "{\"s\":2,\"cmd\":\"replace\",\"id\":\"b2\"}") ≡ Some (2, replace (record { id = codes "b2"; text = []; labels = [] }))
-unfolding added_of heading_of command_named command_of serde_json_on_literals
-replaced_by_an_id_alone = refl
-
-delete_without_id : command (codes "{\"s\":1,\"cmd\":\"delete\"}") ≡ None
-unfolding deleted_of heading_of command_named command_of serde_json_on_literals
-delete_without_id = refl
-
-delete_of_no_byte : command (codes "{\"s\":1,\"cmd\":\"delete\",\"id\":\"\"}") ≡ None
-unfolding deleted_of heading_of command_named command_of serde_json_on_literals
-delete_of_no_byte = refl
-
-delete_with_a_text : command (codes "{\"s\":1,\"cmd\":\"delete\",\"id\":\"b1\",\"text\":\"\"}") ≡ None
-unfolding deleted_of heading_of command_named command_of serde_json_on_literals
-delete_with_a_text = refl
-
-replace_without_id : command (codes "{\"s\":1,\"cmd\":\"replace\",\"text\":\"go\"}") ≡ None
-unfolding added_of heading_of command_named command_of serde_json_on_literals
-replace_without_id = refl
 
 -- ---- the hits of a search
 

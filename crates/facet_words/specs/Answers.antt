@@ -7,19 +7,17 @@ use Rattle.std.specs.Prelude.{drop}
 use Rattle.facet_names.specs.Labels.{with_label, prefixes, place}
 use Rattle.facet_model.specs.Flags.{Config}
 use Rattle.facet_model.specs.Documents.{Doc}
-use Rattle.facet_model.specs.Histories as histories
-use Rattle.facet_model.specs.Histories.{Change, changed as with_change, count_deleted, left_by}
 use Rattle.facet_model.specs.Accepts.{Broken, first_broken}
 use Rattle.facet_model.specs.Asks.{Asked, AskFault, top_of_none, value_not_kept, ask_fault}
 use Rattle.facet_model.specs.Results.{Answer, IsAnswer}
 use Rattle.facet_model.specs.Hits.{hits, is_hit, docs_for}
 use Rattle.number_facets.specs.Values.{Range, PartSum, range_count, valued, IsSums}
-use Rattle.facet_words.specs.Commands.{Settings, Search, Counted, Command, add, delete, replace, refresh, hold, release}
-use Rattle.facet_words.specs.Commands.{search, ranges, sums, document, stats, commit, merge, Order}
+use Rattle.facet_words.specs.Commands.{Settings, Search, Counted, Command, add, refresh, hold, release, search, ranges}
+use Rattle.facet_words.specs.Commands.{sums, document, stats, commit, merge, Order}
 use Rattle.facet_replies.specs.Replies.{Content, Hit}
 use Rattle.facet_replies.specs.Replies.{Refusal, broken, labels_full, docs_full, top_zero, dim_value_not_kept}
 use Rattle.facet_replies.specs.Replies.{no_such_document, disk_failed, closed, numbers_spent, no_memory, Reply, placed}
-use Rattle.facet_replies.specs.Replies.{changed, numbered, found, shown, stats as numbers, ranged, summed, merged, refused}
+use Rattle.facet_replies.specs.Replies.{numbered, found, shown, stats as numbers, ranged, summed, merged, refused}
 use Rattle.facet_replies.specs.ReplyLines.{reply_line}
 
 -- what a session works on: the labels with the root, the documents, and how many operations made them; the documents
@@ -46,18 +44,7 @@ opened_shelf labels docs = record {
   closed = None;
 }
 
--- ---- changes of the documents
-
--- The reply to a change that is placed after so many operations, given the documents before it.
-abbrev pub told_of : Change → ℕ → List Doc → Reply
-told_of (histories.add doc) at ds = placed at
-told_of (histories.delete id) at ds = changed at (count_deleted ds (histories.delete id))
-told_of (histories.replace doc) at ds = changed at (count_deleted ds (histories.replace doc))
-
--- with these labels and one operation more
-abbrev pub after_change : Shelf → List (List (List ℕ)) → Change → Shelf
-after_change shelf labels change = record shelf
-    { labels = labels; docs = with_change shelf.docs change; operations = shelf.operations + 1 }
+-- ---- add
 
 -- the labels, and at their end each prefix of a label of the document that is missing, facet by facet, the dimension
 -- first
@@ -68,30 +55,22 @@ with_labels labels doc = fold with_label labels (flat_map prefixes doc.labels)
 abbrev pub room : Settings → Shelf → ℕ
 room settings shelf = max settings.max_labels (length shelf.labels)
 
--- The reply to a change that adds this document, and what it leaves. The documents that it takes out need no room. The
--- labels that were added before it was refused stay.
-abbrev pub added : Settings → Shelf → Change → Doc → Option Broken → Reply × Shelf
-added settings shelf change doc (Some b) = (refused (broken b), shelf)
-added settings shelf change doc None =
+-- The reply to an add, and what it leaves. The labels that were added before it was refused stay.
+abbrev pub added : Settings → Shelf → Doc → Option Broken → Reply × Shelf
+added settings shelf doc (Some b) = (refused (broken b), shelf)
+added settings shelf doc None =
     let all = with_labels shelf.labels doc in
-    let left = left_by change shelf.docs in
     if nat_lt (room settings shelf) (length all)
     then (refused (labels_full (room settings shelf)), record shelf { labels = take (room settings shelf) all })
-    else (if nat_le settings.max_docs (length left)
-    then (refused (docs_full (length left)), record shelf { labels = all })
-    else (told_of change shelf.operations shelf.docs, after_change shelf all change))
+    else (if nat_le settings.max_docs (length shelf.docs)
+    then (refused (docs_full (length shelf.docs)), record shelf { labels = all })
+    else (
+      placed shelf.operations,
+      record shelf
+          { labels = all; docs = shelf.docs ++ doc ∷ []; operations = shelf.operations + 1 },
+    ))
 
--- The reply is right, and so is what the change leaves.
-abbrev pub IsAdded : Settings → Shelf → Change → Doc → Reply → Shelf → Type 0
-IsAdded settings shelf change doc reply next =
-    let r = added settings shelf change doc (first_broken settings.config doc) in (reply ≡ r.0) × (next ≡ r.1)
-
--- The reply to a delete is right, and so is what it leaves. It is never refused for documents or labels.
-abbrev pub IsDeleted : Shelf → List ℕ → Reply → Shelf → Type 0
-IsDeleted shelf id reply next = (reply ≡ told_of (histories.delete id) shelf.operations shelf.docs)
-    × (next ≡ after_change shelf shelf.labels (histories.delete id))
-
--- without memory an add or a replace leaves the first of the labels that it would have left
+-- without memory an add leaves the first of the labels that it would have left
 abbrev pub LeavesSome : Settings → Shelf → Doc → Option Broken → Shelf → Type 0
 LeavesSome settings shelf doc (Some b) next = next ≡ shelf
 LeavesSome settings shelf doc None next = (k : ℕ) × (length shelf.labels ≤ k) × (k ≤ room settings shelf)
@@ -222,9 +201,8 @@ names_no_pair _ = true
 -- The reply is right, and leaves the next shelf. A shelf has no held pairs, so no reply to a command that names one is
 -- right.
 abbrev pub IsRight : Settings → Shelf → Command → Reply → Shelf → Type 0
-IsRight settings shelf (add doc) reply next = IsAdded settings shelf (histories.add doc) doc reply next
-IsRight settings shelf (delete id) reply next = IsDeleted shelf id reply next
-IsRight settings shelf (replace doc) reply next = IsAdded settings shelf (histories.replace doc) doc reply next
+IsRight settings shelf (add doc) reply next =
+    let r = added settings shelf doc (first_broken settings.config doc) in (reply ≡ r.0) × (next ≡ r.1)
 IsRight settings shelf refresh reply next =
     (reply ≡ numbered shelf.operations)
     × (next ≡ record shelf { seen = shelf.docs; taken = shelf.operations; taken_labels = length shelf.labels })
@@ -244,8 +222,6 @@ IsRight settings shelf _ reply next = ⊥
 -- what a command leaves that found no memory; stats takes none
 abbrev pub IsLeft : Settings → Shelf → Command → Shelf → Type 0
 IsLeft settings shelf (add doc) next = LeavesSome settings shelf doc (first_broken settings.config doc) next
-IsLeft settings shelf (delete id) next = next ≡ shelf
-IsLeft settings shelf (replace doc) next = LeavesSome settings shelf doc (first_broken settings.config doc) next
 IsLeft settings shelf refresh next = next ≡ shelf
 IsLeft settings shelf (search None s) next = next ≡ shelf
 IsLeft settings shelf (ranges None c rs) next = next ≡ shelf

@@ -8,8 +8,8 @@ use Rattle.facet_model.specs.Documents.{Doc}
 use Rattle.facet_model.specs.Asks.{Asked, top, one_value, all_dims}
 use Rattle.facet_model.specs.Queries.{all}
 use Rattle.number_facets.specs.Values.{Range}
-use Rattle.facet_words.specs.Commands.{Search, Counted, Command, add, delete, replace, refresh, hold, release, search}
-use Rattle.facet_words.specs.Commands.{ranges, sums, document, stats, commit, merge}
+use Rattle.facet_words.specs.Commands.{Search, Counted, Command, add, refresh, hold, release, search, ranges, sums}
+use Rattle.facet_words.specs.Commands.{document, stats, commit, merge}
 use Rattle.facet_words.specs.Queries.{query_of}
 use Rattle.facet_words.specs.Shapes.{◌>>=◌, when, whole, signed, text_within, whole_within, list_within, path, key}
 use Rattle.facet_words.specs.Shapes.{key_or, keys_among}
@@ -37,24 +37,14 @@ ask_of d = option_or (top_ask d) (option_or (value_ask d) (dims_ask d))
 
 -- ---- the parts of commands
 
--- the id of a document
-abbrev pub document_id : Data → Option (List ℕ)
-document_id d = key (codes "id") (text_within 1 256) d
-
--- the document of an add or a replace
+-- the document of an add
 unfoldable pub added_of : Data → Option Doc
 added_of d = do
-  id ← document_id d
+  id ← key (codes "id") (text_within 1 256) d
   text ← key_or (codes "text") [] (text_within 0 65536) d
   facets ← key_or (codes "facets") [] (list_within 0 256 path) d
   when (keys_among (codes "cmd" ∷ codes "s" ∷ codes "id" ∷ codes "text" ∷ codes "facets" ∷ []) d)
       (record { id = id; text = text; labels = facets })
-
--- the id of a delete, with no further keys
-unfoldable pub deleted_of : Data → Option (List ℕ)
-deleted_of d = do
-  id ← document_id d
-  when (keys_among (codes "cmd" ∷ codes "s" ∷ codes "id" ∷ []) d) id
 
 -- how many hits a search may list, fewer if it shows their content
 abbrev pub most_hits : Bool → ℕ
@@ -171,8 +161,6 @@ stats_of d = do
 unfoldable pub command_named : List ℕ → Data → Option Command
 command_named name d =
     if bytes_eq name (codes "add") then option_map add (added_of d)
-    else (if bytes_eq name (codes "delete") then option_map delete (deleted_of d)
-    else (if bytes_eq name (codes "replace") then option_map replace (added_of d)
     else (if bytes_eq name (codes "refresh") then plain_of refresh d
     else (if bytes_eq name (codes "hold") then option_map hold (name_of d)
     else (if bytes_eq name (codes "release") then option_map release (name_of d)
@@ -183,7 +171,7 @@ command_named name d =
     else (if bytes_eq name (codes "stats") then stats_of d
     else (if bytes_eq name (codes "commit") then plain_of commit d
     else (if bytes_eq name (codes "merge") then plain_of merge d
-    else None))))))))))))
+    else None))))))))))
 
 -- the session's number, and the command
 unfoldable pub command_of : Data → Option (ℕ × Command)

@@ -38,8 +38,6 @@ settings_view s = record {
 
 abbrev pub command_view : Command → plain.Command
 command_view (commands.Add doc) = plain.add doc
-command_view (commands.Delete id) = plain.delete id
-command_view (commands.Replace doc) = plain.replace doc
 command_view commands.Refresh = plain.refresh
 command_view (commands.Hold name) = plain.hold name
 command_view (commands.Release name) = plain.release name

@@ -39,8 +39,6 @@ pub record Counted : Type 0 where
 -- With a name, a command sees the pair that the session holds under it; without one, the pair that was published last.
 pub data Command : Type 0 where
   add : Doc → Command
-  delete : List ℕ → Command
-  replace : Doc → Command
   refresh : Command
   hold : List ℕ → Command
   release : List ℕ → Command

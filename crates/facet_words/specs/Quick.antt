@@ -1,5 +1,6 @@
--- What is found in a line that brings a document, as its tokens are read one by one.
-use Rattle.std.specs.Prelude.{◌≡◌, ℕ, ◌≤◌, ◌++◌, true, List, [], ◌∷◌, codes, Option, Some, option_map}
+-- What is found in a line that adds a document, as its tokens are read one by one.
+use Rattle.std.specs.Prelude.{◌≡◌, ℕ, ◌≤◌, ◌++◌, Bool, true, List, [], ◌∷◌, codes, Option, Some, None, option_map}
+use Rattle.std.specs.Prelude.{if◌then◌else◌}
 use Rattle.json.specs.Token.{Token}
 use Rattle.json.specs.Json as json
 use Rattle.json.specs.Tree.{json_tokens, members_tokens, depth, members_depth}
@@ -7,25 +8,11 @@ use Rattle.serde_json.specs.Data.{Data, Items, no_items, item, Members, no_membe
 use Rattle.serde_json.specs.Data.{put}
 use Rattle.serde_json.specs.Find.{get_member}
 use Rattle.serde_json.specs.Read.{of_json, of_members}
-use Rattle.facet_model.specs.Documents.{Doc}
-use Rattle.facet_words.specs.Commands.{Command, add, replace}
 use Rattle.facet_words.specs.Shapes.{list_within, path, members_among}
-use Rattle.facet_words.specs.declared.quick.found.Brings.{Brings}
-use Rattle.facet_words.specs.declared.quick.found.Brings.TheVariants.{Add, Replace}
 use Rattle.facet_words.specs.declared.quick.found.Found.{Found}
 
--- the keys of such a line
-abbrev pub document_names : List (List ℕ)
-document_names = codes "cmd" ∷ codes "s" ∷ codes "id" ∷ codes "text" ∷ codes "facets" ∷ []
-
--- the name of a command that brings a document, and the command
-abbrev pub name_of : Brings → List ℕ
-name_of Add = codes "add"
-name_of Replace = codes "replace"
-
-abbrev pub command_with : Brings → Doc → Command
-command_with Add doc = add doc
-command_with Replace doc = replace doc
+abbrev pub add_names : List (List ℕ)
+add_names = codes "cmd" ∷ codes "s" ∷ codes "id" ∷ codes "text" ∷ codes "facets" ∷ []
 
 -- the items of an array of texts, as they are written, and as data
 abbrev pub written_texts : List (List ℕ) → json.Items
@@ -45,19 +32,19 @@ abbrev pub list_items : List (List (List ℕ)) → Items
 list_items [] = no_items
 list_items (l ∷ ls) = item (array (text_items l)) (list_items ls)
 
--- these are the members' values under the keys that such a line may have, and there is no other key
-pub record IsFound (found : Members) (session : Option ℕ) (brings : Option Brings) (id text : Option (List ℕ))
+-- these are the members' values under the keys that an add may have, and there is no other key
+pub record IsFound (found : Members) (session : Option ℕ) (adds : Bool) (id text : Option (List ℕ))
     (labels : Option (List (List (List ℕ)))) : Type 0 where
   pub s_is : get_member (codes "s") found ≡ option_map (λ n. number (unsigned n)) session
-  pub cmd_is : get_member (codes "cmd") found ≡ option_map (λ b. string (name_of b)) brings
+  pub cmd_is : get_member (codes "cmd") found ≡ (if adds then Some (string (codes "add")) else None)
   pub id_is : get_member (codes "id") found ≡ option_map string id
   pub text_is : get_member (codes "text") found ≡ option_map string text
   pub facets_is : get_member (codes "facets") found ≡ option_map (λ ls. array (list_items ls)) labels
   pub paths : (ls : List (List (List ℕ))) → labels ≡ Some ls → list_within 0 256 path (array (list_items ls)) ≡ Some ls
-  pub among : members_among document_names found ≡ true
+  pub among : members_among add_names found ≡ true
 
 abbrev pub HasFound : Members → Found → Type 0
-HasFound ms f = IsFound ms f.session f.brings (option_map (λ s. s.now) f.id) (option_map (λ s. s.now) f.text)
+HasFound ms f = IsFound ms f.session f.adds (option_map (λ s. s.now) f.id) (option_map (λ s. s.now) f.text)
     (option_map (λ v. v.items) f.facets)
 
 -- the value of a key comes first among the tokens, and what was found has it

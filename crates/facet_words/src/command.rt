@@ -7,19 +7,11 @@ use number_facets::Range;
 /// pair that was published last.
 #[derive(Debug, Drop)]
 pub enum Command {
-    /// Adds a document at the end.
+    /// Adds a document at the end of the history.
     Add {
         doc: Document,
     },
-    /// Deletes each document with the id, a text of 1 to 256 bytes.
-    Delete {
-        id: Word,
-    },
-    /// Deletes each document with the document's id, and adds the document at the end, in one operation.
-    Replace {
-        doc: Document,
-    },
-    /// Publishes a pair of all operations so far, and of their labels.
+    /// Publishes a pair of all documents that were added so far, and of their labels.
     Refresh,
     /// Holds the pair that was published last under a name of 1 to 64 bytes, until it is released.
     Hold {
@@ -59,7 +51,7 @@ pub enum Command {
     Stats {
         on: Option<Word>,
     },
-    /// Makes all operations so far durable.
+    /// Makes everything that was added so far durable.
     Commit,
     /// Merges the segments of the index into one. It changes no document, no label and no pair.
     Merge,

@@ -1,9 +1,9 @@
 ghost use Rattle.std.specs.Prelude.{◌≡◌, ◌≢◌, IfOk, IfErr, Ok, Err, option_map};
 ghost use Rattle.serde_json.specs.View.{view};
 ghost use Rattle.facet_words.specs.CommandViews.{search_view, command_view, order_view};
-ghost use Rattle.facet_words.specs.CommandLines.{added_of, deleted_of, name_of, search_of, ranges_of, sums_of};
-ghost use Rattle.facet_words.specs.CommandLines.{document_of, stats_of, command_named, command_of};
-ghost use Rattle.facet_words.specs.Commands.{add, delete, replace, hold, release, search};
+ghost use Rattle.facet_words.specs.CommandLines.{added_of, name_of, search_of, ranges_of, sums_of, document_of};
+ghost use Rattle.facet_words.specs.CommandLines.{stats_of, command_named, command_of};
+ghost use Rattle.facet_words.specs.Commands.{add, hold, release, search};
 ghost use Rattle.facet_words.specs.Scripts.{order_of, ends_phase, line_of, line_at};
 ghost use Rattle.facet_words.specs.declared.fault.ScriptFault.TheVariants.{NoMemory as Memory};
 
@@ -11,10 +11,8 @@ use crate::command::{Command, Order};
 use crate::fault::ScriptFault;
 use crate::held_name::{name_in, on_at};
 use crate::lines::line_value;
-use crate::parts::{
-    SearchLine, added_in, counted_in, deleted_in, heading_in, place_in, plain_in, searched_in,
-};
-use crate::quick::read_document_line;
+use crate::parts::{SearchLine, added_in, counted_in, heading_in, place_in, plain_in, searched_in};
+use crate::quick::read_add;
 use crate::ranges::ranges_at;
 use crate::shape::{index_in, keys_among};
 use facet_model::Word;
@@ -28,24 +26,6 @@ fn add_in(alloc: Global, value: &Value) -> Result<Option<Command>, NoMemory>
 {
     match added_in(alloc, value)? {
         Some(doc) => Ok(Some(Command::Add { doc })),
-        None => Ok(None),
-    }
-}
-
-fn delete_in(alloc: Global, value: &Value) -> Result<Option<Command>, NoMemory>
-    ensures { IfOk result (λ o. option_map command_view o ≡ option_map delete (deleted_of (view value.now))) }
-{
-    match deleted_in(alloc, value)? {
-        Some(id) => Ok(Some(Command::Delete { id })),
-        None => Ok(None),
-    }
-}
-
-fn replace_in(alloc: Global, value: &Value) -> Result<Option<Command>, NoMemory>
-    ensures { IfOk result (λ o. option_map command_view o ≡ option_map replace (added_of (view value.now))) }
-{
-    match added_in(alloc, value)? {
-        Some(doc) => Ok(Some(Command::Replace { doc })),
         None => Ok(None),
     }
 }
@@ -164,8 +144,6 @@ fn command_in(alloc: Global, name: &str, value: &Value) -> Result<Option<Command
 {
     match name {
         "add" => add_in(alloc, value),
-        "delete" => delete_in(alloc, value),
-        "replace" => replace_in(alloc, value),
         "refresh" => Ok(plain_in(value, Command::Refresh)),
         "hold" => hold_in(alloc, value),
         "release" => release_in(alloc, value),
@@ -261,7 +239,7 @@ pub fn read_line(
     ensures ok { IfOk result (λ o. line_at line bytes.now ≡ Ok (option_map order_view o)) }
     ensures err { IfErr result (λ e. e ≢ Memory → line_at line bytes.now ≡ Err e) }
 {
-    match read_document_line(alloc, scratch, line, bytes)? {
+    match read_add(alloc, scratch, line, bytes)? {
         Some(order) => Ok(Some(order)),
         None => read_any(alloc, line, bytes),
     }

@@ -4,8 +4,8 @@ ghost use Rattle.serde_json.specs.View.{view};
 ghost use Rattle.facet_model.specs.Queries.{all};
 ghost use Rattle.facet_model.specs.QueryViews.{query_view};
 ghost use Rattle.facet_words.specs.CommandViews.{counted_view, search_view};
-ghost use Rattle.facet_words.specs.CommandLines.{added_of, counted_with, deleted_of, document_id, heading_of};
-ghost use Rattle.facet_words.specs.CommandLines.{most_hits as most, place_with, plain_of, search_with};
+ghost use Rattle.facet_words.specs.CommandLines.{added_of, counted_with, heading_of, most_hits as most, place_with};
+ghost use Rattle.facet_words.specs.CommandLines.{plain_of, search_with};
 ghost use Rattle.facet_words.specs.Queries.{query_of};
 ghost use Rattle.facet_words.specs.SearchParts.{search_settings, settled_search};
 ghost use Rattle.facet_words.specs.Shapes.{key, key_or, is_within, list_within, path, text_within};
@@ -84,20 +84,14 @@ pub(crate) fn new_document(
     }
 }
 
-fn id_at(value: &Value) -> Option<&str>
-    ensures { option_map (λ id. id.now) result ≡ document_id (view value.now) }
-{
-    value.get("id").and_then(|found| text_in(found, 1, 256))
-}
-
-/// Reads the document of an add or a replace, or returns `None` if the object does not have the form of one.
+/// Reads the document of an add, or returns `None` if the object does not have the form of one.
 ///
 /// Errors: out of memory.
 #[tactic(auto, unfolding(crate::specs::CommandLines::added_of))]
 pub fn added_in(alloc: Global, value: &Value) -> Result<Option<Document>, NoMemory>
     ensures { IfOk result (λ o. o ≡ added_of (view value.now)) }
 {
-    let Some(id) = id_at(value) else {
+    let Some(id) = value.get("id").and_then(|found| text_in(found, 1, 256)) else {
         return Ok(None);
     };
     let Some(text) = value
@@ -112,23 +106,6 @@ pub fn added_in(alloc: Global, value: &Value) -> Result<Option<Document>, NoMemo
     if keys_among(value, &["cmd", "s", "id", "text", "facets"]) {
         let doc = new_document(alloc, id, text, facets)?;
         Ok(Some(doc))
-    } else {
-        Ok(None)
-    }
-}
-
-/// Reads the id of a delete, or returns `None` if the object does not have the form of one.
-///
-/// Errors: out of memory.
-#[tactic(auto, unfolding(crate::specs::CommandLines::deleted_of))]
-pub fn deleted_in(alloc: Global, value: &Value) -> Result<Option<Word>, NoMemory>
-    ensures { IfOk result (λ o. o ≡ deleted_of (view value.now)) }
-{
-    let Some(id) = id_at(value) else {
-        return Ok(None);
-    };
-    if keys_among(value, &["cmd", "s", "id"]) {
-        Word::new(alloc, id)
     } else {
         Ok(None)
     }

@@ -41,7 +41,6 @@ fn tally_of(reply: Reply) -> Tally
     let mut tally = Tally::new();
     match reply {
         Reply::Placed { at: _ } => tally.added = 1,
-        Reply::Changed { at: _, deleted: _ } => {}
         Reply::Number { n: _ } => {}
         Reply::Found {
             n: _,

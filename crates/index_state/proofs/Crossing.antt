@@ -1,7 +1,6 @@
 -- An index may cross threads, and what it shares may be shared by them.
 use denote.Param.Send.{IsSend, IsSync, sendable}
 use Rattle.std.proofs.Crossing.{crosses as owned}
-use Rattle.std.proofs.MapsCrossing.{crosses as maps}
 use Rattle.arc_list.specs.contracts.list.ArcList as segments
 use Rattle.chronicle.proofs.Crossing.{crosses as tokens}
 use Rattle.facet_config.specs.contracts.config.FacetsConfig as config
@@ -9,9 +8,6 @@ use Rattle.facet_model.specs.contracts.document.Document as document
 use Rattle.seg_file.specs.contracts.segment.Segment as segment
 use Rattle.seg_terms.specs.contracts.entry.Entry as entry
 use Rattle.taxo_cache.proofs.Crossing.{path_send}
-use Rattle.live_ids.specs.contracts.arrived.Arrived as arrived
-use Rattle.live_ids.specs.contracts.ids.LiveIds as ids
-use Rattle.live_parts.specs.contracts.part.Part as part
 use Rattle.index_state.specs.contracts.state.IndexState as state
 use Rattle.index_state.specs.contracts.view.IndexView as view
 
@@ -33,15 +29,6 @@ document_send = search (sendable, owned, path_send) depth 20
 entry_send : IsSend entry.the_row
 entry_send = search (sendable, owned, document_send) depth 20
 
-part_send : IsSend part.the_row
-part_send = search (sendable, owned, segment_send, segment_sync) depth 20
-
-ids_send : IsSend ids.the_row
-ids_send = search (sendable, owned, maps) depth 40
-
-arrived_send : IsSend arrived.the_field.row
-arrived_send = search (sendable, owned, ids_send) depth 20
-
 pub config_send : IsSend config.the_row
 config_send = search (sendable, owned) depth 40
 
@@ -49,7 +36,7 @@ pub config_sync : IsSync config.the_row
 config_sync = search (sendable, owned) depth 40
 
 pub state_send : IsSend state.the_row
-state_send = search (sendable, owned, tokens, segment_send, segment_sync, segments_send, part_send, arrived_send, entry_send, config_send, config_sync) depth 20
+state_send = search (sendable, owned, tokens, segment_send, segment_sync, segments_send, entry_send, config_send, config_sync) depth 20
 
 pub view_send : IsSend view.the_row
 view_send = search (sendable, owned, tokens, segments_send) depth 20

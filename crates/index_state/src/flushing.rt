@@ -1,108 +1,37 @@
-//! Lists of parts and of documents that wait: taking out those that are gone, adding a part, and sharing the segments.
-ghost use Rattle.std.specs.Prelude.{◌≡◌, ◌≤◌, ℕ, List, [], length, map, replicate, IfOk, OnOk, OnErr};
-ghost use Rattle.std.specs.List.{zip};
-ghost use Rattle.std.specs.List.Sorted.{IsNonDecreasing};
+//! Lists of segments: adding one, replacing several by one, sharing them, and counting their documents.
+ghost use Rattle.std.specs.Prelude.{◌≡◌, ◌≢◌, ◌≤◌, ◌<◌, ◌+◌, ◌++◌, [], ◌∷◌, length, map, take, drop, replicate, IfErr};
+ghost use Rattle.std.specs.Prelude.{IfOk, OnOk};
 ghost use Rattle.std.specs.Arc.{arc_value};
-ghost use Rattle.seg_postings.specs.Rising.{IsRising};
-ghost use Rattle.seg_documents.specs.Decoding.{docs_in, records_in};
-ghost use Rattle.seg_documents.specs.Storing.{AreStored};
-ghost use Rattle.facet_model.specs.Documents.{Doc};
-ghost use Rattle.facet_model.specs.Flags.{Config};
-ghost use Rattle.facet_model.specs.Stored.{Decodes};
-ghost use Rattle.live_ids.specs.Lists.{left};
-ghost use Rattle.live_ids.specs.Tracking.{Tracks, gone_of, count_of};
-ghost use Rattle.live_parts.specs.Parts.{segments_in, numbered_in, AreParts};
-ghost use Rattle.index_state.specs.Kept.{IsFirst, HasNewPart, IsOwn};
+ghost use Rattle.seg_grammar.specs.Spelling.{IsSegment, seg_bytes};
+ghost use Rattle.seg_terms.specs.Entries.{segment_of};
+ghost use Rattle.seg_documents.specs.Decoding.{flushed, records_in};
+ghost use Rattle.index_state.specs.Kept.{IsFirst};
 
 use arc_list::ArcList;
 use facet_names::NoMemory;
-use live_ids::{Arrived, is_among};
-use live_parts::{Part, thin_all};
 use seg_file::{Entry, Segment};
 use std::alloc::Global;
 use std::hash::RandomState;
 use std::sync::Arc;
 
-/// Takes out each entry whose number is gone, with its number. The others keep their order. It allocates nothing and
-/// goes over the entries once, with a binary search in `gone` for each.
-pub fn keep_others(waiting: &mut Vec<Entry>, numbers: &mut Vec<u64>, gone: &[u64])
-    requires beside { length numbers.old.items ≡ length waiting.old.items }
-    requires order { IsNonDecreasing gone.now }
-    ensures beside { length numbers.new.items ≡ length waiting.new.items }
-    ensures left { zip numbers.new.items waiting.new.items ≡ left gone.now (zip numbers.old.items waiting.old.items) }
-{
-    let mut kept = 0;
-    for at in 0..waiting.len() {
-        if !is_among(gone, numbers[at]) {
-            waiting.swap(kept, at);
-            numbers.swap(kept, at);
-            kept += 1;
-        }
-    }
-    waiting.truncate(kept);
-    numbers.truncate(kept);
-}
-
-/// Takes the documents that are gone out of the parts and out of the entries that wait. A part without a live record
-/// leaves the list.
-///
-/// Errors: out of memory. Then nothing changes.
-pub fn take_gone(
-    alloc: Global,
-    parts: &mut Vec<Part>,
-    waiting: &mut Vec<Entry>,
-    numbers: &mut Vec<u64>,
-    arrived: &mut Arrived,
-) -> Result<(), NoMemory>
-    requires parts { AreParts parts.old.items }
-    requires beside { length numbers.old.items ≡ length waiting.old.items }
-    ensures parts { OnOk result (AreParts parts.new.items) }
-    ensures left { OnOk result ((known : List (List (List ℕ))) → numbered_in known parts.new.items
-        ≡ left (gone_of arrived.old) (numbered_in known parts.old.items)) }
-    ensures decodes { OnOk result ((known : List (List (List ℕ))) (config : Config) (docs : List Doc)
-        → Decodes known config (segments_in parts.old.items) docs
-        → Decodes known config (segments_in parts.new.items) (docs_in known (segments_in parts.new.items))) }
-    ensures stored { OnOk result (AreStored (segments_in parts.old.items) → AreStored (segments_in parts.new.items)) }
-    ensures beside { OnOk result (length numbers.new.items ≡ length waiting.new.items) }
-    ensures others { OnOk result (zip numbers.new.items waiting.new.items
-        ≡ left (gone_of arrived.old) (zip numbers.old.items waiting.old.items)) }
-    ensures none { OnOk result (gone_of arrived.new ≡ []) }
-    ensures count { OnOk result (count_of arrived.new ≡ count_of arrived.old) }
-    ensures tracks { OnOk result ((next : ℕ) (xs : List (ℕ × Doc)) → Tracks arrived.old next xs
-        → Tracks arrived.new next (left (gone_of arrived.old) xs)) }
-    ensures same_parts { OnErr result (parts.new.items ≡ parts.old.items) }
-    ensures same_waiting { OnErr result (waiting.new.items ≡ waiting.old.items) }
-    ensures same_numbers { OnErr result (numbers.new.items ≡ numbers.old.items) }
-    ensures same_arrived { OnErr result (arrived.new ≡ arrived.old) }
-{
-    let gone = arrived.sorted_gone(alloc)?;
-    *parts = thin_all(alloc, parts, &gone)?;
-    keep_others(waiting, numbers, &gone);
-    arrived.settle();
-    Ok(())
-}
-
-/// Makes one part of the entries, if there are any, after the other parts, and returns how many documents it has.
+/// Makes one segment of the entries, if there are any, after the other segments, and returns how many documents it has.
 ///
 /// Errors: out of memory. Then nothing changes.
 pub fn flush(
     alloc: Global,
     keys: RandomState,
-    parts: &mut Vec<Part>,
+    segments: &mut Vec<Arc<Segment>>,
     entries: &mut Vec<Entry>,
-    numbers: &mut Vec<u64>,
 ) -> Result<u32, NoMemory>
-    requires few { length entries.old.items ≤ 1000000 }
-    requires beside { length numbers.old.items ≡ length entries.old.items }
-    requires rise { IsRising numbers.old.items }
+    requires { length entries.old.items ≤ 1000000 }
     ensures added { IfOk result (λ n. n ≡ length entries.old.items) }
-    ensures parts { OnOk result (HasNewPart parts.old.items entries.old.items numbers.old.items parts.new.items) }
-    ensures own { OnOk result (IsOwn entries.old.items) }
+    ensures segments { OnOk result (map arc_value segments.new.items
+        ≡ flushed (map arc_value segments.old.items) entries.old.items) }
+    ensures own { OnOk result (entries.old.items ≢ []
+        → IsSegment (seg_bytes (segment_of entries.old.items)) (segment_of entries.old.items)) }
     ensures entries { OnOk result (entries.new.items ≡ []) }
-    ensures numbers { OnOk result (numbers.new.items ≡ []) }
-    ensures same_parts { OnErr result (parts.new.items ≡ parts.old.items) }
-    ensures same_entries { OnErr result (entries.new.items ≡ entries.old.items) }
-    ensures same_numbers { OnErr result (numbers.new.items ≡ numbers.old.items) }
+    ensures same_segments { IfErr result (λ _. segments.new.items ≡ segments.old.items) }
+    ensures same_entries { IfErr result (λ _. entries.new.items ≡ entries.old.items) }
 {
     if entries.is_empty() {
         return Ok(0);
@@ -110,15 +39,41 @@ pub fn flush(
     let segment = Segment::build(alloc, keys, entries)?;
     let docs = segment.docs();
     let segment = Arc::new(alloc, segment)?;
-    let part = Part::new(alloc, segment, Vec::from_slice(alloc, numbers)?)?;
-    parts.push(part)?;
+    segments.push(segment)?;
     entries.clear();
-    numbers.clear();
     Ok(docs)
 }
 
-/// Returns the segments of all parts as a shared list. `shared` has the first of them, as the last such list did; it
-/// gets the others too.
+/// Replaces `count` segments from `first` on by one. It allocates nothing, and moves the later segments once.
+pub fn put_merged(
+    segments: &mut Vec<Arc<Segment>>,
+    first: usize,
+    count: usize,
+    merged: Arc<Segment>,
+)
+    requires some { 0 < count }
+    requires range { first + count ≤ length segments.old.items }
+    ensures { segments.new.items ≡ take first segments.old.items ++ merged ∷ drop (first + count) segments.old.items }
+{
+    segments[first] = merged;
+    segments.drain(first + 1..first + count);
+}
+
+/// Returns the same segments, each with one owner more.
+///
+/// Errors: out of memory.
+pub fn shared(alloc: Global, segments: &[Arc<Segment>]) -> Result<Vec<Arc<Segment>>, NoMemory>
+    ensures { IfOk result (λ again. map arc_value again.items ≡ map arc_value segments.now) }
+{
+    let mut again = Vec::with_capacity(alloc, segments.len())?;
+    for segment in segments {
+        again.push(Arc::try_clone(segment)?)?;
+    }
+    Ok(again)
+}
+
+/// Returns all segments as a shared list. `shared` has the first of them, as the last such list did; it gets the others
+/// too.
 ///
 /// It allocates eight bytes per segment that was not in it, per 256 segments, and per segment after the last full
 /// piece.
@@ -126,17 +81,33 @@ pub fn flush(
 /// Errors: out of memory. Then `shared` may have got some of them, from the first on.
 pub fn share_all(
     shared: &mut ArcList<Segment>,
-    parts: &[Part],
+    segments: &[Arc<Segment>],
 ) -> Result<ArcList<Segment>, NoMemory>
-    requires { IsFirst shared.old (segments_in parts.now) }
-    ensures all { IfOk result (λ list. list ≡ segments_in parts.now) }
-    ensures begins { IsFirst shared.new (segments_in parts.now) }
+    requires { IsFirst shared.old (map arc_value segments.now) }
+    ensures all { IfOk result (λ list. list ≡ map arc_value segments.now) }
+    ensures begins { IsFirst shared.new (map arc_value segments.now) }
 {
-    for at in shared.len()..parts.len() {
-        shared.push(Arc::try_clone(&parts[at].segment)?)?;
-    }
+    let (_, new) = segments.split_at(shared.len());
+    shared.extend_shared(new)?;
     let list = shared.share()?;
     Ok(list)
+}
+
+/// The segments from one on once more, and how many documents those before it have.
+pub fn shared_from(
+    alloc: Global,
+    segments: &[Arc<Segment>],
+    first: usize,
+) -> Result<(Vec<Arc<Segment>>, u64), NoMemory>
+    requires within { first ≤ length segments.now }
+    requires few { length (records_in (map arc_value segments.now)) ≤ 1000000 }
+    ensures range { IfOk result (λ r. map arc_value r.0.items ≡ drop first (map arc_value segments.now)) }
+    ensures before { IfOk result (λ r. r.1 ≡ length (records_in (take first (map arc_value segments.now)))) }
+{
+    let (front, range) = segments.split_at(first);
+    let before = count_documents(front) as u64;
+    let again = shared(alloc, range)?;
+    Ok((again, before))
 }
 
 /// Returns how many documents these segments have, without those that are not live.

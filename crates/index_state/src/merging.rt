@@ -1,5 +1,5 @@
-//! Lists of parts: their sizes, their segments as a list that can be merged, and one part in the place of several.
-ghost use Rattle.std.specs.Prelude.{◌≡◌, ◌<◌, ◌≤◌, ◌+◌, ◌++◌, ℕ, List, [], ◌∷◌, IfOk, length, map, take, drop};
+//! Segments that become one.
+ghost use Rattle.std.specs.Prelude.{◌≡◌, ◌<◌, ◌≤◌, ℕ, List, [], ◌∷◌, IfOk, length, map};
 ghost use Rattle.std.specs.Arc.{arc_value};
 ghost use Rattle.facet_model.specs.Documents.{Doc};
 ghost use Rattle.facet_model.specs.Flags.{Config};
@@ -7,51 +7,28 @@ ghost use Rattle.facet_model.specs.Stored.{Decodes};
 ghost use Rattle.seg_documents.specs.Decoding.{records_in};
 ghost use Rattle.seg_documents.specs.Storing.{IsStored};
 ghost use Rattle.seg_merge.specs.Merged.{IsMergeOf};
-ghost use Rattle.live_parts.specs.Parts.{segments_in};
 ghost use Rattle.index_state.specs.Merging.{live_sizes};
 
 use facet_names::NoMemory;
-use live_parts::Part;
 use seg_file::Segment;
 use std::alloc::Global;
 use std::hash::RandomState;
 use std::sync::Arc;
 
 /// How many live documents each segment has.
-pub(crate) fn live_sizes(alloc: Global, parts: &[Part]) -> Result<Vec<u32>, NoMemory>
-    ensures { IfOk result (λ v. v.items ≡ live_sizes (segments_in parts.now)) }
+pub(crate) fn live_sizes(alloc: Global, segments: &[Arc<Segment>]) -> Result<Vec<u32>, NoMemory>
+    ensures { IfOk result (λ v. v.items ≡ live_sizes (map arc_value segments.now)) }
 {
-    let mut sizes = Vec::with_capacity(alloc, parts.len())?;
-    for part in parts {
-        sizes.push(part.segment.live())?;
+    let mut sizes = Vec::with_capacity(alloc, segments.len())?;
+    for segment in segments {
+        sizes.push(segment.live())?;
     }
     Ok(sizes)
 }
 
-/// The segments of the parts, each with one owner more.
-pub(crate) fn shared(alloc: Global, parts: &[Part]) -> Result<Vec<Arc<Segment>>, NoMemory>
-    ensures { IfOk result (λ again. map arc_value again.items ≡ segments_in parts.now) }
-{
-    let mut again = Vec::with_capacity(alloc, parts.len())?;
-    for part in parts {
-        again.push(Arc::try_clone(&part.segment)?)?;
-    }
-    Ok(again)
-}
-
-/// Replaces `count` parts from `first` on by one. It allocates nothing, and moves the later parts once.
-pub(crate) fn put_merged(parts: &mut Vec<Part>, first: usize, count: usize, merged: Part)
-    requires some { 0 < count }
-    requires range { first + count ≤ length parts.old.items }
-    ensures { parts.new.items ≡ take first parts.old.items ++ merged ∷ drop (first + count) parts.old.items }
-{
-    parts[first] = merged;
-    parts.drain(first + 1..first + count);
-}
-
 /// Returns one segment of the live documents of these segments, in their order, as [`seg_merge::merge`]. The segments
 /// decode under some labels, and at least one document is live. Under all labels and configs under which they decode,
-/// the merged segment decodes to the same documents. All its records are live.
+/// the merged segment decodes to the same documents.
 ///
 /// It needs no lock and waits for nobody. Its time is that of writing the merged segment, with a lookup for each term
 /// of each segment. Meanwhile it allocates memory for the terms with their places; the segments and the merged one are
@@ -68,7 +45,6 @@ pub fn merge_segments(
     ensures merge { IfOk result (λ m. IsMergeOf (map arc_value segments.now) (arc_value m)) }
     ensures documents { IfOk result (λ m. (known : List (List (List ℕ))) (config : Config) (docs : List Doc)
         → Decodes known config (map arc_value segments.now) docs → Decodes known config (arc_value m ∷ []) docs) }
-    ensures whole { IfOk result (λ m. (arc_value m).dead ≡ []) }
     ensures own { IfOk result (λ m. IsStored (arc_value m)) }
 {
     let merged = seg_merge::merge(alloc, keys, segments)?;

@@ -13,6 +13,6 @@ pub struct LiveEnded<X: Duplex, D: Disk> {
     pub io: X,
     /// The disk, which can be opened again.
     pub disk: D,
-    /// The labels, and for each operation its session. `None` if no session began.
+    /// What the sessions added. `None` if no session began.
     pub trace: Option<Trace>,
 }

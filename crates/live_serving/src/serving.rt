@@ -264,8 +264,7 @@ fn serve_first<R: Threads + Wait + Sync, X: Duplex, D: Disk, G: Gate + Sync>(
 /// It blocks while it reads and writes, and where the sessions of a phase wait. Besides the documents it keeps one line
 /// or group and the replies to it in memory.
 ///
-/// The result is the status, the input and output, the disk, and, if sessions began, a trace: the labels, and for each
-/// operation its session.
+/// The result is the status, the input and output, the disk, and, if sessions began, a trace of what they added.
 pub fn serve_live<R: Threads + Wait + Sync, X: Duplex, D: Disk, G: Gate + Sync>(
     rt: &R,
     alloc: Global,

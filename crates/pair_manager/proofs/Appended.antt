@@ -1,16 +1,10 @@
--- A change that was made, or refused for want of room.
-use Rattle.std.proofs.Common.{◌≡◌, ◌∙◌, ◌<◌, ℕ, zero, suc, List, [], ◌∷◌, ◌++◌, Result, Ok, Err, length, sym, ap, subst, arith}
-use Rattle.std.specs.Prelude.{All, IfOk, OnOk}
-use Rattle.std.proofs.lemmas.List.{length-map}
-use Rattle.chronicle.specs.Frame.{Frame}
-use Rattle.chronicle.specs.History.{entries, own_of}
-use Rattle.chronicle.specs.Shown.{Shown, SameToken, SeesOn}
-use Rattle.facet_model.specs.Documents.{Doc}
-use Rattle.facet_model.specs.Histories.{Change, add, delete, replace, Operation, left_by, count_deleted}
-use Rattle.index_state.specs.Index.{Index, StandsFor}
-use Rattle.index_state.specs.Frames.{frame_of}
-use Rattle.index_state.specs.declared.done.Done.{Done}
-use Rattle.pair_manager.specs.Appended.{HasRoom, IsPlaced}
+-- How many documents there may be, and whether one more fits.
+use Rattle.std.proofs.Common.{◌≡◌, ◌≢◌, ◌∙◌, ◌<◌, ◌≤◌, ℕ, zero, suc, List, [], ◌∷◌, Result, Ok, Err, sym, subst, arith}
+use Rattle.std.specs.Prelude.{All}
+use native.Mathlib.Decide.{dec_lt}
+use mathlib.Core.Logic.{dite}
+use Rattle.index_state.specs.declared.fault.AppendFault.{AppendFault}
+use Rattle.index_state.specs.declared.fault.AppendFault.TheVariants.{DocsFull, NoMemory}
 
 -- what holds of one holds of all that stand in a list of it alone
 pub all_one : {X : Type 0} (P : X → Type 0) (x : X) → P x → All P (x ∷ [])
@@ -21,28 +15,22 @@ all_one P x p (suc k) d lt = absurd (omega arith)
 pub only_one : (P : ℕ → Type 0) (numbers : List ℕ) (n : ℕ) → numbers ≡ n ∷ [] → All P numbers → P n
 only_one P numbers n is all = let one : All P (n ∷ []) = subst (All P) is all in one 0 n (omega arith)
 
--- fewer documents are left than one number
-pub has_room : (change : Change) (ds : List Doc) (most : ℕ) → length (left_by change ds) < most → HasRoom change ds (most ∷ [])
-has_room (add doc) ds most low = all_one (λ n. length ds < n) most low
-has_room (delete id) ds most low = tt
-has_room (replace doc) ds most low = all_one (λ n. length (left_by (replace doc) ds) < n) most low
+-- where a document was appended there was room for it
+pub room_left : (most many at : ℕ) → (most ≤ many → (let x : Result ℕ AppendFault = Ok at in x) ≡ Err (DocsFull many)) → many < most
+room_left most many at full = dite (dec_lt many most) (λ lt. lt) (λ none. absurd (apart (full (omega (arith, none)))))
+  where
+    apart : (let x : Result ℕ AppendFault = Ok at in x) ≡ Err (DocsFull many) → ⊥
+    apart e = cc
 
--- The index of a history was changed as an operation says, which was then entered. The token had seen `old` before.
-module _ {E : Type 0} (old taken given : Shown Operation) (index : Index) (operation entered : Operation) where
-  pub placed : (done : Result Done E) → StandsFor index (entries taken.seen) → frame_of index ≡ taken.frame → SameToken old taken → SeesOn old taken → entered ≡ operation → IfOk done (λ d. d.at ≡ length index.sessions)
-      → IfOk done (λ d. d.deleted ≡ count_deleted index.docs operation.change) → OnOk done (HasRoom operation.change index.docs (index.max_docs ∷ [])) → OnOk done (given.seen ≡ taken.seen ++ (taken.number, entered) ∷ [])
-      → IfOk done (λ d. IsPlaced d operation old given)
-  placed (Ok d) stands framed same more is place deleted room seen =
-      let sizes : length index.sessions ≡ length taken.seen = ap length stands.numbers ∙ length-map (entries taken.seen) (λ (o : Operation). o.session) ∙ length-map taken.seen (λ (x : ℕ × Operation). x.1) in
-      record {
-        enters = record {
-          between = taken.seen;
-          on = more.0;
-          none = (λ i. own_of (sym same.2 i) (sym same.0 i) taken.seen) ∙ more.1;
-          seen = seen ∙ (λ i. taken.seen ++ (same.0 i, is i) ∷ []);
-        };
-        place = place ∙ sizes;
-        deleted = deleted ∙ ap (λ (ds : List Doc). count_deleted ds operation.change) stands.documents;
-        room = subst (λ (T : Type 0). T) (λ i. HasRoom operation.change (stands.documents i) (ap (λ (f : Frame). f.numbers) (framed ∙ same.4) i)) room;
-      }
-  placed (Err e) stands framed same more is place deleted room seen = tt
+-- a fault that tells a number of documents tells how many there are, which are no fewer than there may be
+pub is_full : (most many count : ℕ) (fault : AppendFault) → fault ≡ DocsFull count → (fault ≢ NoMemory → (fault ≡ DocsFull many) × (most ≤ many)) → (count ≡ many) × (most ≤ count)
+is_full most many count fault is refused =
+    let full = refused (λ memory. apart count (sym is ∙ memory)) in
+    let number : count ≡ many = same count many (sym is ∙ full.0) in
+    (number, omega (arith, number, full.1))
+  where
+    apart : (count : ℕ) → DocsFull count ≡ NoMemory → ⊥
+    apart count e = cc
+
+    same : (a b : ℕ) → DocsFull a ≡ DocsFull b → a ≡ b
+    same a b e = cc

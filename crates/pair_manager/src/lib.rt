@@ -1,7 +1,6 @@
 //! Published pairs of an index and a taxonomy, which searches hold, like Lucene's `SearcherTaxonomyManager`.
 #![tactic(auto)]
 
-mod changing;
 mod lease;
 mod manager;
 mod merging;

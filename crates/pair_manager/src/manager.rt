@@ -29,7 +29,7 @@ ghost use Rattle.pair_manager.specs.Merging.{AreShared, AreFrom, IsReplacedIn, I
 ghost use Rattle.pair_manager.specs.declared.merging.MergeScope.TheVariants.{All, Policy};
 
 use crate::lease::Lease;
-use crate::merging::{MergeScope, are_merged, replace, share};
+use crate::merging::{MergeScope, replace, share};
 use crate::opening::open_both;
 use crate::pair::Pair;
 use crate::pass::Pass;
@@ -69,8 +69,8 @@ pub struct Stats {
 pub struct Manager<N: Name> {
     alloc: Global,
     keys: RandomState,
-    pub(crate) writer: TaxoWriter<N>,
-    pub(crate) operations: Chronicle<IndexState>,
+    writer: TaxoWriter<N>,
+    operations: Chronicle<IndexState>,
     pairs: Chronicle<PairState>,
 }
 
@@ -149,8 +149,7 @@ impl<N: Name> Manager<N> {
 
     /// Returns the index as it is, as [`IndexState::snapshot`] does. The token has then seen exactly its operations.
     ///
-    /// Locks: that of the operations. In it, the deleted documents leave the segments, and the documents that wait
-    /// become a segment.
+    /// Locks: that of the operations. In it, the documents that wait become a segment.
     ///
     /// Errors: out of memory.
     pub fn take_index<R: Wait>(
@@ -178,7 +177,8 @@ impl<N: Name> Manager<N> {
         view
     }
 
-    // Shares the segments that are to be merged, under the lock of the operations, after the index was flushed.
+    // Shares the segments that are to be merged, under the lock of the operations, after the documents that wait have
+    // become a segment.
     fn share_segments<R: Wait>(
         &self,
         rt: &R,
@@ -190,10 +190,9 @@ impl<N: Name> Manager<N> {
         requires tied { token.old.frame.identities ≡ self.now.writer.labels ∷ [] }
         ensures token { SameToken token.old token.new × (token.new.holds_turn ≡ false) }
         ensures more { SeesOn token.old token.new }
-        ensures shared { IfOk result (λ r. AreShared self.now.writer.labels token.new r.labels
-            (arc_value r.numbers).items (map arc_value r.segments.items)) }
-        ensures from { IfOk result (λ r. AreFrom scope token.new r.labels (arc_value r.numbers).items
+        ensures shared { IfOk result (λ r. AreShared self.now.writer.labels token.new r.labels r.before
             (map arc_value r.segments.items)) }
+        ensures from { IfOk result (λ r. AreFrom scope token.new r.labels r.before (map arc_value r.segments.items)) }
         ensures some { IfOk result (λ r. 0 < length r.segments.items
             → 0 < length (records_in (map arc_value r.segments.items))) }
     {
@@ -208,7 +207,7 @@ impl<N: Name> Manager<N> {
         &self,
         rt: &R,
         token: &mut Token<Operation>,
-        numbers: Arc<Vec<u64>>,
+        before: u64,
         labels: Token<Path>,
         merged: Arc<Segment>,
         scope: MergeScope,
@@ -217,20 +216,17 @@ impl<N: Name> Manager<N> {
         requires idle { MayTake token.old }
         requires tied { token.old.frame.identities ≡ self.now.writer.labels ∷ [] }
         requires note { labels.holds_turn ≡ false }
-        requires shared { AreShared self.now.writer.labels token.old labels (arc_value numbers).items
-            (arc_value merged ∷ []) }
+        requires shared { AreShared self.now.writer.labels token.old labels before (arc_value merged ∷ []) }
         requires read { IsStored (arc_value merged) }
-        requires live { (arc_value merged).dead ≡ [] }
         ensures token { SameToken token.old token.new × (token.new.holds_turn ≡ false) }
         ensures more { SeesOn token.old token.new }
-        ensures replaced { OnOk result (IsReplacedIn scope (arc_value numbers).items (arc_value merged)
-            (entries token.new.seen)) }
+        ensures replaced { OnOk result (IsReplacedIn scope before (arc_value merged) (entries token.new.seen)) }
     {
         let mut index = self.operations.take(rt, token);
         let done = replace(
             &mut index,
             self.writer.labels(),
-            numbers,
+            before,
             labels,
             merged,
             scope,
@@ -255,27 +251,25 @@ impl<N: Name> Manager<N> {
     {
         let SegmentRange {
             segments,
-            numbers,
+            before,
             labels,
         } = self.share_segments(rt, token, scope)?;
-        if are_merged(&segments) {
+        if segments.len() < 2 {
             return Ok(());
         }
         let merged = merge_segments(self.alloc, self.keys, &segments)?;
-        self.replace_segments(rt, token, numbers, labels, merged, scope)
+        self.replace_segments(rt, token, before, labels, merged, scope)
     }
 
-    /// Merges all segments into one, and drops the records that are not live. The index is flushed first, as by
-    /// [`IndexState::flush`]. Documents and operations stay, and published pairs keep the segments that they have. If
-    /// there is at most one segment then, and each of its records is live, nothing else changes.
+    /// Merges all segments into one. The documents that wait become a segment first. Documents and operations stay, and
+    /// published pairs keep the segments that they have. With fewer than two segments nothing changes.
     ///
     /// Locks: that of the operations, twice: to share the segments, and to put the merged one in their place. It merges
-    /// in between, as [`merge_segments`], and holds no lock: other sessions add, delete and refresh meanwhile. What they
-    /// add stays as further segments. If the shared segments are no longer there, all segments are merged under the
-    /// second lock, and then others wait for it: another merge may have replaced them, or a refresh took deleted
-    /// documents out of them. All old segments and the merged one are in memory together.
+    /// in between, as [`merge_segments`], and holds no lock: other sessions add and refresh meanwhile. What they add
+    /// stays as further segments. If another merge has replaced the segments in between, all segments are merged under
+    /// the second lock, and then others wait for it. All old segments and the merged one are in memory together.
     ///
-    /// Errors: out of memory. The index may be flushed then, and nothing else has changed.
+    /// Errors: out of memory. The documents that waited may be a segment then, and nothing else has changed.
     pub fn merge<R: Wait>(&self, rt: &R, token: &mut Token<Operation>) -> Result<(), NoMemory>
         requires own { token.old.identity ≡ self.now.operations }
         requires idle { MayTake token.old }
@@ -288,15 +282,15 @@ impl<N: Name> Manager<N> {
     }
 
     /// Merges the segments that the policy names, as [`IndexState::first_to_merge`]: from the first that has less than
-    /// a third of the documents after it. The index is flushed first, as by [`IndexState::flush`]. If the policy names
-    /// none, nothing else changes.
+    /// a third of the documents after it. The documents that wait become a segment first. If the policy names none,
+    /// nothing else changes.
     ///
     /// Called after each of many additions, it leaves few segments and moves each document a few times.
     ///
-    /// Locks: that of the operations, twice, as [`merge`](Manager::merge). If the shared segments are no longer there,
-    /// it leaves the segments as they are and drops its own: adds of other sessions never wait for a merge.
+    /// Locks: that of the operations, twice, as [`merge`](Manager::merge). If another merge has replaced the segments
+    /// in between, it leaves the segments as they are and drops its own: adds of other sessions never wait for a merge.
     ///
-    /// Errors: out of memory. The index may be flushed then, and nothing else has changed.
+    /// Errors: out of memory. The documents that waited may be a segment then, and nothing else has changed.
     pub fn merge_few<R: Wait>(&self, rt: &R, token: &mut Token<Operation>) -> Result<(), NoMemory>
         requires own { token.old.identity ≡ self.now.operations }
         requires idle { MayTake token.old }
@@ -331,6 +325,48 @@ impl<N: Name> Manager<N> {
             → IsFullForOne e self.now.writer.limit (labels_of pass.new.labels.seen) paths.now) }
     {
         self.writer.resolve_each(rt, &mut pass.labels, paths)
+    }
+
+    /// Adds the document of an entry after all others, as an operation of this session, and returns the operation's
+    /// place, from 0. The entry has to be one under the labels that the pass has seen.
+    ///
+    /// Locks: that of the operations. In it, the document is only moved into memory, as by [`IndexState::append`].
+    ///
+    /// Errors: `DocsFull`; out of memory. Then no operation is entered.
+    pub fn append<R: Wait>(
+        &self,
+        rt: &R,
+        pass: &mut Pass,
+        session: u32,
+        entry: Entry,
+    ) -> Result<u64, AppendFault>
+        requires own { IsOf self.now pass.old }
+        requires entry { (config : Config) → config_texts config ≡ pass.old.operations.frame.texts
+            → IsEntry config (labels_of pass.old.labels.seen) entry }
+        ensures same { SamePass pass.old pass.new }
+        ensures rest { (pass.new.labels ≡ pass.old.labels) × (pass.new.pairs ≡ pass.old.pairs)
+            × (pass.new.commits ≡ pass.old.commits) }
+        ensures placed { IfOk result (λ at. IsPlaced at (record {
+          session = session;
+          change = add entry.doc;
+        }) pass.old.operations pass.new.operations) }
+        ensures none { OnErr result (SeesOn pass.old.operations pass.new.operations) }
+        ensures full { IfErr result (λ e. (count : ℕ) → e ≡ DocsFull count
+            → HasNoRoom (add entry.doc) count pass.new.operations) }
+    {
+        let operation = Operation::add(session, &entry.doc);
+        let mut index = self.operations.take(rt, &mut pass.operations);
+        match index.append(self.writer.labels(), &mut pass.labels, session, entry) {
+            Ok(at) => {
+                self.operations.enter(&mut pass.operations, operation);
+                self.operations.give(&mut pass.operations, index);
+                Ok(at)
+            }
+            Err(fault) => {
+                self.operations.give(&mut pass.operations, index);
+                Err(fault)
+            }
+        }
     }
 
     // Makes the next pair, of all operations and labels that there are. It shares the config of the last pair, and its
@@ -490,8 +526,8 @@ impl<N: Name> Manager<N> {
     /// has then seen exactly these.
     ///
     /// Locks: that of the pairs; in it, that of the operations and then that of the labels. So the labels cover the
-    /// documents. The deleted documents leave the segments, and the documents that wait become a segment first. Each new
-    /// label is copied, and at most 4,095 others; other sessions can add documents meanwhile.
+    /// documents. The documents that wait become a segment first. Each new label is copied, and at most 4,095 others;
+    /// other sessions can add documents meanwhile.
     ///
     /// The list of segments is shared with earlier pairs, as [`IndexState::snapshot`] says: it allocates eight bytes
     /// per new segment, per 256 segments, and per segment after the last full 256.

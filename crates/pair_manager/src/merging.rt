@@ -1,14 +1,13 @@
 //! What a merge does under the lock of the operations: first it shares segments, and later it replaces them by the
 //! merged one.
-ghost use Rattle.std.specs.Prelude.{◌≡◌, ◌≤◌, ◌<◌, ◌⊎◌, true, false, [], ◌∷◌, List, IfOk, OnOk, length, map};
-ghost use Rattle.std.specs.List.{zip};
+ghost use Rattle.std.specs.Prelude.{◌≡◌, ◌≤◌, ◌⊎◌, false, [], ◌∷◌, List, IfOk, OnOk, length, map};
 ghost use Rattle.std.specs.Arc.{arc_value};
 ghost use Rattle.facet_model.specs.Histories.{Operation as Entered};
 ghost use Rattle.seg_documents.specs.Storing.{IsStored};
 ghost use Rattle.taxo_cache.specs.Seen.{SeesLabels};
-ghost use Rattle.index_state.specs.Index.{StandsFor, AreBroughtBy, DecodeUnder, docs_under, IsTakenOut, IsFlushed};
+ghost use Rattle.index_state.specs.Index.{StandsFor, DecodeUnder, docs_under, IsFlushed};
 ghost use Rattle.index_state.specs.Frames.{frame_of};
-ghost use Rattle.index_state.specs.Merging.{AreMerged, IsRangeOf};
+ghost use Rattle.index_state.specs.Merging.{ComeAfter, IsRangeOf};
 ghost use Rattle.pair_manager.specs.Merging.{first_in, IsReplaced};
 
 use chronicle::{Chronicle, Token};
@@ -29,7 +28,6 @@ pub(crate) enum MergeScope {
 
 // Returns the first segment that becomes one with all segments after it.
 fn first_in(index: &IndexState, scope: MergeScope) -> Result<usize, NoMemory>
-    requires settled { index.now.gone ≡ [] }
     ensures first { IfOk result (λ n. n ≡ first_in scope index.now.segments) }
     ensures within { IfOk result (λ n. n ≤ length index.now.segments) }
 {
@@ -39,20 +37,8 @@ fn first_in(index: &IndexState, scope: MergeScope) -> Result<usize, NoMemory>
     }
 }
 
-/// Returns whether these segments are merged already: at most one, in which each record is live.
-pub(crate) fn are_merged(segments: &[Arc<Segment>]) -> bool
-    ensures merged { result ≡ true → AreMerged (map arc_value segments.now) }
-    ensures some { result ≡ false → 0 < length segments.now }
-{
-    match segments {
-        [] => true,
-        [only] => only.dead().is_empty(),
-        _ => false,
-    }
-}
-
-/// Shares the segments that are to be merged: all, or those from the policy's first one on. The index is flushed first,
-/// also where there is no memory for the rest.
+/// Shares the segments that are to be merged: all, or those from the policy's first one on. The documents that wait
+/// become a segment first, also where there is no memory for the rest.
 pub(crate) fn share(
     index: &mut IndexState,
     chronicle: &Chronicle<LabelList>,
@@ -61,23 +47,22 @@ pub(crate) fn share(
     requires own { index.old.labels.identity ≡ chronicle.now }
     ensures stands { (history : List Entered) → StandsFor index.old history → StandsFor index.new history }
     ensures frame { frame_of index.new ≡ frame_of index.old }
-    ensures rest { (index.new ≡ index.old) ⊎ IsTakenOut index.old index.new ⊎ IsFlushed index.old index.new }
+    ensures rest { (index.new ≡ index.old) ⊎ IsFlushed index.old index.new }
     ensures flushed { OnOk result (IsFlushed index.old index.new) }
-    ensures range { IfOk result (λ r. IsRangeOf index.new (first_in scope index.new.segments) r.labels
-        (arc_value r.numbers).items (map arc_value r.segments.items)) }
+    ensures range { IfOk result (λ r. IsRangeOf index.new (first_in scope index.new.segments) r.labels r.before
+        (map arc_value r.segments.items)) }
 {
     index.flush()?;
     let first = first_in(index, scope)?;
     index.segments_from(chronicle, first)
 }
 
-/// Puts a merged segment in the place of those that were shared. If these are no longer there, since another merge
-/// replaced them or some of their documents were deleted, all segments are merged now if all were to be merged, and
-/// otherwise they stay as they are.
+/// Puts a merged segment in the place of those that were shared. If another merge has replaced these in between, all
+/// segments are merged now if all were to be merged, and otherwise they stay as they are.
 pub(crate) fn replace(
     index: &mut IndexState,
     chronicle: &Chronicle<LabelList>,
-    numbers: Arc<Vec<u64>>,
+    before: u64,
     labels: Token<Path>,
     merged: Arc<Segment>,
     scope: MergeScope,
@@ -86,16 +71,13 @@ pub(crate) fn replace(
     requires idle { labels.holds_turn ≡ false }
     requires list { SeesLabels labels }
     requires decodes { DecodeUnder labels index.old.config (arc_value merged ∷ []) }
-    requires beside { length (arc_value numbers).items ≡ length (docs_under labels (arc_value merged ∷ [])) }
-    requires brought { (history : List Entered) × StandsFor index.old history × AreBroughtBy history
-        (zip (arc_value numbers).items (docs_under labels (arc_value merged ∷ []))) }
+    requires docs { ComeAfter before (docs_under labels (arc_value merged ∷ [])) index.old.docs }
     requires read { IsStored (arc_value merged) }
-    requires live { (arc_value merged).dead ≡ [] }
     ensures stands { (history : List Entered) → StandsFor index.old history → StandsFor index.new history }
     ensures frame { frame_of index.new ≡ frame_of index.old }
-    ensures replaced { OnOk result (IsReplaced scope (arc_value numbers).items (arc_value merged) index.old index.new) }
+    ensures replaced { OnOk result (IsReplaced scope before (arc_value merged) index.old index.new) }
 {
-    if index.try_install(chronicle, numbers, labels, merged) {
+    if index.try_install(chronicle, before, labels, merged) {
         return Ok(());
     }
     match scope {

@@ -91,12 +91,8 @@ fn are_told(alloc: Global) -> Result<bool, Fail> {
     Ok(out.as_slice() == expected.as_slice())
 }
 
-/// Returns whether a replace, a merge, refusals and faults have their lines.
+/// Returns whether a merge, refusals and faults have their lines.
 pub fn are_written(alloc: Global) -> Result<bool, Fail> {
-    let changed = Reply::Changed { at: 3, deleted: 2 };
-    if !has_line(alloc, &changed, r#"{"at":3,"deleted":2,"line":4,"s":1}"#)? {
-        return Ok(false);
-    }
     if !has_line(alloc, &Reply::Merged, r#"{"line":4,"merged":true,"s":1}"#)? {
         return Ok(false);
     }

@@ -1,5 +1,5 @@
 use crate::lines::are_written;
-use facet_model::{Document, Query};
+use facet_model::Query;
 use facet_words::{Command, Order, Script, ScriptFault, Settings, read_script};
 use number_facets::Range;
 use std::alloc::Global;
@@ -8,7 +8,7 @@ use test_keys::fixed_keys;
 
 // A script with every setting.
 const SHOP: &[u8] =
-    b"{\"cmd\":\"config\",\"max_docs\":7,\"max_labels\":8,\"stripes\":9,\"cache\":10,\"auto_merge\":true,\"dims\":[{\"dim\":\"Tag\",\"multi_valued\":true}]}\n{\"s\":1,\"cmd\":\"search\",\"query\":{\"bool\":{\"must_not\":[{\"term\":\"a\"}]}},\"drill\":[[\"Tag\"]],\"sideways\":true,\"ask\":[{\"all\":3},{\"specific\":[\"Tag\",\"x\"]}]}\n{\"s\":1,\"cmd\":\"search\"}\n{\"s\":1,\"cmd\":\"ranges\",\"dim\":\"price\",\"ranges\":[{\"name\":\"low\",\"min\":0,\"max\":10},{\"name\":\"mid\",\"min\":10,\"max\":20,\"min_open\":true}]}\n{\"s\":1,\"cmd\":\"sums\",\"query\":{\"bool\":{\"must\":[{\"term\":\"a\"}]}},\"drill\":[[\"Tag\",\"x\"],[\"Tag\",\"y\"]],\"dim\":\"genre\",\"n\":9}\n{\"cmd\":\"phase\"}\n{\"s\":1,\"cmd\":\"document\",\"at\":7}\n{\"s\":1,\"cmd\":\"stats\"}\n{\"s\":1,\"cmd\":\"commit\"}\n{\"s\":1,\"cmd\":\"merge\"}\n{\"cmd\":\"phase\"}\n{\"s\":1,\"cmd\":\"delete\",\"id\":\"b1\"}\n{\"s\":1,\"cmd\":\"add\",\"id\":\"b2\",\"text\":\"a\",\"facets\":[[\"Tag\",\"x\"]]}\n{\"s\":1,\"cmd\":\"replace\",\"id\":\"b2\",\"text\":\"go\",\"facets\":[[\"Tag\",\"x\"],[\"Tag\",\"y\"]]}\n{ \"s\":1,\"cmd\":\"\\u0072eplace\",\"id\":\"b3\",\"text\":\"go\"}\n{\"s\":1,\"cmd\":\"replace\",\"id\":\"b4\"}";
+    b"{\"cmd\":\"config\",\"max_docs\":7,\"max_labels\":8,\"stripes\":9,\"cache\":10,\"auto_merge\":true,\"dims\":[{\"dim\":\"Tag\",\"multi_valued\":true}]}\n{\"s\":1,\"cmd\":\"search\",\"query\":{\"bool\":{\"must_not\":[{\"term\":\"a\"}]}},\"drill\":[[\"Tag\"]],\"sideways\":true,\"ask\":[{\"all\":3},{\"specific\":[\"Tag\",\"x\"]}]}\n{\"s\":1,\"cmd\":\"search\"}\n{\"s\":1,\"cmd\":\"ranges\",\"dim\":\"price\",\"ranges\":[{\"name\":\"low\",\"min\":0,\"max\":10},{\"name\":\"mid\",\"min\":10,\"max\":20,\"min_open\":true}]}\n{\"s\":1,\"cmd\":\"sums\",\"query\":{\"bool\":{\"must\":[{\"term\":\"a\"}]}},\"drill\":[[\"Tag\",\"x\"],[\"Tag\",\"y\"]],\"dim\":\"genre\",\"n\":9}\n{\"cmd\":\"phase\"}\n{\"s\":1,\"cmd\":\"document\",\"at\":7}\n{\"s\":1,\"cmd\":\"stats\"}\n{\"s\":1,\"cmd\":\"commit\"}\n{\"s\":1,\"cmd\":\"merge\"}";
 
 // Returns how many queries each list of a boolean query has.
 fn lists(query: &Query) -> Option<(usize, usize, usize)> {
@@ -29,17 +29,6 @@ fn with_ten(ranges: &[Range]) -> usize {
 
 // A summary of a command.
 type Summary = (Option<(usize, usize, usize)>, usize, bool, usize, u32);
-
-// A summary of a document and of the number of its command.
-fn document_summary(doc: &Document, command: u32) -> Summary {
-    (
-        None,
-        doc.facets().len(),
-        doc.id() == "b2",
-        doc.text().len(),
-        command,
-    )
-}
 
 fn summary(command: &Command) -> Summary {
     match command {
@@ -68,9 +57,6 @@ fn summary(command: &Command) -> Summary {
             0,
             *n,
         ),
-        Command::Add { doc } => document_summary(doc, 1),
-        Command::Delete { id } => (None, id.text().len(), id.text() == "b1", 0, 2),
-        Command::Replace { doc } => document_summary(doc, 3),
         Command::Document { on: _, at } => (None, 0, false, 0, *at),
         Command::Stats { on: _ } => (None, 1, false, 0, 0),
         Command::Commit => (None, 2, false, 0, 0),
@@ -109,7 +95,7 @@ fn has_settings(script: &Script) -> bool {
     flags && numbers(&script.settings) == (7, 8, 9, 10) && script.settings.auto_merge
 }
 
-// The commands of the three phases.
+// The commands of the two phases.
 const SUMMARIES: &[&[Summary]] = &[
     &[
         (Some((0, 0, 1)), 1, true, 2, 10),
@@ -122,13 +108,6 @@ const SUMMARIES: &[&[Summary]] = &[
         (None, 1, false, 0, 0),
         (None, 2, false, 0, 0),
         (None, 3, false, 0, 0),
-    ],
-    &[
-        (None, 2, true, 0, 2),
-        (None, 1, true, 1, 1),
-        (None, 2, true, 2, 3),
-        (None, 0, false, 2, 3),
-        (None, 0, false, 0, 3),
     ],
 ];
 
@@ -154,81 +133,24 @@ fn is_read(alloc: Global) -> Result<bool, Fail> {
     Ok(has_settings(&script) && has_orders(&script))
 }
 
-// Lines that have another form than their command.
-static BAD_LINES: [&str; 14] = [
-    r#"{"s":1,"cmd":"merge","n":1}"#,
-    r#"{"s":1,"cmd":"delete"}"#,
-    r#"{"s":1,"cmd":"delete","id":""}"#,
-    r#"{"s":1,"cmd":"delete","id":7}"#,
-    r#"{"s":1,"cmd":"delete","id":["b1"]}"#,
-    r#"{"s":1,"cmd":"delete","id":"b1","text":""}"#,
-    r#"{"s":1,"cmd":"delete","id":"b1","facets":[]}"#,
-    r#"{"s":1,"cmd":"delete","ids":["b1"]}"#,
-    r#"{"cmd":"delete","id":"b1"}"#,
-    r#"{"s":1,"cmd":"replace"}"#,
-    r#"{"s":1,"cmd":"replace","id":""}"#,
-    r#"{"s":1,"cmd":"replace","id":"b1","facets":["Tag"]}"#,
-    r#"{"s":1,"cmd":"replace","id":"b1","n":1}"#,
-    r#"{"s":1,"cmd":"replaced","id":"b1"}"#,
-];
-
-fn bad_lines() -> &'static [&'static str] {
-    &BAD_LINES
-}
-
-// Returns whether the second line of a script has another form than its command.
-fn is_bad(alloc: Global, line: &str) -> Result<bool, Fail> {
-    let mut text = String::from_str(alloc, "{\"cmd\":\"config\"}\n")?;
-    text.push_str(line)?;
-    match read_script(alloc, fixed_keys()?, text.as_str().as_bytes()) {
-        Err(ScriptFault::BadShape { line }) => Ok(line == 2),
+// Returns whether a merge with another key is not a command.
+fn has_no_further_key(alloc: Global) -> Result<bool, Fail> {
+    let read = read_script(
+        alloc,
+        fixed_keys()?,
+        b"{\"cmd\":\"config\"}\n{\"s\":1,\"cmd\":\"merge\"}\n{\"s\":1,\"cmd\":\"merge\",\"n\":1}\n",
+    );
+    match read {
+        Err(ScriptFault::BadShape { line }) => Ok(line == 3),
         _ => Ok(false),
     }
-}
-
-fn all_are_bad(alloc: Global) -> Result<bool, Fail> {
-    for line in bad_lines() {
-        if !is_bad(alloc, *line)? {
-            return Ok(false);
-        }
-    }
-    Ok(true)
-}
-
-// A line of this command, whose id has so many bytes.
-fn with_id_of(alloc: Global, command: &str, bytes: usize) -> Result<String, Fail> {
-    let mut line = String::from_str(alloc, "{\"s\":1,\"cmd\":\"")?;
-    line.push_str(command)?;
-    line.push_str("\",\"id\":\"")?;
-    for _ in 0..bytes {
-        line.push('x')?;
-    }
-    line.push_str("\"}")?;
-    Ok(line)
-}
-
-// Returns whether an id of this command may have 256 bytes, and no more.
-fn has_id_of_256_bytes(alloc: Global, command: &str) -> Result<bool, Fail> {
-    let longest = with_id_of(alloc, command, 256)?;
-    let longer = with_id_of(alloc, command, 257)?;
-    Ok(!is_bad(alloc, longest.as_str())? && is_bad(alloc, longer.as_str())?)
-}
-
-// Returns whether lines that have another form than their command are faults.
-fn has_faults(alloc: Global) -> Result<bool, Fail> {
-    Ok(
-        all_are_bad(alloc)?
-            && has_id_of_256_bytes(alloc, "add")?
-            && has_id_of_256_bytes(alloc, "delete")?
-            && has_id_of_256_bytes(alloc, "replace")?,
-    )
 }
 
 #[test]
 fn what_is_read_and_what_is_written(rt: HostRuntime) -> Result<(), Fail> {
     let alloc = rt.alloc();
     assert!(rt;
-        are_written(alloc)? && is_read(alloc)? && has_defaults(alloc)? && has_faults(alloc)?
+        are_written(alloc)? && is_read(alloc)? && has_defaults(alloc)? && has_no_further_key(alloc)?
     );
     Ok(())
 }

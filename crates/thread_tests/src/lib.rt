@@ -1,9 +1,6 @@
-//! Tests of threads: the lock of a chronicle, the writer of labels with its cache and its views, published pairs, and
-//! deletes.
+//! Tests of threads: the lock of a chronicle, the writer of labels with its cache and its views, and published pairs.
 #![tactic(auto)]
 
-#[cfg(test)]
-mod deletes;
 #[cfg(test)]
 mod labels;
 #[cfg(test)]

@@ -32,8 +32,7 @@ fn add<N: Name, R: Wait>(
     let Ok(entry) = bare_entry(alloc, &name, "") else {
         return None;
     };
-    let done = manager.append(rt, pass, session, entry).ok()?;
-    Some(done.at)
+    manager.append(rt, pass, session, entry).ok()
 }
 
 // Adds a document with its label and refreshes, repeatedly. Returns the pass, if each place was at or above the refresh
@@ -71,25 +70,19 @@ pub(crate) struct Reading {
     pub(crate) named: (u32, u32),
 }
 
-// Returns the number of the session's next document, after the live ones of the segment.
+// Returns the number of the session's next document, after those of the segment.
 fn next_behind(alloc: Global, segment: &Segment, session: u32, first: u32) -> Option<u32> {
     let mut next = first;
     for doc in 0..segment.docs() {
-        if segment.is_live(doc) && *segment.id(doc) == *name_of(alloc, session, next).ok()? {
+        if *segment.id(doc) == *name_of(alloc, session, next).ok()? {
             next = next.saturating_add(1);
         }
     }
     Some(next)
 }
 
-// Returns the number of the session's next document, after those from the first number on that are in the segments.
-pub(crate) fn next_of(
-    alloc: Global,
-    segments: &[Arc<Segment>],
-    session: u32,
-    first: u32,
-) -> Option<u32> {
-    let mut next = first;
+fn documents_of(alloc: Global, segments: &[Arc<Segment>], session: u32) -> Option<u32> {
+    let mut next = 0;
     for segment in segments {
         next = next_behind(alloc, segment, session, next)?;
     }
@@ -114,8 +107,8 @@ pub(crate) fn read(alloc: Global, lease: &Lease) -> Option<Reading> {
         operations: pair.operations(),
         labels: view.size(),
         documents: (
-            next_of(alloc, &segments, 1, 0)?,
-            next_of(alloc, &segments, 2, 0)?,
+            documents_of(alloc, &segments, 1)?,
+            documents_of(alloc, &segments, 2)?,
         ),
         named: (labels_of(alloc, view, 1)?, labels_of(alloc, view, 2)?),
     })

@@ -1,14 +1,13 @@
 ghost use Rattle.std.specs.Prelude.{◌≡◌, Some, Ok, IfOk, IfSome};
 ghost use Rattle.serde_json.specs.Data.{Members, object};
-ghost use Rattle.facet_words.specs.Quick.{AreMembers, HasFound, command_with};
-ghost use Rattle.facet_words.specs.CommandViews.{command_view, order_view};
+ghost use Rattle.facet_words.specs.Quick.{AreMembers, HasFound};
+ghost use Rattle.facet_words.specs.CommandViews.{order_view};
 ghost use Rattle.facet_words.specs.Scripts.{line_at, line_of};
 
 use crate::command::{Command, Order};
 use crate::parts::new_document;
-use crate::quick::found::{Brings, Found};
+use crate::quick::found::Found;
 use crate::quick::member::member_next;
-use facet_model::Document;
 use facet_names::NoMemory;
 use json::{Reader, Scratch, Token};
 use simdutf8::basic::from_utf8;
@@ -20,7 +19,7 @@ fn members_next<'a>(alloc: Global, reader: &mut Reader<'a>) -> Result<Option<Fou
 {
     let mut found = Found {
         session: None,
-        brings: None,
+        adds: false,
         id: None,
         text: None,
         facets: None,
@@ -36,15 +35,6 @@ fn members_next<'a>(alloc: Global, reader: &mut Reader<'a>) -> Result<Option<Fou
     Ok(None)
 }
 
-fn document_command(brings: Brings, doc: Document) -> Command
-    ensures { command_view result ≡ command_with brings doc }
-{
-    match brings {
-        Brings::Add => Command::Add { doc },
-        Brings::Replace => Command::Replace { doc },
-    }
-}
-
 // The order of the members in which this was found, if nothing is missing; or None, which says nothing.
 fn order_with(alloc: Global, line: u64, found: Found<'_>) -> Result<Option<Order>, NoMemory>
     ensures { IfOk result (λ o. IfSome o
@@ -52,7 +42,7 @@ fn order_with(alloc: Global, line: u64, found: Found<'_>) -> Result<Option<Order
 {
     let Found {
         session: Some(session),
-        brings: Some(brings),
+        adds: true,
         id: Some(id),
         text,
         facets,
@@ -72,15 +62,15 @@ fn order_with(alloc: Global, line: u64, found: Found<'_>) -> Result<Option<Order
     Ok(Some(Order {
         session: session as u32,
         line,
-        command: document_command(brings, doc),
+        command: Command::Add { doc },
     }))
 }
 
-/// Returns the command of a line that adds a document or replaces one, in the usual form. `None` means that the line has
-/// to be read from its JSON value.
+/// Returns the command of a line that adds a document in the usual form. `None` means that the line has to be read from
+/// its JSON value.
 ///
 /// Errors: out of memory.
-pub fn read_document_line(
+pub fn read_add(
     alloc: Global,
     scratch: &mut Scratch,
     line: u64,

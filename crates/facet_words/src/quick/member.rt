@@ -1,9 +1,9 @@
 ghost use Rattle.std.specs.Prelude.{◌≡◌, ◌<◌, Some, IfOk, IfSome, IsTrue, codes, length};
 ghost use Rattle.serde_json.specs.Data.{unsigned};
 ghost use Rattle.serde_json.specs.Read.{number_of};
-ghost use Rattle.facet_words.specs.Quick.{IsMember, name_of};
+ghost use Rattle.facet_words.specs.Quick.{IsMember};
 
-use crate::quick::found::{Brings, Found};
+use crate::quick::found::Found;
 use crate::quick::texts::{facets_next, text_next};
 use facet_names::NoMemory;
 use fast_float::Numeral;
@@ -35,27 +35,16 @@ fn session_next<'a>(reader: &mut Reader<'a>, found: &mut Found<'a>) -> bool
     true
 }
 
-// The command of this name, or None, which says nothing.
-fn brings_of(name: &str) -> Option<Brings>
-    ensures { IfSome result (λ b. name.now ≡ name_of b) }
-{
-    match name {
-        "add" => Some(Brings::Add),
-        "replace" => Some(Brings::Replace),
-        _ => None,
-    }
-}
-
 fn command_next<'a>(reader: &mut Reader<'a>, found: &mut Found<'a>) -> bool
     ensures { IsTrue result → IsMember (codes "cmd") reader.old reader.new found.old found.new }
 {
     let Some(text) = text_next(reader) else {
         return false;
     };
-    let Some(brings) = brings_of(text) else {
+    if text != "add" {
         return false;
-    };
-    found.brings = Some(brings);
+    }
+    found.adds = true;
     true
 }
 

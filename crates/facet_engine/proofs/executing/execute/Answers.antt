@@ -2,18 +2,18 @@ use Rattle.std.proofs.Common.{◌∙◌, Option, None, List, ℕ, option_map, re
 use Rattle.pair_manager.specs.declared.pass.Pass.{Pass}
 use Rattle.facet_model.specs.QueryViews.{query_view}
 use Rattle.facet_replies.specs.ReplyViews.{reply_view}
-use Rattle.facet_words.specs.Commands.{Search, Command, add, delete, replace, refresh, hold, release, search, ranges, sums, Counted, document, stats, commit, merge}
+use Rattle.facet_words.specs.Commands.{Search, Command, add, refresh, hold, release, search, ranges, sums, Counted, document, stats, commit, merge}
 use Rattle.facet_words.specs.CommandViews.{counted_view, search_view as line_view, command_view}
 use Rattle.facet_words.specs.declared.parts.CountedLine.{CountedLine}
 use Rattle.facet_words.specs.declared.parts.SearchLine.{SearchLine}
 use Rattle.facet_engine.specs.Calls.{IsCall, IsCarriedOut}
 use Rattle.facet_names.specs.Texts.{text_in}
 use Rattle.pair_search.specs.Searches.{search_view}
-use Rattle.facet_engine.specs.Replies.{add_reply, delete_reply, replace_reply, refresh_reply, hold_reply, release_reply, stats_reply, commit_reply, merge_reply}
+use Rattle.facet_engine.specs.Replies.{add_reply, refresh_reply, hold_reply, release_reply, stats_reply, commit_reply, merge_reply}
 use Rattle.pair_search.specs.Replies.{search_reply, ranges_reply, sums_reply, document_reply}
 use Rattle.facet_engine.specs.Steps.{step_of, operations_seen, last_place, refresh_place, hold_took, pair_taken}
 use Rattle.facet_engine.proofs.Carried.{carried, holds_still}
-use Rattle.facet_engine.proofs.Spent.{spends_none, add_tells, delete_tells, replace_tells, refresh_tells, hold_tells, release_tells, search_tells, ranges_tells, sums_tells, document_tells, stats_tells, merge_tells}
+use Rattle.facet_engine.proofs.Spent.{spends_none, add_tells, refresh_tells, hold_tells, release_tells, search_tells, ranges_tells, sums_tells, document_tells, stats_tells, merge_tells}
 use Rattle.facet_engine.proofs.executing.execute.Goals as goal
 
 pub returns-in-Add : goal.returns-in-Add
@@ -26,28 +26,6 @@ returns-in-Add g c =
     let reply = add_reply c.add.result in
     subst (λ (command : Command). IsCarriedOut engine old new command (reply_view c.added.result)) (sym (ap command_view c.in-Add.is))
     (carried engine old new command None None (operations_seen new.pass c.add.result) reply (reply_view c.added.result) c.added.ensures e.same (holds_still engine old new command None None (operations_seen new.pass c.add.result) reply refl e.held) e.step (spends_none old.pass new.pass reply (add_tells c.add.result)))
-
-pub returns-in-Delete : goal.returns-in-Delete
-returns-in-Delete g c =
-    let engine = c.args.system.now in
-    let old = c.args.session.now in
-    let new = c.delete.new.session in
-    let e = c.delete.ensures in
-    let command = delete c.in-Delete.id in
-    let reply = delete_reply c.delete.result in
-    subst (λ (command : Command). IsCarriedOut engine old new command (reply_view c.deleted.result)) (sym (ap command_view c.in-Delete.is))
-    (carried engine old new command None None None reply (reply_view c.deleted.result) c.deleted.ensures e.same (holds_still engine old new command None None None reply refl e.held) e.step (spends_none old.pass new.pass reply (delete_tells c.delete.result)))
-
-pub returns-in-Replace : goal.returns-in-Replace
-returns-in-Replace g c =
-    let engine = c.args.system.now in
-    let old = c.args.session.now in
-    let new = c.replace.new.session in
-    let e = c.replace.ensures in
-    let command = replace c.in-Replace.doc in
-    let reply = replace_reply c.replace.result in
-    subst (λ (command : Command). IsCarriedOut engine old new command (reply_view c.replaced.result)) (sym (ap command_view c.in-Replace.is))
-    (carried engine old new command None None (operations_seen new.pass c.replace.result) reply (reply_view c.replaced.result) c.replaced.ensures e.same (holds_still engine old new command None None (operations_seen new.pass c.replace.result) reply refl e.held) e.step (spends_none old.pass new.pass reply (replace_tells c.replace.result)))
 
 pub returns-in-Refresh : goal.returns-in-Refresh
 returns-in-Refresh g c =

@@ -1,7 +1,7 @@
-use Rattle.std.proofs.Common.{◌≡◌, take}
-use Rattle.live_parts.specs.Parts.{segments_in}
+use Rattle.std.proofs.Common.{◌≡◌, map, take}
+use Rattle.std.specs.Arc.{arc_value}
 use Rattle.index_state.specs.Merging.{live_sizes}
 use Rattle.index_state.proofs.merging.live_sizes.Given as goal
 
-abbrev pub invariant-loop-part : goal.invariant-loop-part
-invariant-loop-part l = l.sizes.items ≡ live_sizes (segments_in (take l.part-index l.parts))
+abbrev pub invariant-loop-segment : goal.invariant-loop-segment
+invariant-loop-segment l = l.sizes.items ≡ live_sizes (map arc_value (take l.segment-index l.segments))

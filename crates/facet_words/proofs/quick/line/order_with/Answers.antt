@@ -1,4 +1,4 @@
-use Rattle.std.proofs.Common.{rules, ◌≡◌, ◌≤◌, Some, length, ap, ◌∙◌, []}
+use Rattle.std.proofs.Common.{rules, ◌≡◌, ◌≤◌, Some, true, length, ap, ◌∙◌, []}
 use Rattle.std.specs.Prelude.{option_map}
 use Rattle.std.specs.Option.{unwrap_or}
 use Rattle.facet_words.specs.Quick.{IsFound}
@@ -13,10 +13,9 @@ returns c = λ ms is.
     let labels : c.unwrap_or-facets.result.items ≡ unwrap_or paths [] =
     ap (λ v. v.items) c.unwrap_or-facets.ensures ∙ part_or (λ v. v.items) c.args.found.facets c.new.result ∙ ap (unwrap_or paths) c.new.ensures.items in
     let session : c.args.found.session ≡ Some c.in-Some.session = search rules in
-    let brings : c.args.found.brings ≡ Some c.in-Some.brings = search rules in
+    let adds : c.args.found.adds ≡ true = search rules in
     let id : c.args.found.id ≡ Some c.in-Some.id = search rules in
-    let found : IsFound ms (Some c.in-Some.session) (Some c.in-Some.brings) (Some c.in-Some.id.now) given paths = rw (session, brings, id) at is in
+    let found : IsFound ms (Some c.in-Some.session) true (Some c.in-Some.id.now) given paths = rw (session, adds, id) at is in
     let short : length (unwrap_or given []) ≤ 65536 = rw text at c.if-text-gt65536.false in
     let doc : c.in_ok-doc.doc ≡ record { id = c.in-Some.id.now; text = c.unwrap_or-text.result.now; labels = c.unwrap_or-facets.result.items } = search rules in
-    let command = c.document_command.ensures in
-    rw (command, doc, text, labels) (order_read c.args.line c.in-Some.session ms c.in-Some.id.now c.in-Some.brings given paths found (search rules) (search rules) (search rules) (search rules) short)
+    rw (doc, text, labels) (order_read c.args.line c.in-Some.session ms c.in-Some.id.now given paths found (search rules) (search rules) (search rules) (search rules) short)

@@ -1,4 +1,5 @@
-use Rattle.std.proofs.Common.{◌<◌, inl, inr, ◌∷◌, [], List, length, map, sym, subst}
+use Rattle.std.proofs.Common.{◌<◌, inl, inr, ◌∷◌, [], List, length, map, sym, subst, arith}
+use Rattle.std.proofs.lemmas.List.{length-map}
 use Rattle.std.proofs.lemmas.Result.{IfOk-weaker}
 use Rattle.std.specs.Arc.{arc_value}
 use Rattle.facet_names.proofs.LabelLists.{Labels}
@@ -10,7 +11,6 @@ use Rattle.taxo_cache.specs.Seen.{labels_of}
 use Rattle.chronicle.proofs.Prefixes.{prefix_self}
 use Rattle.seg_merge.specs.Merged.{IsMergeOf}
 use Rattle.index_state.specs.Index.{docs_under}
-use Rattle.index_state.specs.Merging.{AreMerged}
 use Rattle.pair_manager.proofs.Going.{same_on, sees_on}
 use Rattle.pair_manager.proofs.Sharing.{shared_merged}
 use Rattle.pair_manager.proofs.manager.Manager.merge_scope.Goals as goal
@@ -26,8 +26,7 @@ returns-clause-more g c = sees_on c.args.token.now c.share_segments.new.token c.
 
 pub merge_segments-requires-clause-some : goal.merge_segments-requires-clause-some
 merge_segments-requires-clause-some g c =
-    subst (λ arcs. 0 < length (records_in (map arc_value arcs))) (sym c.deref-2.ensures.value)
-    (c.in_ok-segments.ensures.some (subst (λ arcs. 0 < length arcs) c.deref.ensures.value (c.are_merged.ensures.some c.if-are_merged.false)))
+    subst (λ arcs. 0 < length (records_in (map arc_value arcs))) (sym c.deref.ensures.value) (c.in_ok-segments.ensures.some (omega (arith, c.if-len-lt2.false, c.len.ensures, c.in_ok-segments.field-0.segments.ok.0)))
 
 pub merge_segments-requires-clause-decodes : goal.merge_segments-requires-clause-decodes
 merge_segments-requires-clause-decodes g c =
@@ -35,40 +34,39 @@ merge_segments-requires-clause-decodes g c =
     let shared = c.in_ok-segments.ensures.shared in
     let known = labels_of range.labels.seen in
     let docs = docs_under range.labels (map arc_value range.segments.items) in
-    (known, shared.config, docs, subst (λ arcs. Decodes known shared.config (map arc_value arcs) docs) (sym c.deref-2.ensures.value) shared.decoded)
+    (known, shared.config, docs, subst (λ arcs. Decodes known shared.config (map arc_value arcs) docs) (sym c.deref.ensures.value) shared.decoded)
 
 pub replace_segments-requires-clause-shared : goal.replace_segments-requires-clause-shared
 replace_segments-requires-clause-shared g c =
     let range = c.in_ok-segments.field-0 in
     let shared = c.in_ok-segments.ensures.shared in
-    let keeps =
-    subst (λ arcs. (known : Labels) (config : Config) (ds : List Doc) → Decodes known config (map arc_value arcs) ds → Decodes known config (arc_value c.in_ok-merged.merged ∷ []) ds) c.deref-2.ensures.value
-    c.in_ok-merged.ensures.documents in
-    shared_merged c.args.self.now.writer.labels range.labels (arc_value range.numbers).items c.share_segments.new.token (map arc_value range.segments.items) (arc_value c.in_ok-merged.merged) keeps shared
+    let keeps = subst (λ arcs. (known : Labels) (config : Config) (ds : List Doc) → Decodes known config (map arc_value arcs) ds → Decodes known config (arc_value c.in_ok-merged.merged ∷ []) ds) c.deref.ensures.value c.in_ok-merged.ensures.documents in
+    shared_merged c.args.self.now.writer.labels range.labels range.before c.share_segments.new.token (map arc_value range.segments.items) (arc_value c.in_ok-merged.merged) keeps shared
 
-pub returns-then-are_merged-clause-merged : goal.returns-then-are_merged-clause-merged
-returns-then-are_merged-clause-merged g c =
+pub returns-then-len-lt2-clause-merged : goal.returns-then-len-lt2-clause-merged
+returns-then-len-lt2-clause-merged g c =
     let range = c.in_ok-segments.field-0 in
+    let few : length (map arc_value range.segments.items) < 2 = omega (arith, c.if-len-lt2.true, c.len.ensures, range.segments.ok.0, length-map range.segments.items arc_value) in
     record {
       earlier = c.share_segments.new.token;
       sees_on = prefix_self c.share_segments.new.token.seen;
       note = range.labels;
-      numbers = (arc_value range.numbers).items;
+      before = range.before;
       segments = map arc_value range.segments.items;
       from = c.in_ok-segments.ensures.from;
-      done = inl (subst (λ arcs. AreMerged (map arc_value arcs)) c.deref.ensures.value (c.are_merged.ensures.merged c.if-are_merged.true));
+      done = inl few;
     }
 
 pub returns-clause-merged : goal.returns-clause-merged
 returns-clause-merged g c =
     let range = c.in_ok-segments.field-0 in
     let m = arc_value c.in_ok-merged.merged in
-    let merge = subst (λ arcs. IsMergeOf (map arc_value arcs) m) c.deref-2.ensures.value c.in_ok-merged.ensures.merge in
+    let merge = subst (λ arcs. IsMergeOf (map arc_value arcs) m) c.deref.ensures.value c.in_ok-merged.ensures.merge in
     IfOk-weaker c.replace_segments.result _ _ (λ _ is. record {
       earlier = c.share_segments.new.token;
       sees_on = c.replace_segments.ensures.more.0;
       note = range.labels;
-      numbers = (arc_value range.numbers).items;
+      before = range.before;
       segments = map arc_value range.segments.items;
       from = c.in_ok-segments.ensures.from;
       done = inr (m, merge, is);

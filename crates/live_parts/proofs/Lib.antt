@@ -1,9 +1,0 @@
-pub mod Beside
-pub mod Made
-mod Walking
-mod Numbered
-mod Counting
-mod Named
-mod Thinned
-mod Found
-mod Opened
